@@ -1,10 +1,11 @@
 -- Stretches of calls, one after another.
 use Rattle.std.proofs.Common.{◌≡◌, ◌⊎◌, inl, inr, ⊎_elim, ◌+◌, ◌≤◌, ℕ, List, [], ◌∷◌, ◌++◌, refl, arith, sym, ◌∙◌, ap, subst, append_assoc, length, min, Result, Ok, Err, IsErr}
 use Rattle.std.proofs.lemmas.Result.{on_ok_weaker}
-use Rattle.mcs_disk.specs.CallList.{CutShort, DiskCall, Failed, Makes, Synced, WasRead, Wrote, writes_of}
-use Rattle.mcs_disk.specs.Disk.{DiskState, IsCall, IsLater, bytes_of, images_of, images_since, most_faults, size_of, time_of}
-use Rattle.mcs_disk.specs.Calls.{bytes_after, clock_of, images_after, since_after}
-use Rattle.mcs_disk.specs.Moments.{AddsNoImage, Changes, CountsFault, Either, IsDurable, IsUntouched, LeavesOnly, ReadsOnly}
+use Rattle.mcs_disk.specs.CallList.{CutShort, Makes, writes_of}
+use Rattle.mcs_disk.specs.Disk.{CountsFault, DiskState, IsLater, bytes_of, images_of, images_since, most_faults, size_of, time_of}
+use Rattle.mcs_disk.specs.Calls.{bytes_after, clock_of, images_after, since_after, DiskCall, Failed, Synced, WasRead, Wrote}
+use Rattle.mcs_disk.specs.Moments.{AddsNoImage, Changes, Either, LeavesOnly, ReadsOnly}
+use Rattle.mcs_disk.specs.PowerCut.{IsDurable}
 use Rattle.mcs_disk.proofs.CallLaws.{Quiet, clock_of-more, lawful, quiet, quiet_bytes, quiet_durable, quiet_images, quiet_since, since_before, since_more, since_sized}
 use Rattle.mcs_disk.proofs.Calling.{reads_write_nothing, syncs_write_nothing}
 
@@ -89,19 +90,15 @@ pub makes_later : {T E : Type 0} (plan : List DiskCall) (old new : DiskState) (r
 makes_later plan old new (Ok x) same made = record { start = same; added = plan; all = made.all }
 makes_later plan old new (Err e) same made = let cut = cut_added plan old.calls new.calls made.cut in record { start = same; added = cut.0; all = cut.1 }
 
-call_counts : {T E : Type 0} (old new : DiskState) (result : Result T E) → IsCall old new result → CountsFault old new (IsErr result)
-call_counts old new (Ok x) call = record { start = call.start; honest = call.honest; fault = λ failed. absurd (cc failed); no_fault = λ none. call.no_fault }
-call_counts old new (Err e) call = record { start = call.start; honest = call.honest; fault = λ failed. call.fault; no_fault = λ none. absurd (none refl) }
-
-pub read_reads : {T E : Type 0} (old new : DiskState) (result : Result T E) → IsCall old new result → Makes (WasRead ∷ []) old.calls new.calls result → ReadsOnly old new (IsErr result)
+pub read_reads : {T E : Type 0} (old new : DiskState) (result : Result T E) → CountsFault old new (IsErr result) → Makes (WasRead ∷ []) old.calls new.calls result → ReadsOnly old new (IsErr result)
 read_reads old new result call made = record {
-  tells = call_counts old new result call;
+  tells = call;
   rests = record { later = makes_later _ old new result call.start made; unwritten = reads_write_nothing old.calls new.calls result made };
 }
 
-pub sync_reads : {T E : Type 0} (old new : DiskState) (result : Result T E) → IsCall old new result → Makes (Synced ∷ []) old.calls new.calls result → ReadsOnly old new (IsErr result)
+pub sync_reads : {T E : Type 0} (old new : DiskState) (result : Result T E) → CountsFault old new (IsErr result) → Makes (Synced ∷ []) old.calls new.calls result → ReadsOnly old new (IsErr result)
 sync_reads old new result call made = record {
-  tells = call_counts old new result call;
+  tells = call;
   rests = record { later = makes_later _ old new result call.start made; unwritten = syncs_write_nothing old.calls new.calls result made };
 }
 

@@ -1,18 +1,7 @@
 -- Lists of calls on a disk, the newest first: what was asked of it, and how many writes no sync has
 -- followed. (Our own choice.)
 use Rattle.std.specs.Prelude.{◌≡◌, ◌⊎◌, ℕ, ◌+◌, ◌≤◌, List, [], ◌∷◌, ◌++◌, Result, OnOk, OnErr}
-
--- a call on a disk, with its answer
-pub data DiskCall : Type 0 where
-  -- a read, which gave the bytes that the disk holds
-  WasRead : DiskCall
-  -- these bytes were written from this offset on
-  Wrote : ℕ → List ℕ → DiskCall
-  -- a write of these bytes from this offset on failed, or was cut off: any bytes may have come into
-  -- its range, and these last ones are what a read gives there, where it gives others than before
-  Failed : ℕ → List ℕ → List ℕ → DiskCall
-  -- all that the disk holds was made stable
-  Synced : DiskCall
+use Rattle.mcs_disk.specs.Calls.{DiskCall, WasRead, Wrote, Failed, Synced}
 
 -- how many of these calls are writes
 abbrev pub writes_of : List DiskCall → ℕ

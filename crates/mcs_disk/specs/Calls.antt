@@ -2,7 +2,18 @@
 -- the newest first. (Our own choice: a device that writes in ranges and promises nothing before a
 -- sync, as POSIX's read, write and fdatasync do of a file that was synced as it was opened.)
 use Rattle.std.specs.Prelude.{◌≡◌, ◌⊎◌, ℕ, zero, suc, ◌+◌, ◌≤◌, ◌<◌, List, [], ◌∷◌, length, take, drop, slice_index}
-pub use Rattle.mcs_disk.specs.CallList.{DiskCall, WasRead, Wrote, Failed, Synced}
+
+-- a call on a disk, with its answer
+pub data DiskCall : Type 0 where
+  -- a read, which gave the bytes that the disk holds
+  WasRead : DiskCall
+  -- these bytes were written from this offset on
+  Wrote : ℕ → List ℕ → DiskCall
+  -- a write of these bytes from this offset on failed, or was cut off: any bytes may have come into
+  -- its range, and these last ones are what a read gives there, where it gives others than before
+  Failed : ℕ → List ℕ → List ℕ → DiskCall
+  -- all that the disk holds was made stable
+  Synced : DiskCall
 
 -- n bytes from this offset on
 abbrev pub part : ℕ → ℕ → List ℕ → List ℕ

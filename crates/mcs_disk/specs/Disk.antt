@@ -1,6 +1,6 @@
 -- A disk: what it held, and the calls on it since. All else that is said of it is a function of these.
 -- (Our own choice.)
-use Rattle.std.specs.Prelude.{◌≡◌, ◌↔◌, ℕ, ◌+◌, ◌-◌, ◌^◌, min, List, ◌++◌, length, Result, OnOk, OnErr}
+use Rattle.std.specs.Prelude.{◌≡◌, ◌↔◌, ℕ, ◌+◌, ◌-◌, ◌^◌, min, List, ◌++◌, length}
 use Rattle.mcs_disk.specs.Calls.{DiskCall, bytes_after, images_after, clock_of, since_after}
 pub use Rattle.mcs_disk.specs.Calls.{part, put, Torn}
 
@@ -38,13 +38,13 @@ images_since t disk = since_after disk.start disk.calls t
 abbrev pub most_faults : ℕ
 most_faults = 2 ^ 64 - 1
 
--- what each call does on any disk: the count of faults rises by one where it fails, and nowhere
--- else
-pub record IsCall {T E : Type 0} (old new : DiskState) (result : Result T E) : Type 0 where
+-- what calls do on any disk: size and honesty stay, and the count of faults rises by one where a call
+-- failed, and nowhere else
+pub record CountsFault (old new : DiskState) (failed : Type 0) : Type 0 where
   pub start : new.start ≡ old.start
-  pub no_fault : OnOk result (new.faults ≡ old.faults)
-  pub fault : OnErr result (new.faults ≡ min (old.faults + 1) most_faults)
   pub honest : new.honest ↔ old.honest
+  pub fault : failed → new.faults ≡ min (old.faults + 1) most_faults
+  pub no_fault : ¬ failed → new.faults ≡ old.faults
 
 -- new is old, or what old became by more calls
 pub record IsLater (old new : DiskState) : Type 0 where

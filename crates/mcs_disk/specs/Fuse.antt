@@ -1,6 +1,6 @@
 -- Which calls a disk with a fuse fails.
 use Rattle.std.specs.Prelude.{◌≡◌, ◌↔◌, ℕ, ◌+◌, ◌≤◌, IsErr, IsOk, Result}
-use Rattle.mcs_disk.specs.Disk.{IsCall}
+use Rattle.mcs_disk.specs.Disk.{CountsFault}
 use Rattle.mcs_disk.specs.States.{mem_disk_state}
 use Rattle.mcs_disk.specs.declared.fuse.Fuse.{Fuse}
 use Rattle.mcs_disk.specs.declared.fuse.Fuse.TheVariants.{Whole, AllAfter, OneAfter}
@@ -28,6 +28,7 @@ pub record FuseCall {T E : Type 0} (old new : FuseDisk) (result : Result T E) : 
   pub kept_back : FailsAfter old 0 → inner_disk new ≡ inner_disk old
   -- what the disk in it answered: an error comes only where that disk counted a fault
   pub passed_on : ¬ (FailsAfter old 0)
-      → IsCall (mem_disk_state (inner_disk old)) (mem_disk_state (inner_disk new)) result
+      → CountsFault (mem_disk_state (inner_disk old)) (mem_disk_state (inner_disk new))
+      (IsErr result)
   pub answered : ¬ (FailsAfter old 0) → IsOk result
   pub later : (n : ℕ) → FailsAfter new n ↔ FailsAfter old (n + 1)

@@ -1,37 +1,13 @@
 -- Stretches of calls on a disk, from one of its states to a later one: what stays, what a power cut
 -- at any moment may leave, and what is safe after them. (Our own choice.)
-use Rattle.std.specs.Prelude.{◌≡◌, ◌⊎◌, ◌↔◌, ℕ, ◌+◌, min, List, [], Result, OnOk}
+use Rattle.std.specs.Prelude.{◌≡◌, ◌⊎◌, ℕ, ◌+◌, List, [], Result, OnOk}
 use Rattle.mcs_disk.specs.CallList.{writes_of}
-use Rattle.mcs_disk.specs.Disk.{DiskState, IsLater, bytes_of, images_since, most_faults, time_of}
-
--- all that is there is on the disk: a power cut from now on, before a next call, leaves the bytes that
--- a read gives
-abbrev pub IsDurable : DiskState → Type 0
-IsDurable disk = (c : List ℕ) → images_since (time_of disk) disk c → c ≡ bytes_of disk
-
--- size and honesty stayed, and the count of faults rose by one where a call failed, and nowhere
--- else
-pub record CountsFault (old new : DiskState) (failed : Type 0) : Type 0 where
-  pub start : new.start ≡ old.start
-  pub honest : new.honest ↔ old.honest
-  pub fault : failed → new.faults ≡ min (old.faults + 1) most_faults
-  pub no_fault : ¬ failed → new.faults ≡ old.faults
+use Rattle.mcs_disk.specs.Disk.{CountsFault, DiskState, IsLater, bytes_of, images_since, time_of}
+use Rattle.mcs_disk.specs.PowerCut.{IsDurable}
 
 -- no write was asked of the disk, honest or not
 abbrev pub WritesNothing : DiskState → DiskState → Type 0
 WritesNothing old new = writes_of new.calls ≡ writes_of old.calls
-
--- no call was added, so no byte has changed, nor what a power cut may leave (of faults and honesty
--- this is silent)
-pub record IsUntouched (old new : DiskState) : Type 0 where
-  pub start : new.start ≡ old.start
-  pub calls : new.calls ≡ old.calls
-
--- nothing that a contract sees has changed
-pub record IsSame (old new : DiskState) : Type 0 where
-  pub faults : new.faults ≡ old.faults
-  pub honest : new.honest ↔ old.honest
-  pub stays : IsUntouched old new
 
 -- an honest disk that holds these bytes, and that no call has reached
 pub record IsFresh (file : List ℕ) (disk : DiskState) : Type 0 where

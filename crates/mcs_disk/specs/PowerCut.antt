@@ -1,7 +1,11 @@
 -- What a power cut leaves. (Our own choice.)
-use Rattle.std.specs.Prelude.{ℕ}
-use Rattle.mcs_disk.specs.Disk.{DiskState, bytes_of, images_since}
-use Rattle.mcs_disk.specs.Moments.{IsDurable}
+use Rattle.std.specs.Prelude.{◌≡◌, ℕ, List}
+use Rattle.mcs_disk.specs.Disk.{DiskState, bytes_of, images_since, time_of}
+
+-- all that is there is on the disk: a power cut from now on, before a next call, leaves the bytes that
+-- a read gives
+abbrev pub IsDurable : DiskState → Type 0
+IsDurable disk = (c : List ℕ) → images_since (time_of disk) disk c → c ≡ bytes_of disk
 
 -- A power cut on old, now or at some moment since the time t, left new: an honest disk. What a read
 -- of it gives is one of the images that old had since then, and it is the only image that new has, now

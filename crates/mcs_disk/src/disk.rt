@@ -1,7 +1,8 @@
 //! A disk of a fixed size, honest or not.
-ghost use Rattle.std.specs.Prelude.{◌≡◌, ◌≤◌, ◌+◌, [], ◌∷◌, length, OnOk};
-ghost use Rattle.mcs_disk.specs.Disk.{DiskState, bytes_of, part, put, size_of, IsCall};
-ghost use Rattle.mcs_disk.specs.CallList.{WasRead, Wrote, Synced, Makes};
+ghost use Rattle.std.specs.Prelude.{◌≡◌, ◌≤◌, ◌+◌, [], ◌∷◌, length, IsErr, OnOk};
+ghost use Rattle.mcs_disk.specs.Disk.{DiskState, bytes_of, part, put, size_of, CountsFault};
+ghost use Rattle.mcs_disk.specs.CallList.{Makes};
+ghost use Rattle.mcs_disk.specs.Calls.{WasRead, Wrote, Synced};
 
 use thiserror::Error;
 
@@ -27,7 +28,7 @@ pub trait Disk {
     /// Reads the bytes from `at` on.
     fn read(&mut self, at: usize, into: &mut [u8]) -> Result<(), DiskFault>
         requires { at + length into.old ≤ size_of (state self.old) }
-        ensures call { IsCall (state self.old) (state self.new) result }
+        ensures call { CountsFault (state self.old) (state self.new) (IsErr result) }
         ensures noted { Makes (WasRead ∷ []) (state self.old).calls (state self.new).calls result }
         ensures honest { (state self.old).honest
             → OnOk result (into.new ≡ part at (length into.old) (bytes_of (state self.old))) };
@@ -36,13 +37,13 @@ pub trait Disk {
     /// range.
     fn write(&mut self, at: usize, from: &[u8]) -> Result<(), DiskFault>
         requires { at + length from.now ≤ size_of (state self.old) }
-        ensures call { IsCall (state self.old) (state self.new) result }
+        ensures call { CountsFault (state self.old) (state self.new) (IsErr result) }
         ensures noted { Makes (Wrote at from.now ∷ []) (state self.old).calls
             (state self.new).calls result };
 
     /// Makes what was written stable: after an Ok, a power cut leaves what a read gives.
     fn sync(&mut self) -> Result<(), DiskFault>
-        ensures call { IsCall (state self.old) (state self.new) result }
+        ensures call { CountsFault (state self.old) (state self.new) (IsErr result) }
         ensures noted { Makes (Synced ∷ []) (state self.old).calls (state self.new).calls result };
 }
 

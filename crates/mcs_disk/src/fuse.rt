@@ -1,8 +1,8 @@
 //! A disk in memory that fails chosen calls.
-ghost use Rattle.std.specs.Prelude.{◌≡◌, ◌≤◌, ◌+◌, ◌↔◌, ℕ, [], ◌∷◌, length, min, OnErr, OnOk, IsTrue};
-ghost use Rattle.mcs_disk.specs.Disk.{most_faults, IsCall, bytes_of, part, size_of};
-ghost use Rattle.mcs_disk.specs.Moments.{IsSame, IsUntouched};
-ghost use Rattle.mcs_disk.specs.CallList.{WasRead, Wrote, Synced, Makes};
+ghost use Rattle.std.specs.Prelude.{◌≡◌, ◌≤◌, ◌+◌, ◌↔◌, ℕ, [], ◌∷◌, length, min, IsErr, OnErr, OnOk, IsTrue};
+ghost use Rattle.mcs_disk.specs.Disk.{most_faults, CountsFault, bytes_of, part, size_of};
+ghost use Rattle.mcs_disk.specs.CallList.{Makes};
+ghost use Rattle.mcs_disk.specs.Calls.{WasRead, Wrote, Synced};
 
 use crate::{Disk, DiskFault, MemDisk};
 
@@ -61,7 +61,8 @@ impl FuseDisk {
 
     /// The first `calls` calls go through; each later one fails.
     pub fn after(disk: MemDisk, calls: usize) -> FuseDisk
-        ensures disk { IsSame (mem_disk_state disk) (fuse_disk_state result) }
+        ensures counts { CountsFault (mem_disk_state disk) (fuse_disk_state result) ⊥ }
+        ensures calls { (fuse_disk_state result).calls ≡ (mem_disk_state disk).calls }
         ensures inner { inner_disk result ≡ disk }
         ensures fails { (n : ℕ) → FailsAfter result n ↔ (calls ≤ n) }
     {
@@ -74,7 +75,8 @@ impl FuseDisk {
 
     /// The call after the first `calls` fails; all others go through.
     pub fn once(disk: MemDisk, calls: usize) -> FuseDisk
-        ensures disk { IsSame (mem_disk_state disk) (fuse_disk_state result) }
+        ensures counts { CountsFault (mem_disk_state disk) (fuse_disk_state result) ⊥ }
+        ensures calls { (fuse_disk_state result).calls ≡ (mem_disk_state disk).calls }
         ensures inner { inner_disk result ≡ disk }
         ensures fails { (n : ℕ) → FailsAfter result n ↔ (n ≡ calls) }
     {
@@ -87,7 +89,8 @@ impl FuseDisk {
 
     /// Ends the failing: every later call goes through.
     pub fn mend(&mut self)
-        ensures disk { IsSame (fuse_disk_state self.old) (fuse_disk_state self.new) }
+        ensures counts { CountsFault (fuse_disk_state self.old) (fuse_disk_state self.new) ⊥ }
+        ensures calls { (fuse_disk_state self.new).calls ≡ (fuse_disk_state self.old).calls }
         ensures inner { inner_disk self.new ≡ inner_disk self.old }
         ensures fails { (n : ℕ) → ¬ (FailsAfter self.new n) }
     {
@@ -117,14 +120,15 @@ impl Disk for FuseDisk {
 
     fn read(&mut self, at: usize, into: &mut [u8]) -> Result<(), DiskFault>
         requires { at + length into.old ≤ size_of (fuse_disk_state self.old) }
-        ensures call { IsCall (fuse_disk_state self.old) (fuse_disk_state self.new) result }
+        ensures call { CountsFault (fuse_disk_state self.old) (fuse_disk_state self.new)
+            (IsErr result) }
         ensures noted { Makes (WasRead ∷ []) (fuse_disk_state self.old).calls
             (fuse_disk_state self.new).calls result }
         ensures honest { (fuse_disk_state self.old).honest
             → OnOk result
             (into.new ≡ part at (length into.old) (bytes_of (fuse_disk_state self.old))) }
         ensures refused { OnErr result
-            (IsUntouched (fuse_disk_state self.old) (fuse_disk_state self.new)) }
+            ((fuse_disk_state self.new).calls ≡ (fuse_disk_state self.old).calls) }
         ensures fuse { FuseCall self.old self.new result }
     {
         if self.fuse.blows() {
@@ -135,11 +139,12 @@ impl Disk for FuseDisk {
 
     fn write(&mut self, at: usize, from: &[u8]) -> Result<(), DiskFault>
         requires { at + length from.now ≤ size_of (fuse_disk_state self.old) }
-        ensures call { IsCall (fuse_disk_state self.old) (fuse_disk_state self.new) result }
+        ensures call { CountsFault (fuse_disk_state self.old) (fuse_disk_state self.new)
+            (IsErr result) }
         ensures noted { Makes (Wrote at from.now ∷ []) (fuse_disk_state self.old).calls
             (fuse_disk_state self.new).calls result }
         ensures refused { OnErr result
-            (IsUntouched (fuse_disk_state self.old) (fuse_disk_state self.new)) }
+            ((fuse_disk_state self.new).calls ≡ (fuse_disk_state self.old).calls) }
         ensures fuse { FuseCall self.old self.new result }
     {
         if self.fuse.blows() {
@@ -149,11 +154,12 @@ impl Disk for FuseDisk {
     }
 
     fn sync(&mut self) -> Result<(), DiskFault>
-        ensures call { IsCall (fuse_disk_state self.old) (fuse_disk_state self.new) result }
+        ensures call { CountsFault (fuse_disk_state self.old) (fuse_disk_state self.new)
+            (IsErr result) }
         ensures noted { Makes (Synced ∷ []) (fuse_disk_state self.old).calls
             (fuse_disk_state self.new).calls result }
         ensures refused { OnErr result
-            (IsUntouched (fuse_disk_state self.old) (fuse_disk_state self.new)) }
+            ((fuse_disk_state self.new).calls ≡ (fuse_disk_state self.old).calls) }
         ensures fuse { FuseCall self.old self.new result }
     {
         if self.fuse.blows() {

@@ -1,8 +1,7 @@
 //! Laws of power cuts. The contract of each call is the law; the call does nothing.
 ghost use Rattle.std.specs.Prelude.{◌≡◌, ◌⊎◌, ◌≤◌, ℕ};
-ghost use Rattle.mcs_disk.specs.Moments.{IsDurable};
 ghost use Rattle.mcs_disk.specs.Disk.{IsLater, bytes_of, time_of};
-ghost use Rattle.mcs_disk.specs.PowerCut.{IsLeftByCut};
+ghost use Rattle.mcs_disk.specs.PowerCut.{IsLeftByCut, IsDurable};
 
 use crate::Disk;
 

@@ -1,9 +1,9 @@
 //! A disk in memory.
-ghost use Rattle.std.specs.Prelude.{◌≡◌, ◌+◌, ◌≤◌, [], ◌∷◌, length, replicate, IfOk, IsOk, OnOk};
-ghost use Rattle.mcs_disk.specs.Disk.{IsCall, bytes_of, part, size_of};
+ghost use Rattle.std.specs.Prelude.{◌≡◌, ◌+◌, ◌≤◌, [], ◌∷◌, length, replicate, IfOk, IsErr, IsOk, OnOk};
+ghost use Rattle.mcs_disk.specs.Disk.{CountsFault, bytes_of, part, size_of};
 ghost use Rattle.mcs_disk.specs.Moments.{IsFresh};
-ghost use Rattle.mcs_disk.specs.Calls.{bytes_after};
-ghost use Rattle.mcs_disk.specs.CallList.{WasRead, Wrote, Synced, Makes};
+ghost use Rattle.mcs_disk.specs.Calls.{bytes_after, WasRead, Wrote, Synced};
+ghost use Rattle.mcs_disk.specs.CallList.{Makes};
 
 use crate::call_record::{Call, CallRecord};
 use crate::{Disk, DiskFault, overwrite};
@@ -58,7 +58,8 @@ impl Disk for MemDisk {
 
     fn read(&mut self, at: usize, into: &mut [u8]) -> Result<(), DiskFault>
         requires { at + length into.old ≤ size_of (mem_disk_state self.old) }
-        ensures call { IsCall (mem_disk_state self.old) (mem_disk_state self.new) result }
+        ensures call { CountsFault (mem_disk_state self.old) (mem_disk_state self.new)
+            (IsErr result) }
         ensures noted { Makes (WasRead ∷ []) (mem_disk_state self.old).calls
             (mem_disk_state self.new).calls result }
         ensures honest { (mem_disk_state self.old).honest
@@ -73,7 +74,8 @@ impl Disk for MemDisk {
 
     fn write(&mut self, at: usize, from: &[u8]) -> Result<(), DiskFault>
         requires { at + length from.now ≤ size_of (mem_disk_state self.old) }
-        ensures call { IsCall (mem_disk_state self.old) (mem_disk_state self.new) result }
+        ensures call { CountsFault (mem_disk_state self.old) (mem_disk_state self.new)
+            (IsErr result) }
         ensures noted { Makes (Wrote at from.now ∷ []) (mem_disk_state self.old).calls
             (mem_disk_state self.new).calls result }
         ensures answered { IsOk result }
@@ -84,7 +86,8 @@ impl Disk for MemDisk {
     }
 
     fn sync(&mut self) -> Result<(), DiskFault>
-        ensures call { IsCall (mem_disk_state self.old) (mem_disk_state self.new) result }
+        ensures call { CountsFault (mem_disk_state self.old) (mem_disk_state self.new)
+            (IsErr result) }
         ensures noted { Makes (Synced ∷ []) (mem_disk_state self.old).calls
             (mem_disk_state self.new).calls result }
         ensures answered { IsOk result }

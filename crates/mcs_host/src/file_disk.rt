@@ -1,7 +1,8 @@
 //! A session file of the system, as a disk.
-ghost use Rattle.std.specs.Prelude.{◌≡◌, ◌<◌, ◌≤◌, ◌+◌, ℕ, List, [], ◌∷◌, IfOk, OnOk, IsTrue, is_ok, length};
-ghost use Rattle.mcs_disk.specs.Disk.{part, IsCall, Torn, bytes_of, size_of, images_of};
-ghost use Rattle.mcs_disk.specs.CallList.{WasRead, Wrote, Synced, Makes};
+ghost use Rattle.std.specs.Prelude.{◌≡◌, ◌<◌, ◌≤◌, ◌+◌, ℕ, List, [], ◌∷◌, IfOk, IsErr, OnOk, IsTrue, is_ok, length};
+ghost use Rattle.mcs_disk.specs.Disk.{part, CountsFault, Torn, bytes_of, size_of, images_of};
+ghost use Rattle.mcs_disk.specs.CallList.{Makes};
+ghost use Rattle.mcs_disk.specs.Calls.{WasRead, Wrote, Synced};
 
 use crate::file_fault::FileFault;
 use crate::host_disk::HostDisk;
@@ -70,7 +71,7 @@ impl Disk for FileDisk {
 
     fn read(&mut self, at: usize, into: &mut [u8]) -> Result<(), DiskFault>
         requires { at + length into.old ≤ size_of (as_disk self.old) }
-        ensures call { IsCall (as_disk self.old) (as_disk self.new) result }
+        ensures call { CountsFault (as_disk self.old) (as_disk self.new) (IsErr result) }
         ensures noted { Makes (WasRead ∷ []) (as_disk self.old).calls (as_disk self.new).calls
             result }
         ensures honest { (as_disk self.old).honest → OnOk result
@@ -86,7 +87,7 @@ impl Disk for FileDisk {
 
     fn write(&mut self, at: usize, from: &[u8]) -> Result<(), DiskFault>
         requires { at + length from.now ≤ size_of (as_disk self.old) }
-        ensures call { IsCall (as_disk self.old) (as_disk self.new) result }
+        ensures call { CountsFault (as_disk self.old) (as_disk self.new) (IsErr result) }
         ensures noted { Makes (Wrote at from.now ∷ []) (as_disk self.old).calls
             (as_disk self.new).calls result }
         // Also where the write failed: it may have reached any part of the range.
@@ -99,7 +100,7 @@ impl Disk for FileDisk {
     }
 
     fn sync(&mut self) -> Result<(), DiskFault>
-        ensures call { IsCall (as_disk self.old) (as_disk self.new) result }
+        ensures call { CountsFault (as_disk self.old) (as_disk self.new) (IsErr result) }
         ensures noted { Makes (Synced ∷ []) (as_disk self.old).calls (as_disk self.new).calls
             result }
         ensures asked { as_host_file self.new

@@ -1,8 +1,8 @@
 //! An open file of the host, as a disk.
-ghost use Rattle.std.specs.Prelude.{◌≡◌, ◌↔◌, ◌<◌, ◌≤◌, ◌^◌, ◌+◌, ℕ, List, [], ◌∷◌, IfOk, OnOk, IsTrue, is_ok, length, min, vec_len};
-ghost use Rattle.mcs_disk.specs.Disk.{most_faults, part, IsCall, Torn, bytes_of, size_of, images_of};
-ghost use Rattle.mcs_disk.specs.CallList.{WasRead, Wrote, Synced, Makes};
-ghost use Rattle.mcs_disk.specs.Calls.{bytes_after};
+ghost use Rattle.std.specs.Prelude.{◌≡◌, ◌↔◌, ◌<◌, ◌≤◌, ◌+◌, ℕ, List, [], ◌∷◌, IfOk, IsErr, OnOk, IsTrue, is_ok, length, min, vec_len};
+ghost use Rattle.mcs_disk.specs.Disk.{most_faults, part, CountsFault, Torn, bytes_of, size_of, images_of};
+ghost use Rattle.mcs_disk.specs.CallList.{Makes};
+ghost use Rattle.mcs_disk.specs.Calls.{bytes_after, WasRead, Wrote, Synced};
 ghost use Rattle.mcs_host.specs.FileDisk.{IsApart};
 ghost use Rattle.mcs_host.specs.Opening.{AreZeros};
 
@@ -115,7 +115,7 @@ impl<H: HostFile> Disk for HostDisk<H> {
 
     fn read(&mut self, at: usize, into: &mut [u8]) -> Result<(), DiskFault>
         requires { at + length into.old ≤ size_of (host_disk self.old) }
-        ensures call { IsCall (host_disk self.old) (host_disk self.new) result }
+        ensures call { CountsFault (host_disk self.old) (host_disk self.new) (IsErr result) }
         ensures noted { Makes (WasRead ∷ []) (host_disk self.old).calls (host_disk self.new).calls
             result }
         ensures honest { (host_disk self.old).honest → OnOk result
@@ -136,7 +136,7 @@ impl<H: HostFile> Disk for HostDisk<H> {
 
     fn write(&mut self, at: usize, from: &[u8]) -> Result<(), DiskFault>
         requires { at + length from.now ≤ size_of (host_disk self.old) }
-        ensures call { IsCall (host_disk self.old) (host_disk self.new) result }
+        ensures call { CountsFault (host_disk self.old) (host_disk self.new) (IsErr result) }
         ensures noted { Makes (Wrote at from.now ∷ []) (host_disk self.old).calls
             (host_disk self.new).calls result }
         // Also where the write failed: it may have reached any part of the range.
@@ -156,7 +156,7 @@ impl<H: HostFile> Disk for HostDisk<H> {
 
     // The size of the file never changes here, so its data are all that has to be synced.
     fn sync(&mut self) -> Result<(), DiskFault>
-        ensures call { IsCall (host_disk self.old) (host_disk self.new) result }
+        ensures call { CountsFault (host_disk self.old) (host_disk self.new) (IsErr result) }
         ensures noted { Makes (Synced ∷ []) (host_disk self.old).calls (host_disk self.new).calls
             result }
         ensures asked { H.HostFile.state self.new.file

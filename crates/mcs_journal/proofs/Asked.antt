@@ -1,7 +1,8 @@
 -- Reads, one after another, and what was asked for where one failed.
 use Rattle.std.proofs.Common.{◌≡◌, ◌+◌, List, [], ◌∷◌, ◌++◌, ℕ, sym, ◌∙◌, ap, append_assoc, Result, Ok, Err, OnErr, ⊎_elim}
 use Rattle.std.proofs.lemmas.List.{replicate-append-replicate}
-use Rattle.mcs_disk.specs.CallList.{DiskCall, Makes, WasRead}
+use Rattle.mcs_disk.specs.CallList.{Makes}
+use Rattle.mcs_disk.specs.Calls.{DiskCall, WasRead}
 use Rattle.mcs_journal.specs.Calls.{OnlyRead, many_reads}
 
 pub on_err : {T E P : Type 0} (result : Result T E) → P → OnErr result P

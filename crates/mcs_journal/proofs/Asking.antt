@@ -1,6 +1,7 @@
 -- What the calls of a store ask of its disk, by what their parts ask.
 use Rattle.std.proofs.Common.{◌≡◌, ◌⊎◌, inl, inr, ⊎_elim, ◌+◌, ◌*◌, List, [], ◌∷◌, ◌++◌, ℕ, append_assoc, sym, ◌∙◌, ap, subst, arith, refl, Result, Ok, Err, IsErrOf}
-use Rattle.mcs_disk.specs.CallList.{CutShort, DiskCall, Makes, OneUnsynced, Synced, WasRead, unsynced}
+use Rattle.mcs_disk.specs.CallList.{CutShort, Makes, OneUnsynced, unsynced}
+use Rattle.mcs_disk.specs.Calls.{DiskCall, Synced, WasRead}
 use Rattle.mcs_disk.proofs.Calling.{one_by_one, one_of_made, one_of_reads, one_then, unsynced-reads, none_added}
 use Rattle.mcs_journal.specs.Calls.{MakesWithArea, RefusedCreateCalls, RefusedOpenCalls, append_calls, create_calls, many_reads, open_calls, replace_calls}
 use Rattle.mcs_journal.specs.declared.slot.Slot.{Slot}

@@ -1,7 +1,7 @@
 -- A write and a sync, by the calls that were made.
-use Rattle.std.proofs.Common.{◌≡◌, ◌⊎◌, inl, inr, ⊎_elim, ◌+◌, ◌≤◌, List, [], ◌∷◌, ℕ, length, refl, sym, subst, arith, Result, Ok, Err}
-use Rattle.mcs_disk.specs.CallList.{CutShort, DiskCall, Makes, Failed, Synced, Wrote}
-use Rattle.mcs_disk.specs.Calls.{Torn, bytes_after, clock_of, images_after, put, since_after}
+use Rattle.std.proofs.Common.{◌≡◌, ◌⊎◌, inl, inr, ◌+◌, ◌≤◌, List, [], ◌∷◌, ℕ, length, refl, sym, subst, arith, Result, Ok, Err}
+use Rattle.mcs_disk.specs.CallList.{CutShort, Makes}
+use Rattle.mcs_disk.specs.Calls.{Torn, bytes_after, clock_of, images_after, put, since_after, DiskCall, Failed, Synced, Wrote}
 use Rattle.mcs_disk.specs.Disk.{DiskState, size_of}
 use Rattle.mcs_disk.proofs.CallLaws.{current, length-bytes_after, put_torn, put_torn_less, untorn}
 use Rattle.mcs_disk.proofs.Kept.{part_put}

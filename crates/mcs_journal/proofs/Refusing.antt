@@ -1,7 +1,7 @@
 -- What `create` and `open` answer follows from what their parts answered.
 use Rattle.std.proofs.Common.{◌≡◌, ◌≢◌, inr, ⊎_elim, refl, ◌∙◌, ap, Result, Ok, Err, IsErrOf}
-use Rattle.mcs_disk.specs.Disk.{DiskState, IsCall, part, bytes_of, size_of}
-use Rattle.mcs_disk.specs.Moments.{CountsFault, AddsNoImage}
+use Rattle.mcs_disk.specs.Disk.{CountsFault, DiskState, part, bytes_of, size_of}
+use Rattle.mcs_disk.specs.Moments.{AddsNoImage}
 use Rattle.mcs_disk.proofs.Composing.{counts_as}
 use Rattle.mcs_journal.specs.StoreCalls.{RefusesCreate, RefusesOpen, HoldsNone}
 use Rattle.mcs_journal.specs.File.{IsBlank}
@@ -16,12 +16,6 @@ counts_ok old new result device x is counts = counts_as old new (IsErrOf result 
 
 pub counts_err : {T E : Type 0} (old new : DiskState) (result : Result T E) (device fault : E) → result ≡ Err fault → CountsFault old new (IsErrOf result device) → CountsFault old new (fault ≡ device)
 counts_err old new result device fault is counts = counts_as old new (IsErrOf result device) (fault ≡ device) (λ failed. cc) (λ same. is ∙ ap Err same) counts
-
-pub call_counts_ok : {T E : Type 0} (old new : DiskState) (x : T) → IsCall {T = T} {E = E} old new (Ok x) → CountsFault old new ⊥
-call_counts_ok old new x call = record { start = call.start; honest = call.honest; fault = λ none. absurd none; no_fault = λ none. call.no_fault }
-
-pub call_counts_err : {T E : Type 0} (old new : DiskState) (e : E) (failed : Type 0) → failed → IsCall {T = T} {E = E} old new (Err e) → CountsFault old new failed
-call_counts_err old new e failed here call = record { start = call.start; honest = call.honest; fault = λ it. call.fault; no_fault = λ none. absurd (none here) }
 
 pub refuses_create : (fault : CreateFault) (old new : DiskState) → AddsNoImage old new → (fault ≡ create_fault.NotBlank → IsBlank (size_of old) (bytes_of old) → ⊥) → RefusesCreate fault old new
 refuses_create create_fault.NotBlank old new rests not_blank = (not_blank refl, rests)

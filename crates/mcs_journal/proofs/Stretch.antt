@@ -3,7 +3,8 @@ use Rattle.std.proofs.Common.{◌≡◌, inl, ⊎_elim, ◌+◌, ℕ, List, leng
 use Rattle.std.proofs.lemmas.Result.{on_ok_weaker}
 use Rattle.mcs_disk.specs.Disk.{DiskState, Torn, part, bytes_of, time_of}
 use Rattle.mcs_disk.proofs.CallLaws.{untorn}
-use Rattle.mcs_disk.specs.Moments.{LeavesOnly, Changes, Either, IsDurable}
+use Rattle.mcs_disk.specs.Moments.{LeavesOnly, Changes, Either}
+use Rattle.mcs_disk.specs.PowerCut.{IsDurable}
 use Rattle.mcs_disk.proofs.Composing.{leaves_then, durable_now}
 use Rattle.mcs_journal.specs.Writing.{Commits}
 

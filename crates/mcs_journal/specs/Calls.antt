@@ -1,7 +1,8 @@
 -- Which calls each call of a store makes on its disk. Lists of calls have the newest first. (Our own
 -- choice.)
 use Rattle.std.specs.Prelude.{◌≡◌, ◌⊎◌, ◌+◌, ◌*◌, ℕ, List, [], ◌∷◌, ◌++◌, length, replicate, Result}
-use Rattle.mcs_disk.specs.CallList.{DiskCall, Makes, Synced, WasRead, Wrote}
+use Rattle.mcs_disk.specs.CallList.{Makes}
+use Rattle.mcs_disk.specs.Calls.{DiskCall, Synced, WasRead, Wrote}
 use Rattle.mcs_journal.specs.File.{be16, start_of}
 use Rattle.mcs_journal.specs.Writing.{IsArea, selector_of}
 use Rattle.mcs_journal.specs.declared.fault.CreateFault.{CreateFault}

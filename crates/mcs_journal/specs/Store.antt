@@ -2,7 +2,7 @@
 use Rattle.std.specs.Prelude.{◌≡◌, ℕ, ◌+◌, ◌≤◌, Bool, List, length, IsTrue}
 use Rattle.mcs_disk.specs.CallList.{unsynced}
 use Rattle.mcs_disk.specs.Disk.{DiskState, bytes_of, size_of}
-use Rattle.mcs_disk.specs.Moments.{IsDurable}
+use Rattle.mcs_disk.specs.PowerCut.{IsDurable}
 use Rattle.mcs_journal.specs.File.{Holds, slot_of, frames_of}
 use Rattle.mcs_journal.specs.declared.format.TheConstants.{FILE_SIZE, LOG_SIZE, BUFFER_SIZE}
 use Rattle.mcs_journal.specs.declared.slot.Slot.{Slot}

@@ -1,17 +1,13 @@
 -- What `create` and `open` answer, by what the disk holds. (Our own choice.)
-use Rattle.std.specs.Prelude.{◌≡◌, ◌≢◌, ◌⊎◌, ◌+◌, ℕ, List, []}
-use Rattle.mcs_disk.specs.Disk.{DiskState, part, bytes_of, size_of, time_of, IsLater}
-use Rattle.mcs_disk.specs.Moments.{IsDurable, AddsNoImage}
-use Rattle.mcs_journal.specs.File.{Holds, IsBlank}
-use Rattle.mcs_journal.specs.declared.format.TheConstants.{FILE_SIZE, NAME}
+use Rattle.std.specs.Prelude.{◌≡◌, ◌+◌, ℕ, List, []}
+use Rattle.mcs_disk.specs.Disk.{DiskState, bytes_of, size_of, time_of, IsLater}
+use Rattle.mcs_disk.specs.Moments.{AddsNoImage}
+use Rattle.mcs_disk.specs.PowerCut.{IsDurable}
+use Rattle.mcs_journal.specs.File.{Holds, IsBlank, IsNoSession}
 use Rattle.mcs_journal.specs.declared.fault.OpenFault.{OpenFault}
 use Rattle.mcs_journal.specs.declared.fault.OpenFault.TheVariants as open_fault
 use Rattle.mcs_journal.specs.declared.fault.CreateFault.{CreateFault}
 use Rattle.mcs_journal.specs.declared.fault.CreateFault.TheVariants as create_fault
-
--- not a session file: its size or its name is another
-abbrev pub IsNoSession : DiskState → Type 0
-IsNoSession disk = (size_of disk ≢ FILE_SIZE) ⊎ (part 0 8 (bytes_of disk) ≢ NAME)
 
 -- the disk holds no contents: no snapshot with its records
 abbrev pub HoldsNone : DiskState → Type 0

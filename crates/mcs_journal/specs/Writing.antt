@@ -1,7 +1,7 @@
 -- The parts of a file that the steps of reading and writing speak of.
 use Rattle.std.specs.Prelude.{◌≡◌, ℕ, ◌+◌, ◌≤◌, List, ◌⊎◌, length, slice_index, Result, OnOk}
 use Rattle.mcs_disk.specs.Disk.{DiskState, IsLater, part, Torn, bytes_of, time_of, images_of, images_since}
-use Rattle.mcs_disk.specs.Moments.{IsDurable}
+use Rattle.mcs_disk.specs.PowerCut.{IsDurable}
 use Rattle.mcs_journal.specs.File.{IsRecord, frame_of, frames_of, slot_at, be32, slot_of}
 use Rattle.mcs_journal.specs.declared.format.TheConstants.{AREA_SIZE, LOG_SIZE, MOST_SNAPSHOT, NAME, BUFFER_SIZE, ZEROS}
 use Rattle.mcs_journal.specs.declared.slot.Slot.{Slot}

@@ -1,10 +1,12 @@
 //! Reads the contents of a disk: its snapshot and records. Nothing here writes.
 ghost use Rattle.std.specs.Prelude.{◌≡◌, ◌≢◌, ◌≤◌, ◌<◌, ◌+◌, ◌*◌, ◌^◌, List, [], ◌∷◌, ◌++◌, ℕ, length, slice_index, IfOk, IfSome, IfNone, OnOk, OnErr, IsErr, IsErrOf};
 ghost use Rattle.mcs_disk.specs.Disk.{part, bytes_of, size_of, time_of};
-ghost use Rattle.mcs_disk.specs.Moments.{IsDurable, ReadsOnly};
+ghost use Rattle.mcs_disk.specs.Moments.{ReadsOnly};
+ghost use Rattle.mcs_disk.specs.PowerCut.{IsDurable};
 ghost use Rattle.mcs_journal.specs.declared.format.TheConstants.{FILE_SIZE};
-ghost use Rattle.mcs_journal.specs.File.{Holds, IsLog, slot_of, frames_of, start_of};
-ghost use Rattle.mcs_disk.specs.CallList.{WasRead, Makes};
+ghost use Rattle.mcs_journal.specs.File.{Holds, IsLog, slot_of, frames_of};
+ghost use Rattle.mcs_disk.specs.CallList.{Makes};
+ghost use Rattle.mcs_disk.specs.Calls.{WasRead};
 ghost use Rattle.mcs_journal.specs.Calls.{OnlyRead, RefusedOpenCalls, many_reads, open_calls};
 ghost use Rattle.mcs_journal.specs.Writing.{IsHeader, IsNext, IsNoRecord, IsSnapshot};
 

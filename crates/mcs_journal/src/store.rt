@@ -1,9 +1,10 @@
 //! A store: a snapshot and records on a disk.
 ghost use Rattle.std.specs.Prelude.{◌≡◌, ◌≢◌, ◌⊎◌, ◌≤◌, ◌+◌, ◌↔◌, List, [], ◌∷◌, ◌++◌, ℕ, length, is_ok, IsTrue, IsErr, IsErrAnd, OnOk, OnErr, IfErr, IfOk};
-ghost use Rattle.mcs_disk.specs.Disk.{bytes_of, size_of};
-ghost use Rattle.mcs_disk.specs.Moments.{Changes, CountsFault, AddsNoImage, WritesNothing};
+ghost use Rattle.mcs_disk.specs.Disk.{bytes_of, size_of, CountsFault};
+ghost use Rattle.mcs_disk.specs.Moments.{Changes, AddsNoImage, WritesNothing};
 ghost use Rattle.mcs_journal.specs.StoreCalls.{Creates, Opens, RefusesCreate, RefusesOpen};
-ghost use Rattle.mcs_disk.specs.CallList.{WasRead, Makes, OneUnsynced, unsynced};
+ghost use Rattle.mcs_disk.specs.CallList.{Makes, OneUnsynced, unsynced};
+ghost use Rattle.mcs_disk.specs.Calls.{WasRead};
 ghost use Rattle.mcs_journal.specs.declared.format.TheConstants.{AREA_SIZE, MOST_RECORD, MOST_SNAPSHOT};
 ghost use Rattle.mcs_journal.specs.File.{HasRoom, Holds, IsRecord, frames_of, slot_of, start_of};
 ghost use Rattle.mcs_journal.specs.Calls.{MakesWithArea, RefusedCreateCalls, RefusedOpenCalls, append_calls, create_calls, open_calls, replace_calls};

@@ -1,12 +1,14 @@
 //! The writes of a store. Each change is two steps: bytes that nothing reads yet, and the byte that
 //! makes them count. Each step is a write and a sync, so that the second byte never reaches the
 //! disk before the bytes that it speaks of.
-ghost use Rattle.std.specs.Prelude.{◌≡◌, ◌⊎◌, ◌≤◌, ◌+◌, List, [], ◌∷◌, ◌++◌, ℕ, length, take, slice_index, OnOk, IsErrOf};
-ghost use Rattle.mcs_disk.specs.Disk.{IsCall, bytes_of, size_of, time_of, IsLater};
-ghost use Rattle.mcs_disk.specs.Moments.{Changes, IsDurable, ReadsOnly};
+ghost use Rattle.std.specs.Prelude.{◌≡◌, ◌⊎◌, ◌≤◌, ◌+◌, List, [], ◌∷◌, ◌++◌, ℕ, length, take, slice_index, OnOk, IsErr, IsErrOf};
+ghost use Rattle.mcs_disk.specs.Disk.{CountsFault, bytes_of, size_of, time_of, IsLater};
+ghost use Rattle.mcs_disk.specs.Moments.{Changes, ReadsOnly};
+ghost use Rattle.mcs_disk.specs.PowerCut.{IsDurable};
 ghost use Rattle.mcs_journal.specs.declared.format.TheConstants.{FILE_SIZE, MOST_RECORD, MOST_SNAPSHOT, BUFFER_SIZE};
 ghost use Rattle.mcs_journal.specs.File.{Holds, IsBlank, IsRecord, be16, slot_of};
-ghost use Rattle.mcs_disk.specs.CallList.{WasRead, Makes};
+ghost use Rattle.mcs_disk.specs.CallList.{Makes};
+ghost use Rattle.mcs_disk.specs.Calls.{WasRead};
 ghost use Rattle.mcs_journal.specs.Calls.{MakesWithArea, append_calls, commit_calls, create_calls, replace_calls};
 ghost use Rattle.mcs_journal.specs.Writing.{Commits, IsArea, IsCommitPlace, other_slot};
 
@@ -22,7 +24,7 @@ use mcs_disk::{Disk, DiskFault};
 /// Writes, and syncs.
 pub fn commit<D: Disk>(disk: &mut D, at: usize, from: &[u8]) -> Result<(), DiskFault>
     requires { at + length from.now ≤ size_of (D.state disk.old) }
-    ensures call { IsCall (D.state disk.old) (D.state disk.new) result }
+    ensures call { CountsFault (D.state disk.old) (D.state disk.new) (IsErr result) }
     ensures calls { Makes (commit_calls at from.now) (D.state disk.old).calls
         (D.state disk.new).calls result }
     ensures commits { (D.state disk.old).honest
@@ -57,7 +59,7 @@ pub fn add_record<D: Disk>(
     requires small { size_of (D.state disk.old) ≡ FILE_SIZE }
     requires room { length payload.now + 3 ≤ length buffer.old }
     requires good { IsRecord payload.now }
-    ensures call { IsCall (D.state disk.old) (D.state disk.new) result }
+    ensures call { CountsFault (D.state disk.old) (D.state disk.new) (IsErr result) }
     ensures calls { Makes (append_calls commit_at payload.now) (D.state disk.old).calls
         (D.state disk.new).calls result }
     ensures selector { (D.state disk.old).honest → 16 ≤ commit_at
@@ -99,7 +101,7 @@ pub fn replace_contents<D: Disk>(
     requires size { size_of (D.state disk.old) ≡ FILE_SIZE }
     requires room { length buffer.old ≡ BUFFER_SIZE }
     requires short { length snap.now ≤ MOST_SNAPSHOT }
-    ensures call { IsCall (D.state disk.old) (D.state disk.new) result }
+    ensures call { CountsFault (D.state disk.old) (D.state disk.new) (IsErr result) }
     ensures calls { MakesWithArea snap.now (replace_calls other) (D.state disk.old).calls
         (D.state disk.new).calls result }
     ensures named { (D.state disk.old).honest
@@ -146,7 +148,7 @@ pub fn write_first<D: Disk>(disk: &mut D, buffer: &mut [u8], snap: &[u8]) -> Res
     requires size { size_of (D.state disk.old) ≡ FILE_SIZE }
     requires room { length buffer.old ≡ BUFFER_SIZE }
     requires short { length snap.now ≤ MOST_SNAPSHOT }
-    ensures call { IsCall (D.state disk.old) (D.state disk.new) result }
+    ensures call { CountsFault (D.state disk.old) (D.state disk.new) (IsErr result) }
     ensures calls { MakesWithArea snap.now create_calls (D.state disk.old).calls
         (D.state disk.new).calls result }
     ensures room { length buffer.new ≡ BUFFER_SIZE }

@@ -9,7 +9,7 @@ use Rattle.mcs_disk.specs.States.{mem_disk_state}
 use Rattle.mcs_disk.specs.declared.memory.MemDisk.{MemDisk}
 use Rattle.mcs_page.specs.declared.fault.ServeFault.{ServeFault}
 use Rattle.mcs_page.specs.declared.fault.ServeFault.TheVariants.{Refused, NoRoom}
-use Rattle.mcs_session.specs.SessionCalls.{RefusesSession}
+use Rattle.mcs_session.specs.Opening.{RefusesSession}
 use Rattle.mcs_session.specs.SessionState.{SessionView}
 use Rattle.mcs_session.specs.StandsFor.{HoldsState, StandsByEither, StandsFor}
 use Rattle.mcs_shell.specs.Program.{OpenBegins}

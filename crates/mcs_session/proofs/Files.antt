@@ -2,16 +2,16 @@
 use Rattle.std.proofs.Common.{◌≡◌, inl, inr, ⊎_elim, Bool, true, false, None, ap, List, [], ◌∷◌, ℕ, sym, ◌∙◌, subst, refl, arith}
 use Rattle.mcs_disk.proofs.CallLaws.{lawful, size_of-bytes}
 use Rattle.mcs_disk.specs.Disk.{DiskState, bytes_of, time_of, images_since}
-use Rattle.mcs_disk.specs.Moments.{IsDurable, AddsNoImage, WritesNothing}
-use Rattle.mcs_journal.specs.StoreCalls.{Creates, IsNoSession, Opens, RefusesOpen}
-use Rattle.mcs_journal.specs.File.{Holds}
+use Rattle.mcs_disk.specs.Moments.{AddsNoImage, Either, LeavesOnly}
+use Rattle.mcs_disk.specs.PowerCut.{IsDurable}
+use Rattle.mcs_journal.specs.StoreCalls.{Creates, Opens, RefusesOpen}
+use Rattle.mcs_journal.specs.File.{Holds, IsNoSession}
 use Rattle.mcs_journal.specs.declared.fault.OpenFault.{OpenFault}
 use Rattle.mcs_journal.specs.declared.fault.OpenFault.TheVariants.{NotASession, Damaged, Device, NoMemory}
 use Rattle.mcs_journal.proofs.Unique.{same_snap, same_records}
 use Rattle.mcs_model.specs.BenchState.{BenchState, new_bench_state}
 use Rattle.mcs_codec.specs.Codec.{SpellsState, SpellsState1}
 use Rattle.mcs_codec.proofs.StateCodec.{same_state}
-use Rattle.mcs_disk.specs.Moments.{Either, LeavesOnly}
 use Rattle.mcs_disk.proofs.Composing.{leaves_map, leaves_then, rests_bytes, rests_since}
 use Rattle.mcs_model.specs.declared.command.Command.{Command}
 use Rattle.mcs_model.specs.Command.{refusal, after}
@@ -23,8 +23,9 @@ use Rattle.mcs_version1.specs.Lift.{lift}
 use Rattle.mcs_version1.proofs.Lifting.{command-lifts}
 use Rattle.mcs_session.specs.Version1.{ReplaysCommands1, RecordsStandFor1, StandsForLifted}
 use Rattle.mcs_session.specs.StandsFor.{ReplaysCommands, RecordsStandFor, StandsFor, StandsByEither, DiskStandsSince, HoldsState, DiskStandsFor, DiskStandsForLifted}
-use Rattle.mcs_session.specs.SessionCalls.{CreatesSession, FailsMigrating, RefusalLeaves, MayMigrate, OpensSession, RefusesSession}
-use Rattle.mcs_session.specs.LogUse.{UsesLog, empty_log}
+use Rattle.mcs_session.specs.SessionCalls.{CreatesSession, FailsMigrating, MayMigrate, MigratesSession, RefusalLeaves}
+use Rattle.mcs_session.specs.Opening.{OpensSession, RefusesSession}
+use Rattle.mcs_session.specs.Log.{LogHolds}
 use Rattle.mcs_session.specs.Invariant.{IsRecorded, IsReplayed, MayReplaceContents, ReplacedContents}
 use Rattle.mcs_session.proofs.Records.{same_pair_state}
 
@@ -52,9 +53,9 @@ unfolding stands_new stand_new
 recorded_new disk snap s spells held durable = record { durable = durable; stands = stands_new (bytes_of disk) snap s spells held; count = refl }
 
 -- its log is empty
-pub empty_uses : (file : List ℕ) (s : BenchState) → HoldsState file s → UsesLog file empty_log
+pub empty_held : (file : List ℕ) (s : BenchState) → HoldsState file s → LogHolds file []
 unfolding stands_new stand_new
-empty_uses file s held = record { state = s; stands = stands_new file held.snap s held.spells held.holds; bytes = refl; cycles = refl }
+empty_held file s held = record { state = s; stands = stands_new file held.snap s held.spells held.holds; commands = refl }
 
 pub created : (old new : DiskState) (snap : List ℕ) (s : BenchState) → SpellsState snap s → s ≡ new_bench_state → Creates old new snap → CreatesSession old new
 created old new snap s spells is made =
@@ -78,14 +79,17 @@ rests_may old new s rests = record {
 }
 
 -- a file of the last version
-pub opened_session : (old new : DiskState) (snap : List ℕ) (records : List (List ℕ)) (cycles : ℕ) (s : BenchState) → WritesNothing old new → Opens old new snap records → IsReplayed false snap records cycles s → OpensSession old new s
-opened_session old new snap records cycles s unwritten opened replayed = record {
+pub opened_session : (old new : DiskState) (snap : List ℕ) (records : List (List ℕ)) (cycles : ℕ) (s : BenchState) → Opens old new snap records → IsReplayed false snap records cycles s → OpensSession old new s
+opened_session old new snap records cycles s opened replayed = record {
   stands = inl (stands_by snap records s replayed.stand (bytes_of old) opened.holds);
+  at = at_of new s opened.durable (stands_by snap records s replayed.stand (bytes_of new) (held_on old new snap records opened));
+}
+
+pub rested_session : (old new : DiskState) (snap : List ℕ) (records : List (List ℕ)) (cycles : ℕ) (s : BenchState) → Opens old new snap records → IsReplayed false snap records cycles s → MigratesSession old new s
+rested_session old new snap records cycles s opened replayed = record {
   moments = rests_may old new s opened.rests;
   rests = λ _. opened.rests;
-  unwritten = λ _. unwritten;
   migrated = λ version_1. absurd (not_both snap replayed.stand.start version_1.stand.start replayed.stand.snapshot (subst (λ (x : List ℕ). SpellsState1 x version_1.stand.start) (same_snap _ _ _ _ _ version_1.holds opened.holds) version_1.stand.snapshot));
-  at = at_of new s opened.durable (stands_by snap records s replayed.stand (bytes_of new) (held_on old new snap records opened));
 }
 
 -- ---- version 1
@@ -149,15 +153,20 @@ migrates old mid new snap records s opened stand moments =
     (λ c. ⊎_elim (λ there. inr (inr (by_first c snap records s there stand))) (λ here. inr (inl (holds_state c s here)))) moments)
 
 -- a file of version 1, whose lifted state is the only thing on the disk
-pub migrated_session : (old mid new : DiskState) (snap : List ℕ) (records : List (List ℕ)) (cycles : ℕ) (s : BenchState) → Opens old mid snap records → IsReplayed true snap records cycles s
-    → LeavesOnly mid new (Either (λ c. Holds c snap records) (λ c. HoldsState c s)) → HoldsState (bytes_of new) s → IsDurable new → OpensSession old new s
-migrated_session old mid new snap records cycles s opened replayed moments held durable = record {
+lifted_session : (old mid new : DiskState) (snap : List ℕ) (records : List (List ℕ)) (cycles : ℕ) (s : BenchState) → Opens old mid snap records → IsReplayed true snap records cycles s
+    → HoldsState (bytes_of new) s → IsDurable new → OpensSession old new s
+lifted_session old mid new snap records cycles s opened replayed held durable = record {
   stands = inr (by_first (bytes_of old) snap records s opened.holds replayed.stand);
+  at = at_of new s durable (holds_state (bytes_of new) s held);
+}
+
+-- and what was done to it
+pub migrated_session : (old mid new : DiskState) (snap : List ℕ) (records : List (List ℕ)) (cycles : ℕ) (s : BenchState) → Opens old mid snap records → IsReplayed true snap records cycles s
+    → LeavesOnly mid new (Either (λ c. Holds c snap records) (λ c. HoldsState c s)) → HoldsState (bytes_of new) s → MigratesSession old new s
+migrated_session old mid new snap records cycles s opened replayed moments held = record {
   moments = migrates old mid new snap records s opened replayed.stand moments;
   rests = λ last. absurd (of_last last);
-  unwritten = λ last. absurd (of_last last);
   migrated = λ _. held;
-  at = at_of new s durable (holds_state (bytes_of new) s held);
 }
   where
     of_last : StandsFor (bytes_of old) s → ⊥
@@ -220,11 +229,17 @@ left_store Device old new h = inl h
 left_store NoMemory old new h = h
 
 -- what `begin` did with a log that was opened
-pub opened_by : (v : Bool) (old mid new : DiskState) (snap : List ℕ) (records : List (List ℕ)) (cycles : ℕ) (s : BenchState) → WritesNothing old mid → Opens old mid snap records → IsReplayed v snap records cycles s
+pub opened_by : (v : Bool) (old mid new : DiskState) (snap : List ℕ) (records : List (List ℕ)) (cycles : ℕ) (s : BenchState) → Opens old mid snap records → IsReplayed v snap records cycles s
     → (v ≡ false → OpensSession old mid s → OpensSession old new s) → (v ≡ true → ReplacedContents mid new snap records s) → OpensSession old new s
-opened_by false old mid new snap records cycles s unwritten opened replayed same replaced = same refl (opened_session old mid snap records cycles s unwritten opened replayed)
-opened_by true old mid new snap records cycles s unwritten opened replayed same replaced =
-    let now = replaced refl in migrated_session old mid new snap records cycles s opened replayed now.moments now.held now.durable
+opened_by false old mid new snap records cycles s opened replayed same replaced = same refl (opened_session old mid snap records cycles s opened replayed)
+opened_by true old mid new snap records cycles s opened replayed same replaced =
+    let now = replaced refl in lifted_session old mid new snap records cycles s opened replayed now.held now.durable
+
+pub migrated_by : (v : Bool) (old mid new : DiskState) (snap : List ℕ) (records : List (List ℕ)) (cycles : ℕ) (s : BenchState) → Opens old mid snap records → IsReplayed v snap records cycles s
+    → (v ≡ false → MigratesSession old mid s → MigratesSession old new s) → (v ≡ true → ReplacedContents mid new snap records s) → MigratesSession old new s
+migrated_by false old mid new snap records cycles s opened replayed same replaced = same refl (rested_session old mid snap records cycles s opened replayed)
+migrated_by true old mid new snap records cycles s opened replayed same replaced =
+    let now = replaced refl in migrated_session old mid new snap records cycles s opened replayed now.moments now.held
 
 pub failed_by : (v : Bool) (old mid new : DiskState) (snap : List ℕ) (records : List (List ℕ)) (cycles : ℕ) (s : BenchState) → v ≡ true → Opens old mid snap records → IsReplayed v snap records cycles s
     → MayReplaceContents mid new snap records s → FailsMigrating old new
@@ -252,12 +267,12 @@ one_either file s t (inr a) (inr b) = one_first file s t a b
 pub stays_first : (old new : DiskState) (s u : BenchState) → MayMigrate old new u → u ≡ s → DiskStandsForLifted old s → DiskStandsSince (time_of old) new s
 stays_first old new s u moments same each image left = ⊎_elim (λ before. inr (each image before)) (λ now. subst (λ (x : BenchState). StandsByEither image x) same now) (moments.each image left)
 
-pub opens_first : (old new : DiskState) (s u : BenchState) → DiskStandsForLifted old s → OpensSession old new u
+pub opens_first : (old new : DiskState) (s u : BenchState) → DiskStandsForLifted old s → OpensSession old new u → MigratesSession old new u
     → (u ≡ s) × (HoldsState (bytes_of new) s × DiskStandsSince (time_of old) new s)
-opens_first old new s u each opens =
+opens_first old new s u each opens does =
     let here : StandsForLifted (bytes_of old) s = each (bytes_of old) ((lawful old).counts_now (time_of old) (bytes_of old) (lawful old).current) in
     let same : u ≡ s = one_either (bytes_of old) u s opens.stands (inr here) in
-    (same, (subst (HoldsState (bytes_of new)) same (opens.migrated (subst (StandsForLifted (bytes_of old)) (sym same) here)), stays_first old new s u opens.moments same each))
+    (same, (subst (HoldsState (bytes_of new)) same (does.migrated (subst (StandsForLifted (bytes_of old)) (sym same) here)), stays_first old new s u does.moments same each))
 
 fails_first : (old new : DiskState) (s : BenchState) → DiskStandsForLifted old s → FailsMigrating old new → DiskStandsSince (time_of old) new s
 fails_first old new s each fails =

@@ -1,11 +1,10 @@
 -- What a power cut leaves of two runs, one after the other.
-use Rattle.std.proofs.Common.{◌≡◌, inl, inr, ◌≤◌, ⊎_elim, ℕ, IsTrue, List, [], ◌∷◌, ◌++◌, sym, ap, ◌∙◌, refl, subst, arith}
+use Rattle.std.proofs.Common.{◌≡◌, inl, inr, ◌≤◌, ⊎_elim, ℕ, Bool, IsTrue, List, [], ◌∷◌, ◌++◌, sym, ap, ◌∙◌, refl, subst, arith}
 use Rattle.std.proofs.lemmas.Bool.{cases_lt}
 use Rattle.mcs_disk.proofs.CallLaws.{lawful}
-use Rattle.mcs_disk.specs.Disk.{DiskState, IsLater, bytes_of, time_of, images_since}
+use Rattle.mcs_disk.specs.Disk.{CountsFault, DiskState, IsLater, bytes_of, time_of, images_since}
 use Rattle.mcs_disk.specs.Calls.{DiskCall, bytes_after, clock_of, since_after}
-use Rattle.mcs_disk.specs.Moments.{IsUntouched}
-use Rattle.mcs_disk.proofs.Composing.{later_then, later_time, later_before}
+use Rattle.mcs_disk.proofs.Composing.{counts_then, later_then, later_time, later_before}
 use Rattle.mcs_model.specs.declared.command.Command.{Command}
 use Rattle.mcs_model.specs.BenchState.{BenchState}
 use Rattle.mcs_model.specs.Command.{after}
@@ -13,11 +12,11 @@ use Rattle.mcs_model.specs.Fold.{fold}
 use Rattle.mcs_session.specs.StandsFor.{StandsFor, DiskStandsFor}
 use Rattle.mcs_session.specs.Acknowledgements.{Acknowledgements, acknowledged_by, last_moment, moments_of}
 use Rattle.mcs_session.specs.CommandCalls.{AcknowledgesCommand, LeavesEitherState}
-use Rattle.mcs_session.specs.SessionState.{SessionState, SessionBench}
-use Rattle.mcs_session.specs.LogUse.{LogUse, UsesLog, use_after_all}
-use Rattle.mcs_session.specs.KeptCommands.{RecordsCommands, IsIntact, IsIntactAt, KeepsCommands, KeepsAllCommands, StandsForPrefix}
-use Rattle.mcs_session.proofs.Folds.{standing_after-further}
-use Rattle.mcs_session.proofs.Using.{counted, log_in, rising, same_use, stands_uses, timed_more, use_append}
+use Rattle.mcs_session.specs.SessionState.{SessionState}
+use Rattle.mcs_session.specs.Log.{LogHolds, log_after_all}
+use Rattle.mcs_session.specs.KeptCommands.{RecordsCommands, IsIntact, KeepsCommands, KeepsAllCommands, StandsForPrefix}
+use Rattle.mcs_session.proofs.Folds.{fold-append}
+use Rattle.mcs_session.proofs.Using.{counted, log_append, log_in, rising, same_held, stands_held, timed_more}
 use Rattle.mcs_session.proofs.Prefixes.{acknowledged-append, acknowledged_all, acknowledged_before, acknowledged_few, acknowledged_none, last_append, prefix_all, prefix_more, prefix_none, prefix_one, prefix_past, rising_le}
 
 -- ---- two runs
@@ -26,13 +25,13 @@ use Rattle.mcs_session.proofs.Prefixes.{acknowledged-append, acknowledged_all, a
 abbrev both : (d e f : DiskState) (s : BenchState) (cs ds : List Command) → KeepsAllCommands d e s cs → Acknowledgements e f ds → Acknowledgements d f (cs ++ ds)
 both d e f s cs ds a b =
     let first = a.kept.acknowledged in
-    let later : b.log ≡ use_after_all first.log cs = same_use (bytes_of e) b.log (use_after_all first.log cs) b.uses a.used in
+    let later : b.log ≡ log_after_all first.log cs = same_held (bytes_of e) b.log (log_after_all first.log cs) b.held a.holds in
     let whole : last_moment (time_of d) (first.moments ++ b.moments) ≡ last_moment (time_of e) b.moments = last_append (time_of d) first.moments b.moments ∙ ap (λ (c : ℕ). last_moment c b.moments) (sym a.now) in
     record {
       log = first.log;
-      uses = first.uses;
+      held = first.held;
       moments = first.moments ++ b.moments;
-      timed = timed_more (time_of d) (time_of e) first.log cs ds first.moments b.moments first.timed a.now (b.timed ∙ ap (λ (log : LogUse). moments_of (time_of e) log ds) later);
+      timed = timed_more (time_of d) (time_of e) first.log cs ds first.moments b.moments first.timed a.now (b.timed ∙ ap (λ (log : List Command). moments_of (time_of e) log ds) later);
       within = omega (arith, whole, b.within);
     }
 
@@ -68,85 +67,74 @@ unfolding kept_more
 whole_more d e f s t cs ds a same b =
     let first = a.kept.acknowledged in
     let then = b.kept.acknowledged in
-    let later : then.log ≡ use_after_all first.log cs = same_use (bytes_of e) then.log (use_after_all first.log cs) then.uses a.used in
+    let later : then.log ≡ log_after_all first.log cs = same_held (bytes_of e) then.log (log_after_all first.log cs) then.held a.holds in
     record {
       kept = kept_more d e f s t cs ds ds a same b.kept;
       now = b.now ∙ ap (λ (c : ℕ). last_moment c then.moments) a.now ∙ sym (last_append (time_of d) first.moments then.moments);
-      used = subst (UsesLog (bytes_of f)) (ap (λ (log : LogUse). use_after_all log ds) later ∙ sym (use_append first.log cs ds)) b.used;
+      holds = subst (LogHolds (bytes_of f)) (ap (λ (log : List Command). log_after_all log ds) later ∙ sym (log_append first.log cs ds)) b.holds;
     }
 
 -- after a run in which no call failed
-pub settled_after : (d e : DiskState) (s t : BenchState) (cs : List Command) → t ≡ fold s cs → KeepsAllCommands d e s cs → IsIntactAt e t
-settled_after d e s t cs same a = record {
-  at = λ image now.
-      let ms = a.kept.acknowledged.moments in
-      let rises = rising d e cs a.kept.acknowledged in
-      let behind = rising_le (time_of d) ms rises in
-      let last = a.now in
-      let all = acknowledged_all (time_of e) (time_of d) ms (omega (arith, last)) rises in
-      let count = counted d e cs a.kept.acknowledged in
-      rw same (prefix_all s cs (acknowledged_by (time_of e) ms) image (omega (arith, all, count)) (a.kept.each (time_of e) image (omega (arith, behind, last)) now));
-}
-
-pub settle : (d : DiskState) (s : BenchState) → DiskStandsFor d s → IsIntactAt d s
-settle d s at = record { at = at }
+pub settled_after : (d e : DiskState) (s t : BenchState) (cs : List Command) → t ≡ fold s cs → KeepsAllCommands d e s cs → DiskStandsFor e t
+settled_after d e s t cs same a image now =
+    let ms = a.kept.acknowledged.moments in
+    let rises = rising d e cs a.kept.acknowledged in
+    let behind = rising_le (time_of d) ms rises in
+    let last = a.now in
+    let all = acknowledged_all (time_of e) (time_of d) ms (omega (arith, last)) rises in
+    let count = counted d e cs a.kept.acknowledged in
+    rw same (prefix_all s cs (acknowledged_by (time_of e) ms) image (omega (arith, all, count)) (a.kept.each (time_of e) image (omega (arith, behind, last)) now))
 
 -- ---- no command
 
-goes_nowhere : (d e : DiskState) → IsUntouched d e → IsLater d e
-goes_nowhere d e a = record { start = a.start; added = []; all = a.calls }
-
-pub stays : (d : DiskState) → IsUntouched d d
-stays d = record { start = refl; calls = refl }
-
-stays_more : (d e f : DiskState) → IsUntouched d e → IsUntouched e f → IsUntouched d f
-stays_more d e f x y = record {
-  calls = y.calls ∙ x.calls;
-  start = y.start ∙ x.start;
-}
+goes_nowhere : (d e : DiskState) → e.start ≡ d.start → e.calls ≡ d.calls → IsLater d e
+goes_nowhere d e start calls = record { start = start; added = []; all = calls }
 
 -- what a read gives is left by a power cut, too
-pub stands_now : (d : DiskState) (s : BenchState) → IsIntactAt d s → StandsFor (bytes_of d) s
-stands_now d s h = h.at (bytes_of d) ((lawful d).counts_now (time_of d) (bytes_of d) (lawful d).current)
+pub stands_now : (d : DiskState) (s : BenchState) → DiskStandsFor d s → StandsFor (bytes_of d) s
+stands_now d s h = h (bytes_of d) ((lawful d).counts_now (time_of d) (bytes_of d) (lawful d).current)
 
 -- nothing was acknowledged
 none_acknowledged : (d e : DiskState) (s : BenchState) → StandsFor (bytes_of d) s → time_of d ≤ time_of e → Acknowledgements d e []
 none_acknowledged d e s stands le = record {
   log = log_in (bytes_of d) s stands;
-  uses = stands_uses (bytes_of d) s stands;
+  held = stands_held (bytes_of d) s stands;
   moments = [];
   timed = refl;
   within = le;
 }
 
-pub stays_keeps : (d e : DiskState) (s : BenchState) → IsUntouched d e → IsIntactAt d s → KeepsAllCommands d e s []
+pub stays_keeps : (d e : DiskState) (s : BenchState) → e.start ≡ d.start → e.calls ≡ d.calls → DiskStandsFor d s → KeepsAllCommands d e s []
 unfolding none_acknowledged
-stays_keeps d e s a h =
+stays_keeps d e s start calls h =
     let stands = stands_now d s h in
     record {
       kept = record {
-        acknowledged = none_acknowledged d e s stands (later_time d e (goes_nowhere d e a));
-        each = λ u image le now. prefix_none s [] image (h.at image ((lawful d).longer (time_of d) u image le (subst (λ (x : List DiskCall). since_after d.start x u image) a.calls (subst (λ (x : List ℕ). since_after x e.calls u image) a.start now))));
-        stretch = goes_nowhere d e a;
+        acknowledged = none_acknowledged d e s stands (later_time d e (goes_nowhere d e start calls));
+        each = λ u image le now. prefix_none s [] image (h image ((lawful d).longer (time_of d) u image le (subst (λ (x : List DiskCall). since_after d.start x u image) calls (subst (λ (x : List ℕ). since_after x e.calls u image) start now))));
+        stretch = goes_nowhere d e start calls;
       };
-      now = ap clock_of a.calls;
-      used = subst (λ (file : List ℕ). UsesLog file (log_in (bytes_of d) s stands)) (sym (λ k. bytes_after (a.start k) (a.calls k))) (stands_uses (bytes_of d) s stands);
+      now = ap clock_of calls;
+      holds = subst (λ (file : List ℕ). LogHolds file (log_in (bytes_of d) s stands)) (sym (λ k. bytes_after (start k) (calls k))) (stands_held (bytes_of d) s stands);
     }
 
-pub whole_nothing : (d : DiskState) (s : BenchState) → IsIntactAt d s → KeepsAllCommands d d s []
-whole_nothing d s h = stays_keeps d d s (stays d) h
+pub whole_nothing : (d : DiskState) (s : BenchState) → DiskStandsFor d s → KeepsAllCommands d d s []
+whole_nothing d s h = stays_keeps d d s refl refl h
 
 -- ---- sessions
 
 -- the premise of the next stretch
 pub settled_on : (a b : SessionState) (cs : List Command) → RecordsCommands IsIntact a b cs → IsIntact a → IsIntact b
 settled_on a b cs x given = record {
-  honest = (subst (λ (m : SessionBench). IsTrue m.live) (sym x.bench) given.honest.0, x.honest.1 given.honest.1);
-  intact = settled_after a.disk b.disk a.bench.state b.bench.state cs (ap (λ (m : SessionBench). m.state) x.bench) (x.kept given);
+  honest = (subst (λ (live : Bool). IsTrue live) (sym x.live) given.honest.0, x.counts.honest.1 given.honest.1);
+  intact = settled_after a.disk b.disk a.state b.state cs x.state (x.kept given);
 }
 
+counts_nothing : (disk : DiskState) → CountsFault disk disk ⊥
+counts_nothing disk = record { start = refl; honest = (λ h. h, λ h. h); fault = λ none. absurd none; no_fault = λ none. refl }
+
 pub carries_nothing : (a : SessionState) → RecordsCommands IsIntact a a []
-carries_nothing a = record { bench = refl; same_faults = refl; size = refl; honest = (λ h. h, λ h. h); untouched = λ none. stays a.disk; kept = λ given. whole_nothing a.disk a.bench.state given.intact }
+carries_nothing a = record { live = refl; state = refl; counts = counts_nothing a.disk; untouched = λ none. refl; kept = λ given. whole_nothing a.disk a.state given.intact }
 
 none_of : (cs ds : List Command) → cs ++ ds ≡ [] → (cs ≡ []) × (ds ≡ [])
 none_of [] ds none = (refl, none)
@@ -154,12 +142,11 @@ none_of (c ∷ cs) ds none = absurd (cc none)
 
 pub carries_more : (a b c : SessionState) (cs ds : List Command) → RecordsCommands IsIntact a b cs → RecordsCommands IsIntact b c ds → RecordsCommands IsIntact a c (cs ++ ds)
 carries_more a b c cs ds x y = record {
-  bench = y.bench ∙ standing_after-further a.bench b.bench cs ds x.bench;
-  same_faults = y.same_faults ∙ x.same_faults;
-  size = y.size ∙ x.size;
-  honest = (λ h. x.honest.0 (y.honest.0 h), λ h. y.honest.1 (x.honest.1 h));
-  untouched = λ none. let both = none_of cs ds none in stays_more a.disk b.disk c.disk (x.untouched both.0) (y.untouched both.1);
-  kept = λ given. whole_more a.disk b.disk c.disk a.bench.state b.bench.state cs ds (x.kept given) (ap (λ (m : SessionBench). m.state) x.bench) (y.kept (settled_on a b cs x given));
+  live = y.live ∙ x.live;
+  state = y.state ∙ ap (λ (s : BenchState). fold s ds) x.state ∙ sym (fold-append a.state cs ds);
+  counts = counts_then a.disk b.disk c.disk ⊥ ⊥ (λ none. none) x.counts y.counts;
+  untouched = λ none. let both = none_of cs ds none in y.untouched both.1 ∙ x.untouched both.0;
+  kept = λ given. whole_more a.disk b.disk c.disk a.state b.state cs ds (x.kept given) x.state (y.kept (settled_on a b cs x given));
 }
 
 -- ---- one command
@@ -169,7 +156,7 @@ acknowledged_keeps d e s c a = record {
   kept = record {
     acknowledged = record {
       log = a.log;
-      uses = a.uses;
+      held = a.held;
       moments = time_of e ∷ [];
       timed = ap (λ (m : ℕ). m ∷ []) a.ticks;
       within = omega arith;
@@ -186,10 +173,10 @@ acknowledged_keeps d e s c a = record {
     stretch = a.moments.later;
   };
   now = refl;
-  used = a.used;
+  holds = a.holds;
 }
 
-pub failed_keeps : (d e : DiskState) (s : BenchState) (c : Command) → IsIntactAt d s → LeavesEitherState d e s (after s c) → KeepsCommands d e s [] (c ∷ [])
+pub failed_keeps : (d e : DiskState) (s : BenchState) (c : Command) → DiskStandsFor d s → LeavesEitherState d e s (after s c) → KeepsCommands d e s [] (c ∷ [])
 unfolding none_acknowledged
 failed_keeps d e s c h a = record {
   acknowledged = none_acknowledged d e s (stands_now d s h) (later_time d e a.later);

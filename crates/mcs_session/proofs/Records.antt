@@ -123,7 +123,7 @@ too_long v snap records r i cycles s t c e a spells over b =
     let none : ⊥ = omega (arith, least, count, bounded, over) in none
 
 -- one more record
-pub pair_more : (v : Bool) (snap r : List ℕ) (records : List (List ℕ)) (s : BenchState) (c : Command) (p : RecordsStandFor v snap records s) → SpellsBy v r c → refusal s c ≡ None
+unfoldable pub pair_more : (v : Bool) (snap r : List ℕ) (records : List (List ℕ)) (s : BenchState) (c : Command) (p : RecordsStandFor v snap records s) → SpellsBy v r c → refusal s c ≡ None
     → log_cycles p.commands + replay_cycles c ≤ REPLAY_CYCLES → RecordsStandFor v snap (records ++ r ∷ []) (after s c)
 pair_more v snap r records s c p spells accepted room = record {
   start = p.start;

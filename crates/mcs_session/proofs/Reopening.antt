@@ -8,7 +8,7 @@ use Rattle.mcs_journal.specs.declared.fault.OpenFault.TheVariants.{NotASession, 
 use Rattle.mcs_model.specs.declared.command.Command.{Command}
 use Rattle.mcs_model.specs.BenchState.{BenchState}
 use Rattle.mcs_model.specs.Fold.{fold}
-use Rattle.mcs_session.specs.SessionCalls.{OpensSession, RefusesSession}
+use Rattle.mcs_session.specs.Opening.{OpensSession, RefusesSession}
 use Rattle.mcs_session.specs.Acknowledgements.{acknowledged_by}
 use Rattle.mcs_session.specs.KeptCommands.{IsAfterPrefix, KeepsCommands, StandsForPrefix}
 use Rattle.mcs_session.specs.StandsFor.{StandsFor}

@@ -2,7 +2,8 @@
 use Rattle.std.proofs.Common.{◌≡◌, ◌+◌, ◌≤◌, inl, inr, ⊎_elim, IsTrue, Result, Ok, Err, OnOk, is_ok, List, [], ◌∷◌, ◌++◌, ℕ, Bool, true, false, if◌then◌else◌, None, sym, ap, ◌∙◌, subst, refl, arith, length}
 use Rattle.std.proofs.lemmas.Grind.{common_steps}
 use Rattle.mcs_disk.specs.Disk.{DiskState, bytes_of, time_of}
-use Rattle.mcs_disk.specs.Moments.{Changes, Either, IsDurable, LeavesOnly}
+use Rattle.mcs_disk.specs.Moments.{Changes, Either, LeavesOnly}
+use Rattle.mcs_disk.specs.PowerCut.{IsDurable}
 use Rattle.mcs_disk.proofs.Composing.{leaves_map, leaves_then, no_later}
 use Rattle.mcs_journal.specs.File.{HasRoom, Holds, frames_of}
 use Rattle.mcs_model.specs.declared.command.Command.{Command}
@@ -15,11 +16,11 @@ use Rattle.mcs_codec.specs.Codec.{Spells}
 use Rattle.mcs_codec.specs.CommandBytes.{command_bytes}
 use Rattle.mcs_session.specs.Invariant.{HasMadeRoom, IsRecorded, IsReplayed}
 use Rattle.mcs_session.specs.Cycles.{replay_cycles}
-use Rattle.mcs_session.specs.LogUse.{UsesLog, empty_log, has_room_for}
+use Rattle.mcs_session.specs.Log.{LogHolds, has_room_for}
 use Rattle.mcs_session.specs.StandsFor.{HoldsState, StandsFor}
-use Rattle.mcs_session.proofs.Files.{at_of, empty_uses, recorded_new, stands_by, stands_new}
+use Rattle.mcs_session.proofs.Files.{at_of, empty_held, recorded_new, stands_by, stands_new}
 use Rattle.mcs_session.proofs.Records.{pair_more, replayed_more}
-use Rattle.mcs_session.proofs.Using.{has_no_room, has_room, log_on, record_uses, recorded_uses}
+use Rattle.mcs_session.proofs.Using.{has_no_room, has_room, log_in, record_held, recorded_bytes, stands_held}
 
 -- ---- cycles
 
@@ -51,15 +52,17 @@ leaves_same disk cycles s was = record {
 pub room_there : (disk : DiskState) (used bytes more cycles : ℕ) (s : BenchState) (c : Command) (was : IsRecorded disk cycles s) → used ≡ length (frames_of was.stands.records)
     → HasRoom used bytes → cycles + more ≤ REPLAY_CYCLES → bytes ≡ length (command_bytes c) → more ≡ replay_cycles c → HasMadeRoom disk disk c cycles s
 room_there disk used bytes more cycles s c was is room few is_long is_more =
-    let log = log_on disk cycles s was in
-    let uses = recorded_uses disk cycles s was in
-    let yes : has_room_for log c ≡ true = has_room log c (omega (arith, is, room, is_long), omega (arith, few, is_more)) in
-    let P : Bool → Type 0 = λ b. UsesLog (bytes_of disk) (if b then log else empty_log) in
+    let log = log_in (bytes_of disk) s was.stands in
+    let held = stands_held (bytes_of disk) s was.stands in
+    let framed = recorded_bytes disk cycles s was in
+    let count = was.count in
+    let yes : has_room_for log c ≡ true = has_room log c (omega (arith, is, framed, room, is_long), omega (arith, few, count, is_more)) in
+    let P : Bool → Type 0 = λ b. LogHolds (bytes_of disk) (if b then log else []) in
     record {
       log = log;
-      uses = uses;
+      held = held;
       ticks = ap (λ (b : Bool). time_of disk + (if b then 4 else 8)) (sym yes);
-      used = subst P (sym yes) uses;
+      holds = subst P (sym yes) held;
       recorded = was;
     }
 
@@ -77,15 +80,17 @@ pub room_made : {T E : Type 0} (result : Result T E) (old new : DiskState) (used
     → (HasRoom used bytes → cycles + more ≤ REPLAY_CYCLES → ⊥) → Changes 4 old new (λ f. Holds f was.stands.snap was.stands.records) (λ f. HoldsState f s) result
     → OnOk result ((used' ≡ 0) × (cycles' ≡ 0)) → bytes ≡ length (command_bytes c) → more ≡ replay_cycles c → OnOk result (HasMadeRoom old new c cycles' s)
 room_made (Ok x) old new used used' bytes more cycles cycles' s c was is none changes empty is_long is_more =
-    let log = log_on old cycles s was in
-    let no : has_room_for log c ≡ false = has_no_room log c (λ room. let fits = room.0 in let few = room.1 in none (omega (arith, fits, is, is_long)) (omega (arith, few, is_more))) in
-    let P : Bool → Type 0 = λ b. UsesLog (bytes_of new) (if b then log else empty_log) in
+    let log = log_in (bytes_of old) s was.stands in
+    let framed = recorded_bytes old cycles s was in
+    let count = was.count in
+    let no : has_room_for log c ≡ false = has_no_room log c (λ room. let fits = room.0 in let few = room.1 in none (omega (arith, fits, is, framed, is_long)) (omega (arith, few, count, is_more))) in
+    let P : Bool → Type 0 = λ b. LogHolds (bytes_of new) (if b then log else []) in
     let four = changes.ticks in
     record {
       log = log;
-      uses = recorded_uses old cycles s was;
+      held = stands_held (bytes_of old) s was.stands;
       ticks = let eight : time_of new + 4 ≡ time_of old + 8 = omega (arith, four) in eight ∙ ap (λ (b : Bool). time_of old + (if b then 4 else 8)) (sym no);
-      used = subst P (sym no) (empty_uses (bytes_of new) s changes.after);
+      holds = subst P (sym no) (empty_held (bytes_of new) s changes.after);
       recorded = recorded_there (Ok x) old new used' cycles cycles' s was refl changes empty;
     }
 room_made (Err e) old new used used' bytes more cycles cycles' s c was is none changes empty is_long is_more = tt
@@ -139,8 +144,8 @@ pub acknowledged : (old mid new : DiskState) (cycles cycles' : ℕ) (s : BenchSt
 acknowledged old mid new cycles cycles' s c r moments made tick was spells accepted few held = record {
   moments = moments;
   log = made.log;
-  uses = made.uses;
+  held = made.held;
   ticks = tick ∙ made.ticks;
-  used = record_uses mid new cycles s c r made.recorded spells accepted few held (if has_room_for made.log c then made.log else empty_log) made.used;
+  holds = record_held mid new cycles s c r made.recorded spells accepted few held (if has_room_for made.log c then made.log else []) made.holds;
   now = at_of new (after s c) was.durable was.stands;
 }

@@ -2,25 +2,25 @@
 use Rattle.std.specs.Prelude.{◌≡◌, ◌+◌, ◌≤◌, ℕ, List, [], ◌∷◌, count_by, nat_le}
 use Rattle.mcs_disk.specs.Disk.{DiskState, bytes_of, time_of}
 use Rattle.mcs_model.specs.declared.command.Command.{Command}
-use Rattle.mcs_session.specs.LogUse.{LogUse, UsesLog, steps_of, use_after}
+use Rattle.mcs_session.specs.Log.{LogHolds, log_after, steps_of}
 
 -- the moments at which these commands, recorded in turn from that clock and that log on, are
 -- acknowledged: each four steps after the one before, or eight where its record had no room
-abbrev pub moments_of : ℕ → LogUse → List Command → List ℕ
+abbrev pub moments_of : ℕ → List Command → List Command → List ℕ
 moments_of clock log [] = []
 moments_of clock log (c ∷ cs) =
-    (clock + steps_of log c) ∷ moments_of (clock + steps_of log c) (use_after log c) cs
+    (clock + steps_of log c) ∷ moments_of (clock + steps_of log c) (log_after log c) cs
 
 -- the last of the moments, or the clock where there is none
 abbrev pub last_moment : ℕ → List ℕ → ℕ
 last_moment clock [] = clock
 last_moment clock (m ∷ ms) = last_moment m ms
 
--- Between these two states of a disk the commands were acknowledged, each at its moment: the log as
--- it was in use at the start determines them all.
+-- Between these two states of a disk the commands were acknowledged, each at its moment: what the log
+-- held at the start determines them all.
 pub record Acknowledgements (old new : DiskState) (commands : List Command) : Type 0 where
-  pub log : LogUse
-  pub uses : UsesLog (bytes_of old) log
+  pub log : List Command
+  pub held : LogHolds (bytes_of old) log
   pub moments : List ℕ
   pub timed : moments ≡ moments_of (time_of old) log commands
   pub within : last_moment (time_of old) moments ≤ time_of new

@@ -1,14 +1,14 @@
 -- What the calls of an open session answer, and what they do to the disk.
-use Rattle.std.specs.Prelude.{◌≡◌, ◌+◌, min, Bool, true, false, ℕ, None, Some, Result, Ok, Err}
+use Rattle.std.specs.Prelude.{◌≡◌, ◌+◌, min, Bool, true, false, ℕ, List, None, Some, Result, Ok, Err}
 use Rattle.mcs_disk.specs.Disk.{DiskState, most_faults, bytes_of, time_of}
-use Rattle.mcs_disk.specs.Moments.{Either, IsUntouched, LeavesOnly}
+use Rattle.mcs_disk.specs.Moments.{Either, LeavesOnly}
 use Rattle.mcs_model.specs.declared.command.Command.{Command}
 use Rattle.mcs_model.specs.declared.command.Reply.{Reply}
 use Rattle.mcs_model.specs.BenchState.{BenchState}
 use Rattle.mcs_model.specs.Command.{refusal, after, reply}
 use Rattle.mcs_session.specs.declared.fault.SessionFault.{SessionFault}
 use Rattle.mcs_session.specs.declared.fault.SessionFault.TheVariants.{Refused, Device, Closed}
-use Rattle.mcs_session.specs.LogUse.{LogUse, UsesLog, steps_of, use_after}
+use Rattle.mcs_session.specs.Log.{LogHolds, log_after, steps_of}
 use Rattle.mcs_session.specs.StandsFor.{DiskStandsFor, HoldsState, StandsFor}
 
 -- ---- `apply`
@@ -40,10 +40,10 @@ LeavesEitherState old new s t =
 -- the state after. Its record was added to the log, in the steps that take.
 pub record AcknowledgesCommand (old new : DiskState) (s : BenchState) (c : Command) : Type 0 where
   pub moments : LeavesEitherState old new s (after s c)
-  pub log : LogUse
-  pub uses : UsesLog (bytes_of old) log
+  pub log : List Command
+  pub held : LogHolds (bytes_of old) log
   pub ticks : time_of new ≡ time_of old + steps_of log c
-  pub used : UsesLog (bytes_of new) (use_after log c)
+  pub holds : LogHolds (bytes_of new) (log_after log c)
   pub now : DiskStandsFor new (after s c)
 
 -- what the command does to an honest disk
@@ -51,7 +51,7 @@ abbrev pub RecordsOrFails : Result Reply SessionFault → DiskState → DiskStat
     → Command → Type 0
 RecordsOrFails (Ok r) old new s c = AcknowledgesCommand old new s c
 RecordsOrFails (Err Device) old new s c = LeavesEitherState old new s (after s c)
-RecordsOrFails (Err fault) old new s c = IsUntouched old new
+RecordsOrFails (Err fault) old new s c = new.calls ≡ old.calls
 
 -- ---- `settle`
 
@@ -80,4 +80,4 @@ abbrev pub SettlesOrFails : {T : Type 0} → Result T SessionFault → DiskState
     → BenchState → Type 0
 SettlesOrFails (Ok x) old new s = SettlesSession old new s
 SettlesOrFails (Err Device) old new s = StandsFor (bytes_of old) s × KeepsState old new s
-SettlesOrFails (Err fault) old new s = IsUntouched old new
+SettlesOrFails (Err fault) old new s = new.calls ≡ old.calls

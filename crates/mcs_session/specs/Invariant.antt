@@ -1,14 +1,15 @@
 -- What the fields of a session keep, and what its steps do.
-use Rattle.std.specs.Prelude.{◌≡◌, ◌+◌, ◌≤◌, ℕ, List, Bool, IsTrue, Result, length, if◌then◌else◌}
+use Rattle.std.specs.Prelude.{◌≡◌, ◌+◌, ◌≤◌, ℕ, List, [], Bool, IsTrue, Result, length, if◌then◌else◌}
 use Rattle.mcs_disk.specs.Disk.{DiskState, bytes_of, time_of}
-use Rattle.mcs_disk.specs.Moments.{Changes, Either, IsDurable, LeavesOnly}
+use Rattle.mcs_disk.specs.Moments.{Changes, Either, LeavesOnly}
+use Rattle.mcs_disk.specs.PowerCut.{IsDurable}
 use Rattle.mcs_journal.specs.File.{Holds}
 use Rattle.mcs_journal.specs.declared.format.TheConstants.{MOST_RECORD, MOST_SNAPSHOT}
 use Rattle.mcs_model.specs.declared.limits.TheConstants.{REPLAY_CYCLES}
 use Rattle.mcs_model.specs.BenchState.{BenchState}
 use Rattle.mcs_model.specs.declared.command.Command.{Command}
 use Rattle.mcs_session.specs.Cycles.{log_cycles}
-use Rattle.mcs_session.specs.LogUse.{LogUse, UsesLog, empty_log, has_room_for, steps_of}
+use Rattle.mcs_session.specs.Log.{LogHolds, has_room_for, steps_of}
 use Rattle.mcs_session.specs.StandsFor.{HoldsState, RecordsStandFor, StandsFor}
 
 -- an honest disk of an open session: whatever a power cut leaves stands for the state of the bench,
@@ -44,10 +45,10 @@ pub record IsReplayed
 -- a snapshot of the state in the place of all records. The disk stands for the same state still, by
 -- a log of that many cycles.
 pub record HasMadeRoom (old new : DiskState) (c : Command) (cycles : ℕ) (s : BenchState) : Type 0 where
-  pub log : LogUse
-  pub uses : UsesLog (bytes_of old) log
+  pub log : List Command
+  pub held : LogHolds (bytes_of old) log
   pub ticks : time_of new + 4 ≡ time_of old + steps_of log c
-  pub used : UsesLog (bytes_of new) (if has_room_for log c then log else empty_log)
+  pub holds : LogHolds (bytes_of new) (if has_room_for log c then log else [])
   pub recorded : IsRecorded new cycles s
 
 -- a pair stands on an honest disk, and it is all that is there

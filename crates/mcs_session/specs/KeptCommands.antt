@@ -1,13 +1,12 @@
 -- What a disk keeps of a run of commands, wherever the power is cut.
-use Rattle.std.specs.Prelude.{◌≡◌, ◌≤◌, ◌↔◌, IsTrue, ℕ, List, [], length, take}
-use Rattle.mcs_disk.specs.Disk.{DiskState, bytes_of, size_of, time_of, images_since, IsLater}
-use Rattle.mcs_disk.specs.Moments.{IsUntouched}
+use Rattle.std.specs.Prelude.{◌≡◌, ◌≤◌, IsTrue, ℕ, List, [], length, take}
+use Rattle.mcs_disk.specs.Disk.{CountsFault, DiskState, bytes_of, time_of, images_since, IsLater}
 use Rattle.mcs_model.specs.declared.command.Command.{Command}
 use Rattle.mcs_model.specs.BenchState.{BenchState}
 use Rattle.mcs_model.specs.Fold.{fold}
 use Rattle.mcs_session.specs.Acknowledgements.{Acknowledgements, acknowledged_by, last_moment}
-use Rattle.mcs_session.specs.LogUse.{UsesLog, use_after_all}
-use Rattle.mcs_session.specs.SessionState.{Premise, SessionState, bench_after}
+use Rattle.mcs_session.specs.Log.{LogHolds, log_after_all}
+use Rattle.mcs_session.specs.SessionState.{Premise, SessionState}
 use Rattle.mcs_session.specs.StandsFor.{StandsFor, DiskStandsFor}
 
 -- ---- prefixes
@@ -40,34 +39,29 @@ pub record KeepsCommands
       → StandsForPrefix s reached (acknowledged_by t acknowledged.moments) image
   pub stretch : IsLater old new
 
--- the same where no call failed: the disk's clock stands at the last of the moments, and its log is
--- in use by the records of all commands
+-- the same where no call failed: the disk's clock stands at the last of the moments, and its log
+-- holds what recording all commands makes of it
 pub record KeepsAllCommands
     (old new : DiskState) (s : BenchState) (cs : List Command) : Type 0 where
   pub kept : KeepsCommands old new s cs cs
   pub now : time_of new ≡ last_moment (time_of old) kept.acknowledged.moments
-  pub used : UsesLog (bytes_of new) (use_after_all kept.acknowledged.log cs)
+  pub holds : LogHolds (bytes_of new) (log_after_all kept.acknowledged.log cs)
 
 -- the premise of what is kept: an open session on an honest disk
 abbrev pub IsOpenOnHonestDisk : Premise
-IsOpenOnHonestDisk a = IsTrue a.bench.live × a.disk.honest
-
--- whatever a power cut now leaves stands for this state
-pub record IsIntactAt (disk : DiskState) (s : BenchState) : Type 0 where
-  pub at : DiskStandsFor disk s
+IsOpenOnHonestDisk a = IsTrue a.live × a.disk.honest
 
 -- what each step of a run hands on to the next: the premise, and that the disk is intact
 pub record IsIntact (a : SessionState) : Type 0 where
   pub honest : IsOpenOnHonestDisk a
-  pub intact : IsIntactAt a.disk a.bench.state
+  pub intact : DiskStandsFor a.disk a.state
 
 -- The session accepted these commands in turn, and recorded them. `Given` is the premise of what the
 -- disk keeps.
 pub record RecordsCommands (Given : Premise) (a b : SessionState) (cs : List Command) : Type 0 where
-  pub bench : b.bench ≡ bench_after a.bench cs
-  pub same_faults : b.disk.faults ≡ a.disk.faults
-  pub size : size_of b.disk ≡ size_of a.disk
-  pub honest : b.disk.honest ↔ a.disk.honest
-  -- where there were none, no write was asked of the disk, whatever disk it is
-  pub untouched : cs ≡ [] → IsUntouched a.disk b.disk
-  pub kept : Given a → KeepsAllCommands a.disk b.disk a.bench.state cs
+  pub live : b.live ≡ a.live
+  pub state : b.state ≡ fold a.state cs
+  pub counts : CountsFault a.disk b.disk ⊥
+  -- where there were none, the disk was not called, whatever disk it is
+  pub untouched : cs ≡ [] → b.disk.calls ≡ a.disk.calls
+  pub kept : Given a → KeepsAllCommands a.disk b.disk a.state cs

@@ -1,9 +1,10 @@
 pub mod Cycles
 pub mod Version1
 pub mod StandsFor
-pub mod LogUse
+pub mod Log
 pub mod Acknowledgements
 pub mod SessionState
+pub mod Opening
 pub mod SessionCalls
 pub mod CommandCalls
 pub mod Invariant

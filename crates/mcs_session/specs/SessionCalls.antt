@@ -1,8 +1,7 @@
--- What making and opening a session answer, and what they do to the disk.
+-- What making and opening a session do to the disk.
 use Rattle.std.specs.Prelude.{◌≡◌, ◌⊎◌, ◌+◌}
 use Rattle.mcs_disk.specs.Disk.{DiskState, bytes_of, size_of, time_of, images_since, IsLater}
-use Rattle.mcs_disk.specs.Moments.{Either, LeavesOnly, AddsNoImage, WritesNothing}
-use Rattle.mcs_journal.specs.StoreCalls.{IsNoSession}
+use Rattle.mcs_disk.specs.Moments.{Either, LeavesOnly, AddsNoImage}
 use Rattle.mcs_journal.specs.File.{IsBlank}
 use Rattle.mcs_journal.specs.declared.fault.OpenFault.{OpenFault}
 use Rattle.mcs_journal.specs.declared.fault.OpenFault.TheVariants as open_fault
@@ -24,27 +23,12 @@ abbrev pub MayMigrate : DiskState → DiskState → BenchState → Type 0
 MayMigrate old new s =
     LeavesOnly old new (Either (images_since (time_of old) old) (λ file. StandsByEither file s))
 
--- The bytes of the disk stood for this state, and now every image stands for it. A file of version
--- 2 is not written; one of version 1 is replaced by a snapshot of version 2.
-pub record OpensSession (old new : DiskState) (s : BenchState) : Type 0 where
-  pub stands : StandsByEither (bytes_of old) s
+-- What opening a session in this state did: a file of version 2 is not written; one of version 1 is
+-- replaced by a snapshot of version 2.
+pub record MigratesSession (old new : DiskState) (s : BenchState) : Type 0 where
   pub moments : MayMigrate old new s
   pub rests : StandsFor (bytes_of old) s → AddsNoImage old new
-  pub unwritten : StandsFor (bytes_of old) s → WritesNothing old new
   pub migrated : StandsForLifted (bytes_of old) s → HoldsState (bytes_of new) s
-  pub at : DiskStandsFor new s
-
--- the bytes stand for no state
-abbrev pub StandsForNone : DiskState → Type 0
-StandsForNone disk = (s : BenchState) → StandsByEither (bytes_of disk) s → ⊥
-
--- what a refusal of `open` says of the disk: its bytes are no session, or they stand for no state;
--- of lack of memory and a device fault, nothing
-abbrev pub RefusesSession : OpenFault → DiskState → Type 0
-RefusesSession open_fault.NotASession disk = IsNoSession disk
-RefusesSession open_fault.Damaged disk = ¬ (IsNoSession disk) × StandsForNone disk
-RefusesSession open_fault.Device disk = Unit {0}
-RefusesSession open_fault.NoMemory disk = Unit {0}
 
 -- a file of version 1 stood for a state, and the disk failed as it was replaced
 pub record FailsMigrating (old new : DiskState) : Type 0 where

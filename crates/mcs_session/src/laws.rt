@@ -8,7 +8,8 @@ ghost use Rattle.mcs_model.specs.declared.command.Command.{Command};
 ghost use Rattle.mcs_model.specs.BenchState.{BenchState};
 ghost use Rattle.mcs_model.specs.Fold.{fold};
 ghost use Rattle.mcs_session.specs.Acknowledgements.{acknowledged_by};
-ghost use Rattle.mcs_session.specs.SessionCalls.{RefusalLeaves, OpensSession, RefusesSession};
+ghost use Rattle.mcs_session.specs.SessionCalls.{MigratesSession, RefusalLeaves};
+ghost use Rattle.mcs_session.specs.Opening.{OpensSession, RefusesSession};
 ghost use Rattle.mcs_session.specs.KeptCommands.{IsAfterPrefix, KeepsCommands, StandsForPrefix};
 ghost use Rattle.mcs_session.specs.StandsFor.{HoldsState, DiskStandsForLifted, StandsByEither, StandsFor, DiskStandsSince};
 
@@ -70,6 +71,7 @@ pub fn at_the_end_all_is_kept<D: Disk>()
 pub fn a_file_of_version_1_keeps_its_state<D: Disk>()
     ensures opened { (old new : D) (s u : BenchState) → (D.state old).honest
         → DiskStandsForLifted (D.state old) s → OpensSession (D.state old) (D.state new) u
+        → MigratesSession (D.state old) (D.state new) u
         → (u ≡ s) × (HoldsState (bytes_of (D.state new)) s
         × DiskStandsSince (time_of (D.state old)) (D.state new) s) }
     ensures refused { (old new : D) (s : BenchState) (fault : OpenFault) → (D.state old).honest

@@ -4,7 +4,8 @@ ghost use Rattle.std.specs.Prelude.{◌≡◌, ◌+◌, ◌≤◌, None, IfOk, I
 ghost use Rattle.mcs_codec.specs.Codec.{Spells, SpellsState};
 ghost use Rattle.mcs_codec.specs.CommandBytes.{command_bytes};
 ghost use Rattle.mcs_disk.specs.CallList.{OneUnsynced};
-ghost use Rattle.mcs_disk.specs.Moments.{CountsFault, LeavesOnly};
+ghost use Rattle.mcs_disk.specs.Moments.{LeavesOnly};
+ghost use Rattle.mcs_disk.specs.Disk.{CountsFault};
 ghost use Rattle.mcs_journal.specs.File.{HasRoom};
 ghost use Rattle.mcs_model.specs.Command.{after, refusal};
 ghost use Rattle.mcs_model.specs.declared.command.Command.{Command};

@@ -1,13 +1,14 @@
 //! A bench whose commands are recorded on a disk.
 ghost use Rattle.std.specs.Prelude.{◌≡◌, ◌≢◌, ◌⊎◌, ◌↔◌, IsTrue, true, false, IsErrAnd, IfOk, IfErr};
-ghost use Rattle.mcs_disk.specs.Disk.{bytes_of, size_of};
+ghost use Rattle.mcs_disk.specs.Disk.{bytes_of, size_of, CountsFault};
 ghost use Rattle.mcs_disk.specs.CallList.{OneUnsynced, unsynced};
-ghost use Rattle.mcs_disk.specs.Moments.{CountsFault, WritesNothing};
+ghost use Rattle.mcs_disk.specs.Moments.{WritesNothing};
 ghost use Rattle.mcs_journal.specs.StoreCalls.{RefusesCreate};
 ghost use Rattle.mcs_model.specs.BenchState.{new_bench_state};
 ghost use Rattle.mcs_session.specs.StandsFor.{StandsFor, DiskStandsFor};
 ghost use Rattle.mcs_session.specs.CommandCalls.{AppliesCommand, ClosesAtDeviceFault, MayAnswerSettle, RecordsOrFails, SettlesOrFails};
-ghost use Rattle.mcs_session.specs.SessionCalls.{CreatesSession, RefusalLeaves, OpensSession, RefusesSession};
+ghost use Rattle.mcs_session.specs.SessionCalls.{CreatesSession, MigratesSession, RefusalLeaves};
+ghost use Rattle.mcs_session.specs.Opening.{OpensSession, RefusesSession};
 ghost use Rattle.mcs_session.specs.Invariant.{HasContents, IsReady, IsRecorded, MayReplaceAll, ReplacedAll};
 
 use crate::fault::SessionFault;
@@ -122,6 +123,8 @@ impl<D: Disk + Drop> Session<D> {
         // on an honest disk
         ensures opened { (D.state disk).honest → IfOk result (λ s.
             OpensSession (D.state disk) (D.state s.disk) s.state) }
+        ensures migrated { (D.state disk).honest → IfOk result (λ s.
+            MigratesSession (D.state disk) (D.state s.disk) s.state) }
         ensures refused { (D.state disk).honest → IfErr result (λ refused.
             RefusesSession refused.0 (D.state disk)
             × RefusalLeaves refused.0 (D.state disk) (D.state refused.1)) }
@@ -178,7 +181,7 @@ impl<D: Disk + Drop> Session<D> {
             self.new.state }
         ensures closes { ClosesAtDeviceFault self.old.live (D.state self.old.disk).faults result
             self.new.live (D.state self.new.disk).faults }
-        ensures size { size_of (D.state self.new.disk) ≡ size_of (D.state self.old.disk) }
+        ensures start { (D.state self.new.disk).start ≡ (D.state self.old.disk).start }
         ensures honest { (D.state self.new.disk).honest ↔ (D.state self.old.disk).honest }
         ensures untouched { IfErr result (λ fault.
             fault ≢ SessionFault.Device → self.new.disk ≡ self.old.disk) }
@@ -210,7 +213,7 @@ impl<D: Disk + Drop> Session<D> {
         ensures answers { MayAnswerSettle self.old.live result }
         ensures closes { ClosesAtDeviceFault self.old.live (D.state self.old.disk).faults result
             self.new.live (D.state self.new.disk).faults }
-        ensures size { size_of (D.state self.new.disk) ≡ size_of (D.state self.old.disk) }
+        ensures start { (D.state self.new.disk).start ≡ (D.state self.old.disk).start }
         ensures honest { (D.state self.new.disk).honest ↔ (D.state self.old.disk).honest }
         ensures untouched { IfErr result (λ fault.
             fault ≢ SessionFault.Device → self.new.disk ≡ self.old.disk) }

@@ -60,7 +60,7 @@ device_failed (x ∷ xs) e = elim (either_end (halt_of x.whole x.outcome) (halt_
 ]
 
 device_counted : (failed : Bool) (a b : SessionState) (cs rs : List Command) → failed ≡ true → LeavesSession IsOpenOnHonestDisk failed a b cs rs → Some b.disk.faults ≡ one_more (Some a.disk.faults)
-device_counted true a b cs rs e left = ap (λ (n : ℕ). Some n) left.faults
+device_counted true a b cs rs e left = ap (λ (n : ℕ). Some n) (left.counts.fault tt)
 device_counted false a b cs rs e left = absurd (cc e)
 
 -- an end that is a fault was counted
@@ -71,7 +71,7 @@ comes_to_end InputLimit r r' a b ran read read' written written' by no_read no_w
 comes_to_end ReadFault r r' a b ran read read' written written' by no_read no_write no_call memory = absurd (counted_not read read' no_read by.reader)
 comes_to_end WriteFault r r' a b ran read read' written written' by no_read no_write no_call memory = absurd (counted_not written written' no_write by.writer)
 comes_to_end DeviceFault r r' a b ran read read' written written' by no_read no_write no_call memory =
-    let s = a.session.bench.state in
+    let s = a.session.state in
     let failed : has_failed ran.served.met ≡ true = device_failed ran.served.met (ran.served.halts ∙ ran.ends.1) in
     absurd (counted_not (Some a.session.disk.faults) (Some b.session.disk.faults) no_call
     (device_counted (has_failed ran.served.met) a.session b.session (in_turn acknowledged_commands s ran.served.met) (in_turn reached_commands s ran.served.met) failed ran.served.serves.leaves))

@@ -1,7 +1,6 @@
 -- What an input leaves, by its answer.
 use Rattle.std.proofs.Common.{◌≡◌, ◌≢◌, ◌↔◌, ◌||◌, ◌++◌, ℕ, Bool, true, false, List, [], ◌∷◌, Option, Some, None, Result, Ok, Err, IfErr, OnErr, OnOk, inl, inr, sym, ap, append-nil, ◌∙◌, refl, subst}
-use Rattle.mcs_disk.specs.Disk.{DiskState, size_of}
-use Rattle.mcs_disk.specs.Moments.{IsUntouched}
+use Rattle.mcs_disk.specs.Disk.{CountsFault, DiskState}
 use Rattle.mcs_model.specs.declared.command.Command.{Command}
 use Rattle.mcs_model.specs.declared.command.Reply.{Reply}
 use Rattle.mcs_model.specs.declared.refusals.BenchFault.{BenchFault}
@@ -28,25 +27,28 @@ use Rattle.mcs_answers.specs.AnswerTexts.{no_text, ok_text}
 use Rattle.mcs_shell.specs.Transcript.{IsPossibleOutcome, accepted_commands, answer, asked_command, change_answer, acknowledged_commands, halt_of, is_device_fault, plain_answer, reached_commands, takes_memory}
 use Rattle.mcs_session.specs.KeptCommands.{IsIntact}
 use Rattle.mcs_shell.specs.Serving.{AnsweredInput, LeavesSession, ServesInputs, ServesSteps, WroteBytes, outcome_of}
-use Rattle.mcs_session.proofs.Keeping.{acknowledged_keeps, carries_nothing, failed_keeps, stays, stays_keeps}
+use Rattle.mcs_session.proofs.Keeping.{acknowledged_keeps, carries_nothing, failed_keeps, stays_keeps}
 use Rattle.mcs_shell.proofs.StepLists.{or_no, or_none}
 
 abbrev pub at : Bool → BenchState → DiskState → SessionState
-at live s d = record { bench = record { live = live; state = s }; disk = d }
+at live s d = record { disk = d; live = live; state = s }
 
 -- what `apply` says of the session and its disk
 pub record Tried (live : Bool) (s : BenchState) (d : DiskState) (c : Command) (result : Result Reply SessionFault) (b : SessionState) : Type 0 where
-  pub applied : AppliesCommand live s c result b.bench.state
-  pub closes : ClosesAtDeviceFault live d.faults result b.bench.live b.disk.faults
-  pub size : size_of b.disk ≡ size_of d
+  pub applied : AppliesCommand live s c result b.state
+  pub closes : ClosesAtDeviceFault live d.faults result b.live b.disk.faults
+  pub start : b.disk.start ≡ d.start
   pub honest : b.disk.honest ↔ d.honest
-  pub untouched : IfErr result (λ f. f ≢ fault.Device → IsUntouched d b.disk)
+  pub untouched : IfErr result (λ f. f ≢ fault.Device → b.disk.calls ≡ d.calls)
   pub records : d.honest → RecordsOrFails result d b.disk s c
 
+none_counted : (old new : DiskState) → new.start ≡ old.start → new.honest ↔ old.honest → new.faults ≡ old.faults → CountsFault old new ⊥
+none_counted old new start honest same = record { start = start; honest = honest; fault = λ none. absurd none; no_fault = λ none. same }
+
 -- the very disk is untouched
-pub untouched_state : {D : Type 0} (state_of : D → DiskState) (new old : D) (r : Result Reply SessionFault) → IfErr r (λ f. f ≢ fault.Device → new ≡ old) → IfErr r (λ f. f ≢ fault.Device → IsUntouched (state_of old) (state_of new))
+pub untouched_state : {D : Type 0} (state_of : D → DiskState) (new old : D) (r : Result Reply SessionFault) → IfErr r (λ f. f ≢ fault.Device → new ≡ old) → IfErr r (λ f. f ≢ fault.Device → (state_of new).calls ≡ (state_of old).calls)
 untouched_state state_of new old (Ok x) h = tt
-untouched_state state_of new old (Err f) h = λ other. subst (λ disk. IsUntouched (state_of old) (state_of disk)) (sym (h other)) (stays (state_of old))
+untouched_state state_of new old (Err f) h = λ other. ap (λ disk. (state_of disk).calls) (h other)
 
 -- what it says of a known result
 pub known : (q r : Result Reply SessionFault) (live : Bool) (s : BenchState) (d : DiskState) (b : SessionState) (c : Command) → q ≡ r → Tried live s d c q b → Tried live s d c r b
@@ -66,7 +68,7 @@ text_refused s c f e = ap (λ (v : Option BenchFault). elim v [ None ↦ ok_text
 
 -- ---- a command
 
-pub ok_changed : (r : Reply) (live : Bool) (s : BenchState) (d : DiskState) (b : SessionState) (c : Command) (told : List ℕ) → Tried live s d c (Ok r) b → told ≡ ok_text r b.bench.state → AnsweredInput (at live s d) (Line (Change c)) Plain told b
+pub ok_changed : (r : Reply) (live : Bool) (s : BenchState) (d : DiskState) (b : SessionState) (c : Command) (told : List ℕ) → Tried live s d c (Ok r) b → told ≡ ok_text r b.state → AnsweredInput (at live s d) (Line (Change c)) Plain told b
 unfolding answer acknowledged_commands reached_commands IsPossibleOutcome
 ok_changed r false s d b c told h k = absurd (h.applied)
 ok_changed r true s d b c told h k =
@@ -74,12 +76,11 @@ ok_changed r true s d b c told h k =
     let P : List Command → Type 0 = λ cs. LeavesSession IsIntact false (at true s d) b cs cs in
     record {
       may = inr refl;
-      told_is = k ∙ ap (λ v. ok_text v b.bench.state) (h.applied.1) ∙ ap (ok_text (reply s c)) (h.applied.2) ∙ sym (text_accepted s c yes);
+      told_is = k ∙ ap (λ v. ok_text v b.state) (h.applied.1) ∙ ap (ok_text (reply s c)) (h.applied.2) ∙ sym (text_accepted s c yes);
       leaves = subst P (sym (accepted_alone s c yes)) (record {
-        bench = λ k. record { live = h.closes.0 k; state = h.applied.2 k };
-        same_faults = h.closes.1;
-        size = h.size;
-        honest = h.honest;
+        live = h.closes.0;
+        state = h.applied.2;
+        counts = none_counted d b.disk h.start h.honest h.closes.1;
         untouched = λ none. absurd (cc none);
         kept = λ given. acknowledged_keeps d b.disk s c (h.records given.honest.1);
       });
@@ -95,12 +96,11 @@ refused_changed f true s d b c told h k =
       may = inr refl;
       told_is = k ∙ sym (text_refused s c f no);
       leaves = subst P (sym (refused_none s c f no)) (record {
-        bench = λ k. record { live = h.closes.0 k; state = h.applied.1 k };
-        same_faults = h.closes.1;
-        size = h.size;
-        honest = h.honest;
+        live = h.closes.0;
+        state = h.applied.1;
+        counts = none_counted d b.disk h.start h.honest h.closes.1;
         untouched = λ none. h.untouched (λ e. absurd (cc e));
-        kept = λ given. stays_keeps d b.disk s (h.records given.honest.1) given.intact;
+        kept = λ given. stays_keeps d b.disk s h.start (h.records given.honest.1) given.intact;
       });
     }
 
@@ -116,9 +116,7 @@ device_changed true s d b c told h k =
       leaves = subst P (sym alone) (record {
         closed = h.closes.0;
         state = h.applied.1;
-        faults = h.closes.1;
-        size = h.size;
-        honest = h.honest;
+        counts = record { start = h.start; honest = h.honest; fault = λ it. h.closes.1; no_fault = λ none. absurd (none tt) };
         kept = λ given. failed_keeps d b.disk s c given.intact (h.records given.honest.1);
       });
     }
@@ -129,7 +127,7 @@ closed_changed true s d b c told h k = absurd (h.applied)
 closed_changed false s d b c told h k = record {
   may = (λ x. absurd (cc x), refl);
   told_is = k;
-  leaves = record { bench = λ k. record { live = h.closes.0 k; state = h.applied k }; same_faults = h.closes.1; size = h.size; honest = h.honest; untouched = λ none. h.untouched (λ e. absurd (cc e)); kept = λ given. absurd (cc given.honest.0) };
+  leaves = record { live = h.closes.0; state = h.applied; counts = none_counted d b.disk h.start h.honest h.closes.1; untouched = λ none. h.untouched (λ e. absurd (cc e)); kept = λ given. absurd (cc given.honest.0) };
 }
 
 -- it was not recorded
@@ -141,7 +139,7 @@ fault_changed fault.Closed = closed_changed
 -- ---- inputs that change nothing
 
 -- an input that asks for no command
-pub answered_plain : (a : SessionState) (i : Input) (told : List ℕ) → asked_command i ≡ None → told ≡ plain_answer a.bench.state i → AnsweredInput a i Plain told a
+pub answered_plain : (a : SessionState) (i : Input) (told : List ℕ) → asked_command i ≡ None → told ≡ plain_answer a.state i → AnsweredInput a i Plain told a
 unfolding answer acknowledged_commands reached_commands IsPossibleOutcome
 answered_plain a i told none k = record { may = inl none; told_is = k; leaves = rw none (carries_nothing a) }
 
@@ -155,7 +153,7 @@ answered_as a b i j o told same h = let P : Input → Type 0 = λ x. AnsweredInp
 
 -- a request whose answer takes memory
 pub answered_long : {T E : Type 0} (r : Result T E) (a : SessionState) (i : Input) (o : Outcome) (text told : List ℕ) → asked_command i ≡ None → takes_memory i ≡ true
-    → OnOk r (text ≡ plain_answer a.bench.state i) → OnOk r ((o ≡ Plain) × (told ≡ text)) → OnErr r ((o ≡ NoMemory) × (told ≡ no_text NO_MEMORY)) → AnsweredInput a i o told a
+    → OnOk r (text ≡ plain_answer a.state i) → OnOk r ((o ≡ Plain) × (told ≡ text)) → OnErr r ((o ≡ NoMemory) × (told ≡ no_text NO_MEMORY)) → AnsweredInput a i o told a
 answered_long (Ok x) a i o text told none takes is k refused = rw k.0 (answered_plain a i told none (k.1 ∙ is))
 answered_long (Err x) a i o text told none takes is k refused = rw refused.0 (answered_no_memory a i told takes (refused.1))
 
@@ -196,7 +194,7 @@ leaves_as Given f g a b cs ds rs qs e k l h =
 serves_one : (a b : ShellState) (i : Input) (o : Outcome) (told : List ℕ) (whole : Bool) → AnsweredInput a.session i o told b.session → WroteBytes whole a.out b.out told
     → ServesSteps IsIntact a (record { input = i; outcome = o; whole = whole } ∷ []) b
 serves_one a b i o told whole h sent =
-    let s = a.session.bench.state in
+    let s = a.session.state in
     let P : List ℕ → Type 0 = λ v. WroteBytes whole a.out b.out v in
     record {
       may = (h.may, λ more. absurd (more refl), tt);

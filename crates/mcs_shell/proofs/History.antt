@@ -5,8 +5,8 @@ use Rattle.std.proofs.lemmas.Grind.{common_steps}
 use Rattle.mcs_disk.proofs.CallLaws.{lawful}
 use Rattle.mcs_disk.proofs.Composing.{rests_since, later_before}
 use Rattle.mcs_disk.specs.Disk.{DiskState, bytes_of, time_of, images_since}
-use Rattle.mcs_disk.specs.Moments.{AddsNoImage, IsDurable}
-use Rattle.mcs_disk.specs.PowerCut.{IsLeftByCut}
+use Rattle.mcs_disk.specs.Moments.{AddsNoImage}
+use Rattle.mcs_disk.specs.PowerCut.{IsLeftByCut, IsDurable}
 use Rattle.mcs_journal.specs.declared.fault.OpenFault.{OpenFault}
 use Rattle.mcs_journal.specs.declared.fault.OpenFault.TheVariants.{NotASession, Damaged, Device, NoMemory}
 use Rattle.mcs_model.specs.declared.command.Command.{Command}
@@ -14,7 +14,8 @@ use Rattle.mcs_model.specs.BenchState.{BenchState}
 use Rattle.mcs_model.specs.Fold.{fold}
 use Rattle.mcs_session.specs.Acknowledgements.{Acknowledgements, acknowledged_by}
 use Rattle.mcs_session.specs.KeptCommands.{IsOpenOnHonestDisk, StandsForPrefix}
-use Rattle.mcs_session.specs.SessionCalls.{FailsMigrating, OpensSession, RefusalLeaves, RefusesSession}
+use Rattle.mcs_session.specs.SessionCalls.{FailsMigrating, MigratesSession, RefusalLeaves}
+use Rattle.mcs_session.specs.Opening.{RefusesSession}
 use Rattle.mcs_session.specs.SessionState.{session_state}
 use Rattle.mcs_session.specs.StandsFor.{StandsByEither, StandsFor}
 use Rattle.mcs_session.proofs.Files.{is_session, one_either}
@@ -83,9 +84,9 @@ kept_late state_of run t s found same given late cut =
 
 -- stopped before that: in the opening, or at its end
 kept_early : {D : Type 0} (state_of : D → DiskState) → (disk : D) (run : ShellRun state_of) (t : ℕ) (s : BenchState) (found : D) → Stands (state_of disk) s → run.before.state ≡ s → IsOpenOnHonestDisk (session_state state_of run.before)
-    → OpensSession (state_of disk) (state_of run.before.disk) run.before.state → time_of (state_of disk) ≤ t → t ≤ time_of (state_of run.before.disk) → IsLeftByCut t (state_of run.after.disk) (state_of found)
+    → MigratesSession (state_of disk) (state_of run.before.disk) run.before.state → time_of (state_of disk) ≤ t → t ≤ time_of (state_of run.before.disk) → IsLeftByCut t (state_of run.after.disk) (state_of found)
     → (kept : List Command) × KeepsOfRun state_of run t s kept × Stands (state_of found) (fold s kept)
-kept_early state_of disk run t s found here same given opens late early cut =
+kept_early state_of disk run t s found here same given migrates late early cut =
     let before : DiskState = state_of run.before.disk in
     let image : List ℕ = bytes_of (state_of found) in
     let kept = kept_of_run state_of run given in
@@ -96,7 +97,7 @@ kept_early state_of disk run t s found here same given opens late early cut =
           let then : StandsByEither image s = ⊎_elim
           (λ (old : images_since (time_of (state_of disk)) (state_of disk) image). subst (λ (file : List ℕ). StandsByEither file s) (sym (here.durable image old)) here.stands)
           (λ (new : StandsByEither image run.before.state). subst (StandsByEither image) same new)
-          (opens.moments.each image ((lawful before).longer (time_of (state_of disk)) t image late left)) in (
+          (migrates.moments.each image ((lawful before).longer (time_of (state_of disk)) t image late left)) in (
             [],
             record { began = same; answers = answers_of_session state_of run; acknowledged = kept.acknowledged; lost = in_turn reached_commands run.before.state run.ran.served.met; parts = refl; holds = omega (arith, none) },
             record { honest = cut.honest; durable = cut.durable; stands = then },
@@ -114,7 +115,7 @@ kept_served state_of disk run t s found here began late cut =
     let given : IsOpenOnHonestDisk (session_state state_of run.before) = (began.is_open, began.counts.honest.1 here.honest) in
     let left = cut (honest_of_run state_of run given.1) in
     elim (cases_lt t (time_of (state_of run.before.disk))) [
-      | inl early ↦ kept_early state_of disk run t s found here same given opens late (omega (arith, early)) left
+      | inl early ↦ kept_early state_of disk run t s found here same given (began.migrates here.honest) late (omega (arith, early)) left
       | inr since ↦ kept_late state_of run t s found same given since left
     ]
 

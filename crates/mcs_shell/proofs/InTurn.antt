@@ -6,7 +6,7 @@ use Rattle.std.proofs.KnownBytes.{Appends-nil, Appends-trans}
 use Rattle.std.proofs.lemmas.List.{take-append-drop}
 use Rattle.mcs_answers.specs.AnswerTexts.{session_text}
 use Rattle.mcs_model.specs.BenchState.{BenchState}
-use Rattle.mcs_session.specs.SessionState.{SessionBench, bench_after}
+use Rattle.mcs_model.specs.Fold.{fold}
 use Rattle.mcs_shell.specs.declared.ends.ShellEnd.{ShellEnd}
 use Rattle.mcs_shell.specs.declared.ends.ShellEnd.TheVariants.{End, ReadFault, WriteFault, DeviceFault, InputLimit, NoMemory}
 use Rattle.mcs_shell.specs.declared.outcome.Outcome.{Outcome}
@@ -47,22 +47,22 @@ told_first s false o [] old middle new bytes wrote goes others t = record {
 }
 told_first s false o (x ∷ rest) old middle new bytes wrote goes others t = absurd (cc (goes (λ e. absurd (cc e))))
 
-told_all : (m : SessionBench) (met : List Step) (old new : KnownBytes) → ArePossibleSteps m met → WroteAnswers m.state met old new → AnswersTold old new (in_turn answer m.state met) (halt_after met)
-told_all m [] old new may wrote = record { told = []; left_out = []; written = subst (λ (v : KnownBytes). Appends old v []) (sym wrote) (Appends-nil old); parts = refl; all_told = λ uncut. refl }
-told_all m (x ∷ rest) old new may wrote =
-    let n = bench_after m (acknowledged_commands m.state x.input x.outcome) in
-    told_first n.state x.whole x.outcome rest old wrote.0 new (answer m.state x.input x.outcome) wrote.1 may.1 wrote.2 (told_all n rest wrote.0 new may.2 wrote.2)
+told_all : (live : Bool) (s : BenchState) (met : List Step) (old new : KnownBytes) → ArePossibleSteps live s met → WroteAnswers s met old new → AnswersTold old new (in_turn answer s met) (halt_after met)
+told_all live s [] old new may wrote = record { told = []; left_out = []; written = subst (λ (v : KnownBytes). Appends old v []) (sym wrote) (Appends-nil old); parts = refl; all_told = λ uncut. refl }
+told_all live s (x ∷ rest) old new may wrote =
+    let t = fold s (acknowledged_commands s x.input x.outcome) in
+    told_first t x.whole x.outcome rest old wrote.0 new (answer s x.input x.outcome) wrote.1 may.1 wrote.2 (told_all live t rest wrote.0 new may.2 wrote.2)
 
 -- ---- a run that wrote its first line, or not
 
 begun : (end : ShellEnd) (r r' : KnownBytes) (a b : ShellState) (ran : RanShell end r r' a b) → ran.began.whole ≡ true → (end ≢ WriteFault → ran.halted ≢ Some WriteFault) → (end ≢ WriteFault → end ≢ DeviceFault → ran.halted ≡ None)
     → AnswersInTurn end ran.read a b ran.served.met
 begun end r r' a b ran whole uncut none =
-    let s = a.session.bench.state in
+    let s = a.session.state in
     let met = ran.served.met in
     let serves = ran.served.serves in
     let first : Appends a.out ran.began.started (session_text s) = subst (λ (v : Bool). WroteBytes v a.out ran.began.started (session_text s)) whole ran.began.wrote in
-    let t : AnswersTold ran.began.started b.out (in_turn answer s met) (halt_after met) = told_all a.session.bench met ran.began.started b.out serves.may serves.wrote in
+    let t : AnswersTold ran.began.started b.out (in_turn answer s met) (halt_after met) = told_all a.session.live s met ran.began.started b.out serves.may serves.wrote in
     record {
       not_met = ran.served.not_met;
       spelled = ran.served.spelled;
@@ -77,7 +77,7 @@ begun end r r' a b ran whole uncut none =
 
 not_begun : (end : ShellEnd) (r r' : KnownBytes) (a b : ShellState) (ran : RanShell end r r' a b) → ran.began.whole ≡ false → ran.served.met ≡ [] → (end ≢ WriteFault → end ≢ NoMemory → ⊥) → AnswersInTurn end ran.read a b ran.served.met
 not_begun end r r' a b ran cut none by =
-    let s = a.session.bench.state in
+    let s = a.session.state in
     let some : WroteBytes false a.out ran.began.started (session_text s) = subst (λ (v : Bool). WroteBytes v a.out ran.began.started (session_text s)) cut ran.began.wrote in
     let then : b.out ≡ ran.began.started = subst (λ (v : List Step). WroteAnswers s v ran.began.started b.out) none ran.served.serves.wrote in
     record {

@@ -203,12 +203,12 @@ ran_halt end r r' r'' a b c line new_line chunk total n most x small little y z 
 -- ---- the premise that callers see
 
 leaves_under : (failed : Bool) (a b : SessionState) (cs rs : List Command) → (IsOpenOnHonestDisk a → IsIntact a) → LeavesSession IsIntact failed a b cs rs → LeavesSession IsOpenOnHonestDisk failed a b cs rs
-leaves_under false a b cs rs settle x = record { bench = x.bench; same_faults = x.same_faults; size = x.size; honest = x.honest; untouched = x.untouched; kept = λ given. x.kept (settle given) }
-leaves_under true a b cs rs settle x = record { closed = x.closed; state = x.state; faults = x.faults; size = x.size; honest = x.honest; kept = λ given. x.kept (settle given) }
+leaves_under false a b cs rs settle x = record { live = x.live; state = x.state; counts = x.counts; untouched = x.untouched; kept = λ given. x.kept (settle given) }
+leaves_under true a b cs rs settle x = record { closed = x.closed; state = x.state; counts = x.counts; kept = λ given. x.kept (settle given) }
 
 abbrev meets_under : (given : List Input) (a b : ShellState) (halted : Option ShellEnd) → (IsOpenOnHonestDisk a.session → IsIntact a.session) → ServesInputs IsIntact given a b halted → ServesInputs IsOpenOnHonestDisk given a b halted
 meets_under given a b halted settle m =
-    let s = a.session.bench.state in
+    let s = a.session.state in
     record {
       met = m.met;
       serves = record { may = m.serves.may; wrote = m.serves.wrote; leaves = leaves_under (has_failed m.met) a.session b.session (in_turn acknowledged_commands s m.met) (in_turn reached_commands s m.met) settle m.serves.leaves };

@@ -1,5 +1,5 @@
 -- What may be told.
-use Rattle.std.proofs.Common.{◌≡◌, inl, inr, Bool, true, false, List, ℕ, ap, IsTrue}
+use Rattle.std.proofs.Common.{◌≡◌, inl, inr, Bool, true, false, List, ℕ, IsTrue}
 use Rattle.mcs_answers.specs.AnswerTexts.{session_text}
 use Rattle.mcs_disk.specs.Disk.{DiskState}
 use Rattle.mcs_model.specs.declared.command.Command.{Command}
@@ -12,14 +12,14 @@ use Rattle.mcs_shell.specs.Serving.{AnsweredInput, LeavesSession}
 use Rattle.mcs_shell.specs.Transcript.{is_device_fault}
 use Rattle.mcs_shell.specs.declared.outcome.Outcome.{Outcome}
 
-left_state : (Given : Premise) (failed : Bool) (a b : SessionState) (done reached : List Command) → LeavesSession Given failed a b done reached → b.bench.state ≡ fold a.bench.state done
-left_state Given false a b done reached left = ap (λ m. m.state) left.bench
+left_state : (Given : Premise) (failed : Bool) (a b : SessionState) (done reached : List Command) → LeavesSession Given failed a b done reached → b.state ≡ fold a.state done
+left_state Given false a b done reached left = left.state
 left_state Given true a b done reached left = left.state
 
 pub may_answer : {D : Type 0} (state_of : D → DiskState) (before : SessionState) (now : SessionView D) (i : Input) (o : Outcome) (told : List ℕ) → AnsweredInput before i o told (session_state state_of now)
     → (IsTrue now.live → (state_of now.disk).honest → DiskStandsFor (state_of now.disk) now.state) → MayTell state_of now told
 may_answer state_of before now i o told answered kept = record {
-  says = inr (record { before = before.bench.state; input = i; outcome = o; is = answered.told_is; done = left_state _ (is_device_fault o) _ _ _ _ answered.leaves });
+  says = inr (record { before = before.state; input = i; outcome = o; is = answered.told_is; done = left_state _ (is_device_fault o) _ _ _ _ answered.leaves });
   kept = kept;
 }
 

@@ -1,8 +1,8 @@
 -- Stretches of bytes, one after the other.
-use Rattle.std.proofs.Common.{◌≡◌, ◌+◌, ℕ, min, take, List, [], ◌∷◌, ◌++◌, Bool, true, false, Option, None, Some, ap, sym, append_assoc, ◌∙◌, refl, subst}
+use Rattle.std.proofs.Common.{◌≡◌, ◌+◌, ℕ, take, List, [], ◌∷◌, ◌++◌, Bool, true, false, Option, None, Some, ap, sym, append_assoc, ◌∙◌, refl, subst}
 use Rattle.std.proofs.lemmas.List.{map-append}
 use Rattle.std.specs.Str.Lines.{strip_carriage_return}
-use Rattle.mcs_disk.specs.Disk.{most_faults}
+use Rattle.mcs_disk.proofs.Composing.{counts_then}
 use Rattle.mcs_lines.specs.declared.requests.TextKind.{TextKind}
 use Rattle.mcs_lines.specs.declared.requests.Request.TheVariants.{Begin}
 use Rattle.mcs_lines.specs.LineRequests.{request_of}
@@ -11,7 +11,7 @@ use Rattle.mcs_model.specs.BenchState.{BenchState}
 use Rattle.mcs_model.specs.Fold.{fold}
 use Rattle.mcs_model.specs.TextLines.{lines}
 use Rattle.mcs_session.specs.KeptCommands.{RecordsCommands, IsIntact}
-use Rattle.mcs_session.specs.SessionState.{Premise, SessionState, SessionBench}
+use Rattle.mcs_session.specs.SessionState.{Premise, SessionState}
 use Rattle.mcs_session.proofs.Folds.{fold-append}
 use Rattle.mcs_session.proofs.Keeping.{carries_more, carries_nothing, kept_more, settled_on}
 use Rattle.mcs_shell.specs.declared.ends.ShellEnd.{ShellEnd}
@@ -32,11 +32,9 @@ leaves_more : (failed : Bool) (a b c : SessionState) (cs ds rs : List Command) �
 leaves_more false a b c cs ds rs x y = carries_more a b c cs ds x y
 leaves_more true a b c cs ds rs x y = record {
   closed = y.closed;
-  state = y.state ∙ ap (λ (v : SessionBench). fold v.state ds) x.bench ∙ sym (fold-append a.bench.state cs ds);
-  faults = y.faults ∙ ap (λ (n : ℕ). min (n + 1) most_faults) x.same_faults;
-  size = y.size ∙ x.size;
-  honest = (λ h. x.honest.0 (y.honest.0 h), λ h. y.honest.1 (x.honest.1 h));
-  kept = λ given. kept_more a.disk b.disk c.disk a.bench.state b.bench.state cs ds rs (x.kept given) (ap (λ (v : SessionBench). v.state) x.bench) (y.kept (settled_on a b cs x given));
+  state = y.state ∙ ap (λ (s : BenchState). fold s ds) x.state ∙ sym (fold-append a.state cs ds);
+  counts = counts_then a.disk b.disk c.disk ⊥ (Unit {0}) (λ none. none) x.counts y.counts;
+  kept = λ given. kept_more a.disk b.disk c.disk a.state b.state cs ds rs (x.kept given) x.state (y.kept (settled_on a b cs x given));
 }
 
 -- where nothing halted the shell
@@ -46,12 +44,12 @@ carries_unhalted Given a b s met none h = subst (λ (v : Bool). LeavesSession Gi
 -- the shell went on, and so one list follows the other
 pub serves_more : (a b c : ShellState) (xs ys : List Step) → halt_after xs ≡ None → ServesSteps IsIntact a xs b → ServesSteps IsIntact b ys c → ServesSteps IsIntact a (xs ++ ys) c
 serves_more a b c xs ys none x y =
-    let s = a.session.bench.state in
-    let t = b.session.bench.state in
+    let s = a.session.state in
+    let t = b.session.state in
     let carries = carries_unhalted IsIntact a.session b.session s xs none x.leaves in
-    let state : t ≡ state_after s xs = ap (λ (v : SessionBench). v.state) carries.bench in
+    let state : t ≡ state_after s xs = carries.state in
     record {
-      may = may-append a.session.bench xs ys none x.may (subst (λ (v : SessionBench). ArePossibleSteps v ys) carries.bench y.may);
+      may = may-append a.session.live s xs ys none x.may (subst (λ (live : Bool). ArePossibleSteps live (state_after s xs) ys) carries.live (subst (λ (u : BenchState). ArePossibleSteps b.session.live u ys) state y.may));
       wrote = wrote-append s xs ys a.out b.out c.out x.wrote (subst (λ (u : BenchState). WroteAnswers u ys b.out c.out) state y.wrote);
       leaves = leaves_as IsIntact (has_failed (xs ++ ys)) (has_failed ys) a.session c.session
           (in_turn acknowledged_commands s (xs ++ ys)) (in_turn acknowledged_commands s xs ++ in_turn acknowledged_commands t ys)

@@ -13,14 +13,14 @@ use Rattle.mcs_shell.specs.ShellState.{KnownBytes, ShellState, shell_state}
 use Rattle.mcs_shell.specs.Transcript.{acknowledged_commands, in_turn, reached_commands}
 use Rattle.mcs_shell.proofs.StepLists.{has_failed, reached_all}
 
-kept_by : (failed : Bool) (a b : SessionState) (cs rs : List Command) → (failed ≡ false → rs ≡ cs) → IsOpenOnHonestDisk a → LeavesSession IsOpenOnHonestDisk failed a b cs rs → KeepsCommands a.disk b.disk a.bench.state cs rs
-kept_by false a b cs rs same given x = subst (λ (v : List Command). KeepsCommands a.disk b.disk a.bench.state cs v) (sym (same refl)) (x.kept given).kept
+kept_by : (failed : Bool) (a b : SessionState) (cs rs : List Command) → (failed ≡ false → rs ≡ cs) → IsOpenOnHonestDisk a → LeavesSession IsOpenOnHonestDisk failed a b cs rs → KeepsCommands a.disk b.disk a.state cs rs
+kept_by false a b cs rs same given x = subst (λ (v : List Command). KeepsCommands a.disk b.disk a.state cs v) (sym (same refl)) (x.kept given).kept
 kept_by true a b cs rs same given x = x.kept given
 
 pub survives : {E : Type 0} (state_of : E → DiskState) → (end : ShellEnd) (r r' : KnownBytes) (a b : ShellState) (ran : RanShell end r r' a b)
     → IsOpenOnHonestDisk a.session → SurvivesPowerCuts state_of a.session b.session.disk ran.served.met
 survives state_of end r r' a b ran given =
-    let s = a.session.bench.state in
+    let s = a.session.state in
     let met = ran.served.met in
     let done : List Command = in_turn acknowledged_commands s met in
     let may : List Command = in_turn reached_commands s met in
@@ -34,11 +34,11 @@ survives state_of end r r' a b ran given =
 -- ---- what it leaves as it was
 
 honest_by : (failed : Bool) (a b : SessionState) (cs rs : List Command) → LeavesSession IsOpenOnHonestDisk failed a b cs rs → a.disk.honest → b.disk.honest
-honest_by false a b cs rs x = x.honest.1
-honest_by true a b cs rs x = x.honest.1
+honest_by false a b cs rs x = x.counts.honest.1
+honest_by true a b cs rs x = x.counts.honest.1
 
 pub honest_after : (end : ShellEnd) (r r' : KnownBytes) (a b : ShellState) → RanShell end r r' a b → a.session.disk.honest → b.session.disk.honest
-honest_after end r r' a b ran = let s = a.session.bench.state in
+honest_after end r r' a b ran = let s = a.session.state in
     honest_by (has_failed ran.served.met) a.session b.session (in_turn acknowledged_commands s ran.served.met) (in_turn reached_commands s ran.served.met) ran.served.serves.leaves
 
 -- ---- a run

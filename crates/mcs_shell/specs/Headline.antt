@@ -8,7 +8,7 @@ use Rattle.mcs_journal.specs.declared.fault.OpenFault.{OpenFault}
 use Rattle.mcs_journal.specs.declared.fault.OpenFault.TheVariants as open_fault
 use Rattle.mcs_model.specs.BenchState.{BenchState}
 use Rattle.mcs_session.specs.Acknowledgements.{Acknowledgements, acknowledged_by}
-use Rattle.mcs_session.specs.SessionCalls.{OpensSession, RefusesSession}
+use Rattle.mcs_session.specs.Opening.{OpensSession, RefusesSession}
 use Rattle.mcs_session.specs.KeptCommands.{IsAfterPrefix}
 use Rattle.mcs_session.specs.SessionState.{SessionState, session_state}
 use Rattle.mcs_shell.specs.Inputs.{Input}
@@ -27,10 +27,10 @@ pub record SurvivesPowerCuts
     {E : Type 0} (state_of : E → DiskState) (a : SessionState) (ran : DiskState)
     (met : List Step) : Type 0 where
   pub acknowledged : Acknowledgements a.disk ran
-      (in_turn acknowledged_commands a.bench.state met)
+      (in_turn acknowledged_commands a.state met)
   pub reopened : (t : ℕ) (found opened : E) (u : BenchState) → time_of a.disk ≤ t
       → IsLeftByCut t ran (state_of found) → OpensSession (state_of found) (state_of opened) u
-      → IsAfterPrefix a.bench.state (in_turn reached_commands a.bench.state met)
+      → IsAfterPrefix a.state (in_turn reached_commands a.state met)
       (acknowledged_by t acknowledged.moments) u
   pub not_refused : (t : ℕ) (found : E) (fault : OpenFault) → time_of a.disk ≤ t
       → IsLeftByCut t ran (state_of found) → RefusesSession fault (state_of found)
@@ -48,12 +48,12 @@ pub record AnswersInTurn
   pub not_met : List Input
   pub spelled : inputs_read read ≡ inputs_in met ++ not_met
   pub all_met : end ≢ WriteFault → end ≢ DeviceFault → end ≢ NoMemory → not_met ≡ []
-  pub may : ArePossibleSteps a.session.bench met
+  pub may : ArePossibleSteps a.session.live a.session.state met
   pub told : List ℕ
   pub left_out : List ℕ
   pub written : Appends a.out b.out told
   pub parts : told ++ left_out
-      ≡ session_text a.session.bench.state ++ in_turn answer a.session.bench.state met
+      ≡ session_text a.session.state ++ in_turn answer a.session.state met
   pub all_told : end ≢ WriteFault → end ≢ NoMemory → left_out ≡ []
 
 -- The answers of a run are those of the inputs that it met, in turn, and what is found after a

@@ -1,8 +1,8 @@
 -- How inputs are served, in turn, and what is there then.
-use Rattle.std.specs.Prelude.{◌≡◌, ◌↔◌, ◌<◌, ◌+◌, min, Bool, true, false, ℕ, List, [], ◌∷◌, ◌++◌, length, take, Option, None}
+use Rattle.std.specs.Prelude.{◌≡◌, ◌<◌, Bool, true, false, ℕ, List, [], ◌∷◌, ◌++◌, length, take, Option, None}
 use Rattle.std.specs.Io.KnownBytes.{Appends}
 use Rattle.std.specs.List.{list_any}
-use Rattle.mcs_disk.specs.Disk.{most_faults, size_of}
+use Rattle.mcs_disk.specs.Disk.{CountsFault}
 use Rattle.mcs_model.specs.declared.command.Command.{Command}
 use Rattle.mcs_model.specs.BenchState.{BenchState}
 use Rattle.mcs_model.specs.Fold.{fold}
@@ -51,12 +51,10 @@ outcome_of session_fault.Closed = Closed
 -- disk.
 pub record ClosesSession
     (Given : Premise) (a b : SessionState) (done reached_too : List Command) : Type 0 where
-  pub closed : b.bench.live ≡ false
-  pub state : b.bench.state ≡ fold a.bench.state done
-  pub faults : b.disk.faults ≡ min (a.disk.faults + 1) most_faults
-  pub size : size_of b.disk ≡ size_of a.disk
-  pub honest : b.disk.honest ↔ a.disk.honest
-  pub kept : Given a → KeepsCommands a.disk b.disk a.bench.state done reached_too
+  pub closed : b.live ≡ false
+  pub state : b.state ≡ fold a.state done
+  pub counts : CountsFault a.disk b.disk (Unit {0})
+  pub kept : Given a → KeepsCommands a.disk b.disk a.state done reached_too
 
 -- what inputs leave of the session and its disk, by whether the device failed at the last of them
 abbrev pub LeavesSession : Premise → Bool → SessionState → SessionState → List Command
@@ -68,11 +66,11 @@ LeavesSession Given true a b done reached_too = ClosesSession Given a b done rea
 pub record AnsweredInput
     (a : SessionState) (i : Input) (o : Outcome) (told : List ℕ)
     (b : SessionState) : Type 0 where
-  pub may : IsPossibleOutcome a.bench i o
-  pub told_is : told ≡ answer a.bench.state i o
+  pub may : IsPossibleOutcome a.live a.state i o
+  pub told_is : told ≡ answer a.state i o
   pub leaves : LeavesSession IsIntact (is_device_fault o) a b
-      (acknowledged_commands a.bench.state i o)
-      (reached_commands a.bench.state i o)
+      (acknowledged_commands a.state i o)
+      (reached_commands a.state i o)
 
 -- ---- inputs in turn
 
@@ -80,12 +78,12 @@ pub record AnsweredInput
 -- disk keeps.
 pub record ServesSteps
     (Given : Premise) (a : ShellState) (met : List Step) (b : ShellState) : Type 0 where
-  pub may : ArePossibleSteps a.session.bench met
-  pub wrote : WroteAnswers a.session.bench.state met a.out b.out
+  pub may : ArePossibleSteps a.session.live a.session.state met
+  pub wrote : WroteAnswers a.session.state met a.out b.out
   pub leaves : LeavesSession Given (list_any (λ (x : Step). is_device_fault x.outcome) met)
       a.session b.session
-      (in_turn acknowledged_commands a.session.bench.state met)
-      (in_turn reached_commands a.session.bench.state met)
+      (in_turn acknowledged_commands a.session.state met)
+      (in_turn reached_commands a.session.state met)
 
 -- the first of these inputs were met: all, where nothing halted the shell
 pub record ServesInputs

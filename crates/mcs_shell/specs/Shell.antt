@@ -79,7 +79,7 @@ pub record RanShellGiven
 -- disk honest
 abbrev pub RanShell : ShellEnd → KnownBytes → KnownBytes → ShellState → ShellState → Type 0
 RanShell end reader reader' a b =
-    RanShellGiven IsOpenOnHonestDisk (session_text a.session.bench.state) end reader reader' a b
+    RanShellGiven IsOpenOnHonestDisk (session_text a.session.state) end reader reader' a b
 
 -- A run of the shell: how it ended, what the reader had left, what the writer held, and the session
 -- (`state_of` is what contracts see of its disk), before and after.

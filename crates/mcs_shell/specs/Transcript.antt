@@ -11,7 +11,6 @@ use Rattle.mcs_lines.specs.RefusalNumbers.{line_fault_number}
 use Rattle.mcs_lines.specs.declared.requests.Request.TheVariants.{Nothing, Refused, Ask, Listing, Board, Count, Trace, Change, Begin}
 use Rattle.mcs_answers.specs.AnswerTexts.{board_answer, listing_answer, no_text, ok_text, query_answer}
 use Rattle.mcs_answers.specs.AheadTexts.{count_answer, trace_answer}
-use Rattle.mcs_session.specs.SessionState.{SessionBench, bench_after}
 use Rattle.mcs_shell.specs.declared.ends.ShellEnd.{ShellEnd}
 use Rattle.mcs_shell.specs.declared.ends.ShellEnd.TheVariants.{WriteFault, DeviceFault}
 use Rattle.mcs_shell.specs.declared.outcome.Outcome.{Outcome}
@@ -51,11 +50,11 @@ takes_memory i = false
 -- What may come of an input: the state gave the answer, to a command on an open session alone; or
 -- its command was accepted, and the device failed as it was recorded; or its command met a closed
 -- session; or memory for it was refused.
-unfoldable pub IsPossibleOutcome : SessionBench → Input → Outcome → Type 0
-IsPossibleOutcome m i Plain = (asked_command i ≡ None) ⊎ (m.live ≡ true)
-IsPossibleOutcome m i Device = (accepted_commands m.state (asked_command i) ≢ []) × (m.live ≡ true)
-IsPossibleOutcome m i Closed = (asked_command i ≢ None) × (m.live ≡ false)
-IsPossibleOutcome m i NoMemory = takes_memory i ≡ true
+unfoldable pub IsPossibleOutcome : Bool → BenchState → Input → Outcome → Type 0
+IsPossibleOutcome live s i Plain = (asked_command i ≡ None) ⊎ (live ≡ true)
+IsPossibleOutcome live s i Device = (accepted_commands s (asked_command i) ≢ []) × (live ≡ true)
+IsPossibleOutcome live s i Closed = (asked_command i ≢ None) × (live ≡ false)
+IsPossibleOutcome live s i NoMemory = takes_memory i ≡ true
 
 -- the command that was answered `ok`, as a list: empty where there is none
 unfoldable pub acknowledged_commands : BenchState → Input → Outcome → List Command
@@ -147,8 +146,8 @@ is_device_fault o = false
 
 -- each outcome is one that may come of its input in its turn, and the shell goes on after each but
 -- the last
-abbrev pub ArePossibleSteps : SessionBench → List Step → Type 0
-ArePossibleSteps m [] = Unit {0}
-ArePossibleSteps m (x ∷ rest) =
-    IsPossibleOutcome m x.input x.outcome × (rest ≢ [] → halt_of x.whole x.outcome ≡ None)
-    × ArePossibleSteps (bench_after m (acknowledged_commands m.state x.input x.outcome)) rest
+abbrev pub ArePossibleSteps : Bool → BenchState → List Step → Type 0
+ArePossibleSteps live s [] = Unit {0}
+ArePossibleSteps live s (x ∷ rest) =
+    IsPossibleOutcome live s x.input x.outcome × (rest ≢ [] → halt_of x.whole x.outcome ≡ None)
+    × ArePossibleSteps live (fold s (acknowledged_commands s x.input x.outcome)) rest

@@ -2,7 +2,7 @@ use Rattle.mcs_disk.specs.Moments.{ReadsOnly}
 use Rattle.mcs_disk.proofs.CallLaws.{size_of-bytes}
 use Rattle.mcs_disk.proofs.Composing.{rests_bytes, sync_reads, rests_durable, rests_then, reads_then, reads_as, synced_durable}
 use Rattle.mcs_journal.proofs.Asked.{on_err, reads_more, reads_sum}
-use Rattle.mcs_disk.specs.CallList.{DiskCall, Synced}
+use Rattle.mcs_disk.specs.Calls.{DiskCall, Synced}
 use Rattle.mcs_journal.specs.Calls.{OnlyRead, many_reads}
 use Rattle.std.proofs.Common.{rules, ◌≡◌, inr, ◌+◌, ◌*◌, List, [], ◌∷◌, ◌++◌, ℕ, length, append_assoc, sym, ◌∙◌, ap, subst, arith, IsErrOf}
 use Rattle.mcs_disk.specs.Disk.{part, bytes_of, size_of}

@@ -22,6 +22,7 @@ returns-in-Ok-open-clause-begun g c = rw (c.in-Ok.is, c.in-Open.is) (record {
   is_open = c.in-Ok-open.ensures.open;
   counts = c.in-Ok-open.ensures.counts;
   opens = c.in-Ok-open.ensures.opened;
+  migrates = c.in-Ok-open.ensures.migrated;
 })
 
 pub returns-in-Err-open-clause-refused : goal.returns-in-Err-open-clause-refused

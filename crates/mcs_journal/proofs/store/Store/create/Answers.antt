@@ -2,9 +2,9 @@ use Rattle.mcs_disk.specs.CallList.{unsynced}
 use Rattle.mcs_disk.proofs.Calling.{none_added}
 use Rattle.mcs_journal.proofs.Asking.{area_ok, area_err, create_one, header_read, refused_by_header, refused_create_one}
 use Rattle.std.proofs.Common.{inr, [], length, refl, sym, ◌∙◌, ap, arith, Err, length-take, length-append, length-drop}
-use Rattle.mcs_disk.proofs.Composing.{counts_then, rests_still, later_then}
+use Rattle.mcs_disk.proofs.Composing.{counts_as, counts_then, rests_still, later_then}
 use Rattle.mcs_journal.specs.declared.fault.CreateFault.TheVariants.{Device}
-use Rattle.mcs_journal.proofs.Refusing.{counts_err, call_counts_ok, call_counts_err, refuses_create}
+use Rattle.mcs_journal.proofs.Refusing.{counts_err, refuses_create}
 use Rattle.mcs_journal.proofs.store.Store.create.Goals as goal
 
 pub returns-then-size-ne-FILE_SIZE-clause-refused : goal.returns-then-size-ne-FILE_SIZE-clause-refused
@@ -18,7 +18,7 @@ returns-in-Err-check_blank-clause-refused g c = λ h. refuses_create _ _ _ c.che
 
 pub returns-in-Ok-write_first-clause-counts : goal.returns-in-Ok-write_first-clause-counts
 returns-in-Ok-write_first-clause-counts g c =
-    counts_then _ _ _ _ _ (λ failed. cc) c.in-Ok-check_blank.ensures.reads.tells (call_counts_ok _ _ _ c.in-Ok-write_first.ensures.call)
+    counts_then _ _ _ _ _ (λ failed. cc) c.in-Ok-check_blank.ensures.reads.tells (counts_as _ _ _ _ (λ failed. cc) (λ no. absurd no) c.in-Ok-write_first.ensures.call)
 
 pub returns-in-Ok-write_first-clause-created : goal.returns-in-Ok-write_first-clause-created
 returns-in-Ok-write_first-clause-created g c = λ h.
@@ -33,7 +33,7 @@ returns-in-Ok-write_first-clause-created g c = λ h.
 
 pub returns-in-Err-write_first-clause-refusal_counts : goal.returns-in-Err-write_first-clause-refusal_counts
 returns-in-Err-write_first-clause-refusal_counts g c =
-    counts_then _ _ _ _ _ (λ failed. cc) c.in-Ok-check_blank.ensures.reads.tells (call_counts_err _ _ _ _ refl c.in-Err-write_first.ensures.call)
+    counts_then _ _ _ _ _ (λ failed. cc) c.in-Ok-check_blank.ensures.reads.tells (counts_as _ _ _ _ (λ failed. refl) (λ same. refl) c.in-Err-write_first.ensures.call)
 
 pub returns-in-Err-write_first-clause-refused : goal.returns-in-Err-write_first-clause-refused
 returns-in-Err-write_first-clause-refused g c = λ h.

@@ -1,6 +1,6 @@
 use Rattle.mcs_disk.proofs.Calling.{none_added, one_then}
 use Rattle.mcs_disk.proofs.Composing.{counts_then}
-use Rattle.mcs_session.proofs.Files.{failed_by, held_on, left_store, opened_by, recorded_by, refused_by, refuses_pair, refuses_store}
+use Rattle.mcs_session.proofs.Files.{failed_by, held_on, left_store, migrated_by, opened_by, recorded_by, refused_by, refuses_pair, refuses_store}
 use Rattle.mcs_session.proofs.session.Session.open.Goals as goal
 
 pub begin-requires-clause-recorded : goal.begin-requires-clause-recorded
@@ -22,7 +22,17 @@ returns-in-Ok-begin-clause-opened g c = λ honest.
     let now = c.in-Ok-open.ensures.counts.honest.1 honest in
     let replayed = rw (c.bytes.ensures, c.in-Ok-Some.field-0-is) at c.in-Ok-Some.ensures.some in
     rw c.in-Ok-begin.ensures.open.1 (
-    opened_by _ _ _ _ _ _ _ _ c.in-Ok-open.ensures.unwritten opened replayed
+    opened_by _ _ _ _ _ _ _ _ opened replayed
+    (λ last o. rw (c.in-Ok-begin.ensures.same last) o)
+    (λ version_1. c.in-Ok-begin.ensures.version_1 version_1 now _ _ (held_on _ _ _ _ opened)))
+
+pub returns-in-Ok-begin-clause-migrated : goal.returns-in-Ok-begin-clause-migrated
+returns-in-Ok-begin-clause-migrated g c = λ honest.
+    let opened = c.in-Ok-open.ensures.opened honest in
+    let now = c.in-Ok-open.ensures.counts.honest.1 honest in
+    let replayed = rw (c.bytes.ensures, c.in-Ok-Some.field-0-is) at c.in-Ok-Some.ensures.some in
+    rw c.in-Ok-begin.ensures.open.1 (
+    migrated_by _ _ _ _ _ _ _ _ opened replayed
     (λ last o. rw (c.in-Ok-begin.ensures.same last) o)
     (λ version_1. c.in-Ok-begin.ensures.version_1 version_1 now _ _ (held_on _ _ _ _ opened)))
 
