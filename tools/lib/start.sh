@@ -102,32 +102,19 @@ runs_here() {
     [ "$status" -eq 2 ]
 }
 
-# Finds the program: `program` is the one that was proved and built here, where the sources are still those that it was built from; else
-# the one in shipped/, where that was built from these sources and runs on this system; else there is none, and `fault` says why.
-find_program() {
-    program=
-    fault=
-    # What is installed has no sources to compare with.
-    if [ -f "$top/installed" ]; then
-        if [ ! -x "$shipped" ]; then
-            fault="it is not there; install it again"
-        elif [ ! -e /lib64/ld-linux-x86-64.so.2 ] && ! runs_here "$shipped"; then
-            fault="it does not run on this system, $(uname -s) on $(uname -m); install it again"
-        else
-            program=$shipped
-        fi
-        return
+# Finds what is installed, which has no sources to compare with.
+find_installed() {
+    if [ ! -x "$shipped" ]; then
+        fault="it is not there; install it again"
+    elif [ ! -e /lib64/ld-linux-x86-64.so.2 ] && ! runs_here "$shipped"; then
+        fault="it does not run on this system, $(uname -s) on $(uname -m); install it again"
+    else
+        program=$shipped
     fi
-    if recall; then return; fi
-    . "$top/tools/lib/sums.sh"
-    kept=
-    if make_remembered; then
-        kept=1
-        (umask 077 && {
-            echo
-            names_of_start
-        } > "$names.$$" && look "$names.$$" | sed 1d > "$seen.$$.before") 2> /dev/null || kept=
-    fi
+}
+
+# Finds the program that was built from these sources, here or before it was shipped.
+find_by_sources() {
     sources=$(sum_of_crate mcs4)
     if is_built "$sources"; then
         program=$built
@@ -143,6 +130,28 @@ find_program() {
             fault=
         fi
     fi
+}
+
+# Finds the program: `program` is the one that was proved and built here, where the sources are still those that it was built from; else
+# the one in shipped/, where that was built from these sources and runs on this system; else there is none, and `fault` says why.
+find_program() {
+    program=
+    fault=
+    if [ -f "$top/installed" ]; then
+        find_installed
+        return
+    fi
+    if recall; then return; fi
+    . "$top/tools/lib/sums.sh"
+    kept=
+    if make_remembered; then
+        kept=1
+        (umask 077 && {
+            echo
+            names_of_start
+        } > "$names.$$" && look "$names.$$" | sed 1d > "$seen.$$.before") 2> /dev/null || kept=
+    fi
+    find_by_sources
     if [ -n "$kept" ]; then
         if [ -n "$program" ]; then (umask 077 && remember) 2> /dev/null || :; fi
         rm -f -- "$names.$$" "$names.$$.half" "$seen.$$" "$seen.$$.before" "$more.$$" "$seen_more.$$"
