@@ -42,47 +42,7 @@ tell_help() {
         say "the manual, docs/MANUAL.md, is not found"
         return
     fi
-    awk -v wanted="$1" -v width=79 '
-        /^#/ { title = $0 }
-        title !~ /^### (Commands|Queries|Places)$/ || !/^\| `/ { next }
-        {
-            split($0, cell, / \| */)
-            head = cell[1]
-            sub(/^\| /, "", head)
-            gsub(/`/, "", head)
-            does = cell[2]
-            gsub(/`/, "", does)
-            if (title ~ /Places/) {
-                if (wanted == "poke") print "    " head ": " does ", " cell[3]
-                next
-            }
-            if (wanted == "") {
-                sub(/ \|$/, "", does)
-                gsub(/ \([^)]*\)/, "", does)
-                if (match(does, /[:;,]| if /)) does = substr(does, 1, RSTART - 1)
-                printf "  %-24s %s\n", head, does
-            } else if (index(" " head, " " wanted " ") || index(" " head, " " wanted ",") || head == wanted) {
-                sub(/ \|$/, "", does)
-                wrap(head ": " does)
-                found = 1
-            }
-        }
-        function wrap(text,    words, n, i, line) {
-            n = split(text, words, / +/)
-            line = words[1]
-            for (i = 2; i <= n; i++) {
-                if (length(line) + 1 + length(words[i]) > width) {
-                    print line
-                    line = "    " words[i]
-                } else line = line " " words[i]
-            }
-            print line
-        }
-        END {
-            if (wanted != "" && !found) print "there is no line " wanted "; help tells which there are"
-            if (wanted == "") print "help LINE tells more of one, as help press; quit, or Ctrl-D, leaves. Texts end with a line that is a dot alone."
-        }
-    ' "$manual" >&2
+    awk -v wanted="$1" -v width=79 -f "$top/tools/lib/line_help.awk" "$manual" >&2
 }
 
 # The keys of the board, for a key that it has not.
