@@ -114,6 +114,9 @@ test("what cannot be read is told, with what the board has", () => {
   const bare = { ...names, face: new Face(WIRED) };
   assert.equal(conditionOf("lamp red on", bare).fault, "the board has no lamp red; its text names no lamps (`# lamp 0: NAME ..`)");
   assert.equal(conditionOf("display 3", bare).fault, "the board's text names no display (`# display 0: 4 digits`)");
+  assert.match(conditionOf("printed 3", bare).fault, /^the board's text names no printer /);
+  const printing = { ...names, face: new Face(`${WIRED}\n# printer rom0.0: ram0.0 0 1 feed\n`) };
+  assert.match(conditionOf("printed 3", printing).fault, /^what is printed comes line by line/);
 });
 
 test("the lines of a test have what a trace does not tell, and no words of their own", () => {

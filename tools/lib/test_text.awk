@@ -385,6 +385,7 @@ function condition_of(words, from, to,    c, word) {
     if (word == "lamps") return lamps_condition(c, words, from + 1, to)
     if (word == "lamp") return lamp_condition(c, words, from, to)
     if (word == "display") return display_condition(c, words, from, to)
+    if (word == "printed") return printed_condition(c, words, from, to)
     if (word == "cycles") return cycles_condition(c, words, from + 1, to)
     if (word ~ /^@/) {
         if (to != from) return bad_condition("a label stands alone: @LABEL")
@@ -415,6 +416,17 @@ function display_condition(c, words, from, to,    i) {
     if (to == from) return bad_condition("it is written as `display TEXT`, as in: display -18")
     condition_kind[c] = "display"
     condition_class[c] = "lamps"
+    condition_want[c] = words[from + 1]
+    for (i = from + 2; i <= to; i++) condition_want[c] = condition_want[c] " " words[i]
+    return c
+}
+
+function printed_condition(c, words, from, to,    i) {
+    if (printer_strobe == "") return bad_condition("the board's text names no printer (`# printer rom0.2: ram0.2 0 1 2 + feed`)")
+    if (to == from) return bad_condition("it is written as `printed TEXT`, the last lines of the paper, as in: printed 12+ 30= 42")
+    some_print = 1
+    condition_kind[c] = condition_class[c] = "printed"
+    condition_bit[c] = to - from
     condition_want[c] = words[from + 1]
     for (i = from + 2; i <= to; i++) condition_want[c] = condition_want[c] " " words[i]
     return c

@@ -1,4 +1,4 @@
-# Runs tests. Needs numbers.awk, face.awk, shone.awk, board.awk, names.awk, known.awk, bench.awk, code.awk, ahead.awk, trace.awk, test_text.awk, and
+# Runs tests. Needs numbers.awk, face.awk, shone.awk, printed.awk, board.awk, names.awk, known.awk, bench.awk, code.awk, ahead.awk, trace.awk, test_text.awk, and
 # account.awk or what takes its place. The environment has the files of the texts, one a line (`tests`), and their names (`tests_named`).
 # The session with board and program is `base.mcs` in the folder; each test has a copy of it, or of the state that it is from.
 
@@ -67,6 +67,7 @@ function run_test(t,    file, i, wrong) {
     elapsed = marked = 0
     down = usual_down
     up = usual_up
+    put_paper(from_state[t])
     open_bench("open", "test.mcs")
     # Where a test puts bytes into ROM, others have another program.
     if (some_change_rom) code_is_read = 0
@@ -148,6 +149,7 @@ function do_step(i,    kind) {
 # The session goes on after its file was copied: nobody writes it meanwhile, since the last answer is there.
 function save_state(name) {
     made_state[name] = ++made_count
+    keep_paper(name)
     copy_file("test.mcs", "state." made_count ".mcs")
 }
 
@@ -157,7 +159,7 @@ function know_code() {
 }
 
 function advance(n) {
-    run_counted(n)
+    run_printed(n)
     if (stop == "code") {
         know("regs")
         return "the run stopped after " elapsed " cycles before a code that is no instruction, at " named_address(hex_number(now["pc"]))
@@ -321,7 +323,7 @@ function until_label(c, end,    came) {
     came = 0
     stop = "end"
     while (elapsed < end && !came && stop != "code") {
-        run_counted(end - elapsed < 100000 ? end - elapsed : 100000)
+        run_printed(end - elapsed < 100000 ? end - elapsed : 100000)
         came = holds(c)
     }
     set_stop("unbreak", condition_number[c])
@@ -334,7 +336,7 @@ function set_stop(word, at) {
 
 # What the condition is about is traced; first for a short time, since it may come soon.
 function until_change(c, end,    n, k, cycle) {
-    if (condition_kind[c] == "display" && is_scanned_display) return until_seen(c, end)
+    if (condition_kind[c] == "printed" || (condition_kind[c] == "display" && is_scanned_display)) return until_seen(c, end)
     know_code()
     forget_places()
     add_places_of(c)
@@ -344,19 +346,19 @@ function until_change(c, end,    n, k, cycle) {
         if (place_count == 0 && n == 1000) n = 1
         if (n > end - elapsed) n = end - elapsed
         cycle = place_count ? cycle_of_change(c, n, end - elapsed) : 0
-        run_counted(cycle ? cycle : n)
+        run_printed(cycle ? cycle : n)
         if (cycle || (n == 1 && holds(c))) break
     }
     return holds(c)
 }
 
-# What an eye sees of a display whose digits are lit by turns: it is looked at every 1,000 cycles.
+# What an eye sees of a display whose digits are lit by turns, and what is printed: it is looked at every 1,000 cycles.
 function until_seen(c, end,    came) {
     know_code()
     came = 0
     stop = "end"
     while (elapsed < end && stop == "end" && !came) {
-        run_counted(end - elapsed < 1000 ? end - elapsed : 1000)
+        run_printed(end - elapsed < 1000 ? end - elapsed : 1000)
         came = holds(c)
     }
     return came
@@ -418,7 +420,7 @@ function holds(c,    is, yes, kind) {
         else if (condition_place[c] == "at least") yes = is >= condition_number[c]
         else yes = is == condition_number[c]
     } else if (kind == "at") yes = is == condition_number[c] && now["owed"] == "0"
-    else if (kind == "display" || kind == "lamp" || kind == "ram") yes = is "" == condition_want[c] ""
+    else if (kind == "display" || kind == "printed" || kind == "lamp" || kind == "ram") yes = is "" == condition_want[c] ""
     else yes = is + 0 == condition_number[c]
     if (condition_not[c]) yes = !yes
     if (yes) return 1
@@ -457,6 +459,7 @@ function bit_of(value, k) {
 function measured(c, kind,    text, i, place) {
     place = condition_place[c]
     if (kind == "cycles") return elapsed - marked
+    if (kind == "printed") return last_printed(condition_bit[c])
     if (kind == "lamps" || kind == "lamp" || kind == "display") {
         know("state")
         if (kind == "lamps") return now["lamps"]

@@ -120,6 +120,16 @@ printf 'test t\nexpect display 3\n' > "$folder/no.test"
 page_too $lock/board.toml $lock/lock.asm "$folder/no.test"
 refuses 1 "test: $folder/no.test:2: the board's text names no display (\`# display 0: 4 digits\`)" \
     tools/test $lock/board.toml $lock/lock.asm "$folder/no.test"
+printf 'test t\nexpect printed 3\n' > "$folder/no.test"
+page_too $lock/board.toml $lock/lock.asm "$folder/no.test"
+refuses 1 "test: $folder/no.test:2: the board's text names no printer (\`# printer rom0.2: ram0.2 0 1 2 + feed\`)" \
+    tools/test $lock/board.toml $lock/lock.asm "$folder/no.test"
+printing=examples/printing_calculator
+printf 'test t\nexpect printed\ntest u\nuntil not printed within 9\n' > "$folder/no.test"
+page_too $printing/board.toml $printing/printing_calculator.asm "$folder/no.test"
+refuses 1 "test: $folder/no.test:2: it is written as \`printed TEXT\`, the last lines of the paper, as in: printed 12+ 30= 42
+test: $folder/no.test:4: it is written as \`printed TEXT\`, the last lines of the paper, as in: printed 12+ 30= 42" \
+    tools/test $printing/board.toml $printing/printing_calculator.asm "$folder/no.test"
 printf 'test \303\244\n' > "$folder/no.test"
 refuses 1 "test: $folder/no.test:1: a byte that is neither a tab nor a printing character of ASCII" \
     tools/test $lock/board.toml $lock/lock.asm "$folder/no.test"

@@ -3,14 +3,14 @@
 
 import { hex, numberOf, upTo } from "../bench/numbers.js";
 import { DisplayText } from "../board/display_text.js";
-import { lampsOf } from "../board/face_board.js";
+import { lampsOf, printerOf } from "../board/face_board.js";
 import { SeenText, hasScannedDisplay } from "../worker/seen_text.js";
 import { wholeDuration } from "./durations.js";
 
 /**
  * @typedef {import("./conditions.js").Names} Names
  * @typedef {import("./conditions.js").Beside} Beside
- * @typedef {{ what: string, isMany?: boolean, want: string, places: string[], beside?: "test" | "owed" | "cycles" | "seen",
+ * @typedef {{ what: string, isMany?: boolean, want: string, places: string[], beside?: "test" | "owed" | "cycles" | "seen" | "printed",
  *   measure: (values: string[], beside: Beside) => string, fits: (is: string, beside: Beside) => boolean,
  *   single?: { read: (values: string[]) => number, wanted: number }, address?: number,
  *   remark?: (is: string) => string }} Term `want` is what it has to be, in words,
@@ -140,6 +140,22 @@ export function displayTerm([, ...words], { face, board }) {
     return { what: "display", want, places: [], beside: "seen", fits, measure: (_, beside) => shownWords(seen.read(beside.seen)) };
   }
   return { what: "display", want, places: ["lamps"], fits, measure: ([marks]) => shownWords(reader.read(marksOf(marks))) };
+}
+
+/**
+ * `printed 12+ 30= 42`: the last lines of the printer's paper, or as much of them; `nothing` where none has ended.
+ * @param {string[]} words
+ * @param {Names} names
+ * @returns {Term}
+ */
+export function printedTerm([, ...words], { face, board }) {
+  if (!printerOf(board, face)) fail("the board's text names no printer (`# printer rom0.2: ram0.2 0 1 2 + feed`)");
+  if (words.length === 0) fail("it is written as `printed TEXT`, the last lines of the paper, as in: printed 12+ 30= 42");
+  const want = words.join(" ");
+  return {
+    what: "printed", want, places: [], beside: "printed", fits: (is) => is === want,
+    measure: (_, beside) => beside.printed.slice(-words.length).join(" ") || "nothing",
+  };
 }
 
 /**

@@ -12,7 +12,7 @@
 // they are refused. testConditionOf takes what a line of a test has, no more and no less than tools/test does.
 
 import { Unreadable, counterTerm, fail, labelAt, placeTerm, portTerm } from "./condition_terms.js";
-import { cyclesTerm, displayTerm, lampTerm, lampsTerm } from "./condition_terms.js";
+import { cyclesTerm, displayTerm, lampTerm, lampsTerm, printedTerm } from "./condition_terms.js";
 
 /**
  * @typedef {import("../bench/answers.js").Board} Board
@@ -21,8 +21,9 @@ import { cyclesTerm, displayTerm, lampTerm, lampsTerm } from "./condition_terms.
  * @typedef {import("./condition_terms.js").Term} Term
  * @typedef {{ face: Face, board: Board, map: Pick<SourceMap, "names" | "nameOf"> }} Names the board's face, its parts as the query
  *   `board` tells them, and the names of the program
- * @typedef {{ test: string, owed: string, cycles: number, seen: string[] }} Beside what no trace tells of an instant: TEST and the owed
- *   cycle, as `regs` tells them, the cycles since the mark of a test, and the answer to what an eye sees
+ * @typedef {{ test: string, owed: string, cycles: number, seen: string[], printed: string[] }} Beside what no trace tells of an instant:
+ *   TEST and the owed cycle, as `regs` tells them, the cycles since the mark of a test, the answer to what an eye sees, and the words that
+ *   were printed
  * @typedef {{ text: string, places: string[], holds: (values: string[], beside?: Beside) => boolean,
  *   tell: (values: string[], beside?: Beside) => string, needs: string[], address: number }} Condition `tell` says what is and what has
  *   to be where it does not hold, "" where it holds; `needs` are the parts of `Beside` that decide it; `address` is where the counter has
@@ -35,7 +36,7 @@ import { cyclesTerm, displayTerm, lampTerm, lampsTerm } from "./condition_terms.
 export const MOST_PLACES = 16;
 
 /** @type {Beside} at the end of an instruction, where nothing else is known */
-const NOTHING = { test: "", owed: "0", cycles: 0, seen: [] };
+const NOTHING = { test: "", owed: "0", cycles: 0, seen: [], printed: [] };
 const PORT = /^(rom\d+|ram\d+\.\d+|chain\d+|rom\d+\.\d+|ram\d+\.\d+\.\d+|chain\d+\.\d+)$/;
 
 /** @type {Record<string, (is: number, than: number) => boolean>} */
@@ -53,6 +54,7 @@ function termOf(words, names) {
   if (word === "lamps") return lampsTerm(words, names);
   if (word === "lamp") return lampTerm(words, names);
   if (word === "display") return displayTerm(words, names);
+  if (word === "printed") return printedTerm(words, names);
   if (word === "cycles") return cyclesTerm(words);
   if (word.startsWith("@")) {
     if (words.length > 1) fail("a label stands alone: @LABEL");
@@ -182,6 +184,7 @@ function freePartOf(text, names) {
   const rest = alone.filter((_, at) => at !== sign);
   const { term, isNot } = partOf(rest, (each) => freeTermOf(each, names));
   if (term.beside === "seen") fail("the digits are lit by turns, so no instant shows a number: `display` is for the lines of a test");
+  if (term.beside === "printed") fail("what is printed comes line by line: `printed` is for the lines of a test");
   if (term.beside) fail(`no run changes ${term.what}, and no trace shows it: it is for the lines of a test`);
   return { term, isNot: isNot !== (alone[sign] === "!=") };
 }

@@ -122,8 +122,9 @@ export async function begun(readable, prepared, testText) {
     const { failure } = await run.run(test, "");
     if (failure && failed === "") failed = `line ${failure.line} of its tests fails: ${failure.text}: ${failure.words}`;
   }
-  const file = run.states.get(state);
-  if (!file) return { readable, words: failed };
+  const saved = run.states.get(state);
+  if (!saved) return { readable, words: failed };
+  const { file } = saved;
   const [told] = subject.engine.ask(file, "state\n").answers;
   const inputs = campaign.inputs.map((input) => asItIs(input, told));
   const there = { inputs, before: linesOf(leading), calls: callsOf(leading, account) };

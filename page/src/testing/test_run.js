@@ -6,6 +6,7 @@ import { Answers, readTraced, valuesOf } from "../worker/tracing.js";
 import { cyclesOf } from "./account.js";
 import { lastInstructions } from "./last_instructions.js";
 import { wordsOfPassed } from "./last_passed.js";
+import { Paper } from "./paper.js";
 import { TestSession } from "./test_session.js";
 import { keysOf } from "./test_text.js";
 
@@ -40,13 +41,15 @@ export class TestRun {
    * @param {Prepared} prepared
    * @param {Account} account
    * @param {() => Promise<void>} breathe
+   * @param {import("../board/face.js").Printer | null} [printer] that tests ask for
    */
-  constructor(engine, prepared, account, breathe) {
+  constructor(engine, prepared, account, breathe, printer = null) {
     this.engine = engine;
     this.prepared = prepared;
     this.account = account;
     this.breathe = breathe;
-    /** @type {Map<string, Uint8Array>} the states that were saved */
+    this.printer = printer;
+    /** @type {Map<string, { file: Uint8Array, codes: number[] }>} the states that were saved, and what was printed by then */
     this.states = new Map();
     this.down = DOWN;
     this.up = UP;
@@ -58,7 +61,7 @@ export class TestRun {
    * @returns {Promise<Outcome>}
    */
   async run({ name, line, from, steps }, savedBy) {
-    const begun = from === "" ? this.prepared.file : this.states.get(from);
+    const begun = from === "" ? { file: this.prepared.file, codes: [] } : this.states.get(from);
     if (!begun) {
       const words = `the state ${from} is not there, since the test \`${savedBy}\` did not come to save it`;
       const [step] = steps;
@@ -66,7 +69,8 @@ export class TestRun {
       return { name, line, cycles: 0, failure };
     }
     this.account.codes = this.prepared.codes;
-    const session = new TestSession(this.engine, begun, this.account, this.breathe);
+    const paper = this.printer && new Paper(this.printer, begun.codes);
+    const session = new TestSession(this.engine, begun.file, this.account, this.breathe, paper);
     // Another test may have put other bytes into ROM.
     if (from !== "") session.readCodes();
     this.down = DOWN;
@@ -146,7 +150,7 @@ export class TestRun {
     if (action.kind === "reset") session.command("reset");
     if (action.kind === "mark") session.marked = session.elapsed;
     if (action.kind === "pace") [this.down, this.up] = [action.down, action.up];
-    if (action.kind === "save") this.states.set(action.state, session.file.slice());
+    if (action.kind === "save") this.states.set(action.state, { file: session.file.slice(), codes: session.codes });
     return "";
   }
 
@@ -251,7 +255,7 @@ export class TestRun {
    * @param {number} end
    */
   async untilChange(session, condition, end) {
-    if (condition.needs.includes("seen")) return this.untilSeen(session, condition, end);
+    if (condition.needs.includes("seen") || condition.needs.includes("printed")) return this.untilSeen(session, condition, end);
     let stop = "end";
     // What no trace tells (TEST, a cycle that is owed) can change with the first cycle alone.
     let piece = condition.places.length > 0 ? 1000 : 1;
@@ -266,7 +270,7 @@ export class TestRun {
   }
 
   /**
-   * What an eye sees of a display whose digits are lit by turns: it is looked at every so many cycles.
+   * What an eye sees of a display whose digits are lit by turns, and what is printed: it is looked at every so many cycles.
    * @param {TestSession} session
    * @param {Condition} condition
    * @param {number} end

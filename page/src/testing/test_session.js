@@ -12,6 +12,7 @@ import { Answers, readTraced, valuesOf } from "../worker/tracing.js";
  * @typedef {import("../debug/conditions.js").Beside} Beside
  * @typedef {import("../debug/conditions.js").Condition} Condition
  * @typedef {import("../worker/engine.js").Engine} Engine
+ * @typedef {import("./paper.js").Paper} Paper
  * @typedef {{ line: string, cycles: number }} Done a command, or a run of so many cycles ("run")
  * @typedef {{ file: Uint8Array, elapsed: number, done: Done[] }} Kept a moment, and what was done since
  */
@@ -25,14 +26,16 @@ export class TestSession {
    * @param {Uint8Array} file how it begins
    * @param {Account} account
    * @param {() => Promise<void>} breathe between pieces of long work; it throws where the work is cancelled
+   * @param {Paper | null} paper what is printed, where a test asks for it
    */
-  constructor(engine, file, account, breathe) {
+  constructor(engine, file, account, breathe, paper = null) {
     this.engine = engine;
     this.file = file.slice();
     /** The session before the last run, whose bytes the next run takes. */
     this.past = file.slice();
     this.account = account;
     this.breathe = breathe;
+    this.paper = paper;
     this.elapsed = 0;
     this.marked = 0;
     /** How many cycles the last run did, 0 where none was done. */
@@ -49,6 +52,11 @@ export class TestSession {
     this.takeRegisters(this.ask("regs\n")[0]);
     account.begin();
     this.beginsOwing = this.owed === "1";
+  }
+
+  /** What was printed, where a test asks for it. */
+  get codes() {
+    return this.paper ? this.paper.codes : [];
   }
 
   /** @param {string} lines */
@@ -99,8 +107,10 @@ export class TestSession {
   /** @param {number} cycles at most so many as a line takes */
   runPiece(cycles) {
     if (cycles >= TOLD_CYCLES) this.spare.set(this.file);
-    const { account, engine, file, past } = this;
-    const answers = new Answers(engine.serve(file, `${account.questions(cycles)}run ${cycles}\nregs\n`, past).answers);
+    const { account, engine, file, paper, past } = this;
+    const asked = paper ? paper.questions(cycles) : "";
+    const answers = new Answers(engine.serve(file, `${asked}${account.questions(cycles)}run ${cycles}\nregs\n`, past).answers);
+    if (paper) paper.take(answers, this.elapsed);
     account.take(answers, this.elapsed, () => new Answers(engine.ask(file, `trace ${cycles}\n`).answers));
     const ran = answers.takeRun();
     if (this.beginsOwing && ran.cycles > 0) {
@@ -148,7 +158,7 @@ export class TestSession {
     const values = places.length > 0 ? valuesOf(new Answers(answers).takeTrace().row) : [];
     const [, , , , , , , owed, , , , test] = answers[answers.length - 1].split(" ", 12);
     /** @type {Beside} */
-    const beside = { test, owed, cycles: this.elapsed - this.marked, seen };
+    const beside = { test, owed, cycles: this.elapsed - this.marked, seen, printed: this.paper ? this.paper.words : [] };
     return { holds: condition.holds(values, beside), told: condition.tell(values, beside) };
   }
 

@@ -41,6 +41,18 @@ export function readTested(engine, texts) {
 }
 
 /**
+ * Whether a condition of some steps is about what is printed.
+ * @param {import("./test_text.js").Step[]} steps
+ * @returns {boolean}
+ */
+function asksForPaper(steps) {
+  return steps.some(({ action }) => {
+    if ("steps" in action) return asksForPaper(action.steps);
+    return "condition" in action && action.condition.needs.includes("printed");
+  });
+}
+
+/**
  * Runs the tests of a text.
  * @param {Engine} engine
  * @param {TestedTexts} texts
@@ -59,7 +71,8 @@ export async function runTests(engine, texts, goesOn) {
     if (!(await goesOn(outcomes.length, tests.length))) throw new Cancelled();
     last = performance.now();
   };
-  const run = new TestRun(engine, prepared, account, breathe);
+  const printer = tests.some(({ steps }) => asksForPaper(steps)) ? prepared.names.face.printer : null;
+  const run = new TestRun(engine, prepared, account, breathe, printer);
   for (const test of tests) {
     const saving = tests.find(({ steps }) => steps.some(({ action }) => action.kind === "save" && action.state === test.from));
     outcomes.push(await run.run(test, saving ? saving.name : ""));

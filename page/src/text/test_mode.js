@@ -8,7 +8,7 @@ import CodeMirror from "codemirror";
  */
 const TESTS = {
   first: /^(test|steps|from|save|press|release|keys|pace|run|until|expect|mark|set|reset|do|repeat|end)$/,
-  others: /^(not|within|lamps?|display|cycles|at|most|least|on|off|none|in|out)$/,
+  others: /^(not|within|lamps?|display|printed|cycles|at|most|least|on|off|none|in|out)$/,
   named: "test",
   whole: /^(test|press|release|keys)$/,
   isFree: false,
