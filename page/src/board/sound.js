@@ -40,7 +40,8 @@ class Player {
     const samples = this.pieces.add(heard);
     const now = this.context.currentTime;
     if (!samples || this.end > now + MOST_AHEAD) return;
-    if (this.end < now) this.end = now + AHEAD;
+    // Before it runs, a context's time stands at 0.
+    if (this.end <= now) this.end = now + AHEAD;
     const buffer = this.context.createBuffer(1, samples.length, REAL_CYCLES);
     buffer.copyToChannel(samples, 0);
     const source = new AudioBufferSourceNode(this.context, { buffer });
