@@ -1,5 +1,5 @@
 """Boards that are drawn in a browser: by mouse alone, by the keyboard alone and by fingers, from an empty bench to four keys, four lamps and a
-running program; each act is an edit of the board's text, which is undone as any other."""
+running program; each act is an edit of the board's text, which is undone as any other. The picture is zoomed."""
 
 import re
 import time

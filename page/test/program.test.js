@@ -3,7 +3,8 @@ import assert from "node:assert/strict";
 import { readFileSync } from "node:fs";
 import { test } from "node:test";
 import { distance, mostAlike } from "../src/text/alike.js";
-import { counted, programTexts, wordsOfAssembled } from "../src/text/assembling.js";
+import { counted } from "../src/bench/numbers.js";
+import { programTexts, wordsOfAssembled } from "../src/text/assembling.js";
 import { namesOf, partsOf, tokensOf, wordAt } from "../src/text/assembly.js";
 import { completeProgram } from "../src/text/completion.js";
 import { instructionsOf } from "../src/help/manual.js";
@@ -168,5 +169,6 @@ test("a program comes into ROM alone, by one text where it has room", () => {
 test("what assembling alone leaves, in words", () => {
   assert.equal(wordsOfAssembled({ size: 3, left: [0x41, 0x42] }, "012"),
     "3 bytes assembled. 2 bytes of before stay in ROM, from 0x041 on. The counter stays at 012; nothing was reset.");
-  assert.equal(counted(1), "1 byte");
+  assert.deepEqual([counted(1, "byte"), counted(0, "byte"), counted(1543, "cycle"), counted(2, "property is", "properties are")],
+    ["1 byte", "0 bytes", "1,543 cycles", "2 properties are"]);
 });

@@ -31,6 +31,16 @@ export function countOf(text, most) {
 }
 
 /**
+ * So many of something, in words: `1 line`, `1,543 cycles`.
+ * @param {number} count
+ * @param {string} one
+ * @param {string} [several]
+ */
+export function counted(count, one, several = `${one}s`) {
+  return `${count.toLocaleString("en")} ${count === 1 ? one : several}`;
+}
+
+/**
  * 0, 1, .. up to a number, which does not belong to it.
  * @param {number} count
  */

@@ -1,6 +1,7 @@
 // What is told to people: refusals, faults, times.
 
 import { BenchRefusal, BenchTrap, Cancelled, WorkerDied } from "./faults.js";
+import { counted } from "./numbers.js";
 
 /** The words of refusals and of faults. */
 export class Words {
@@ -43,7 +44,7 @@ export class Words {
 
 /** @param {number} count of faults in a text */
 export function countOfFaults(count) {
-  return `${count} fault${count === 1 ? "" : "s"}`;
+  return counted(count, "fault");
 }
 
 /**
@@ -54,6 +55,6 @@ export function wordsOfTime(milliseconds) {
   const seconds = Math.round(milliseconds / 1000);
   /** @type {[number, string][]} */
   const parts = [[Math.floor(seconds / 3600), "hour"], [Math.floor(seconds / 60) % 60, "minute"], [seconds % 60, "second"]];
-  const told = parts.filter(([count]) => count > 0).map(([count, word]) => `${count} ${word}${count === 1 ? "" : "s"}`);
+  const told = parts.filter(([count]) => count > 0).map(([count, word]) => counted(count, word));
   return told.slice(0, 2).join(" ");
 }

@@ -3,6 +3,7 @@
 
 import { linesOf } from "../bench/board_form.js";
 import { readBoard } from "../bench/answers.js";
+import { counted } from "../bench/numbers.js";
 import { Face } from "../board/face.js";
 import { BUZZER, bitOf, mayWire, nameOfTarget, readTarget, wiringOf } from "./board_lines.js";
 import {
@@ -224,7 +225,7 @@ function perform(sketch, act) {
       const part = addFromShelf(sketch, act);
       const isDisplay = ["digit", "segments", "scanned"].includes(act.part);
       const digits = act.digits || 1;
-      return [part, isDisplay ? `A display of ${digits} digit${digits > 1 ? "s" : ""} was added` : doneTo(part, "added")];
+      return [part, isDisplay ? `A display of ${counted(digits, "digit")} was added` : doneTo(part, "added")];
     }
     case "copy": {
       const part = copy(sketch, act.part);
@@ -237,11 +238,11 @@ function perform(sketch, act) {
       setPort(sketch, act.line, act.as);
       return [act.line, `Line ${act.line} is an ${act.as === "i" ? "input" : `output that reads as ${act.as}`}`];
     case "chips":
-      return [setChips(sketch, act.chain, act.chips), `Chain ${act.chain} has ${act.chips} chip${act.chips > 1 ? "s" : ""}`];
+      return [setChips(sketch, act.chain, act.chips), `Chain ${act.chain} has ${counted(act.chips, "chip")}`];
     case "rows":
       if (board.matrix && act.rows < board.matrix.rows) deletePart(sketch, `row ${act.rows}`);
       else setRows(sketch, act.rows);
-      return ["keys", `The keys have ${act.rows} row${act.rows > 1 ? "s" : ""}`];
+      return ["keys", `The keys have ${counted(act.rows, "row")}`];
     case "column": return [addColumn(sketch), "The keys have another column"];
     case "delete": {
       const words = deletePart(sketch, act.part);

@@ -1,6 +1,6 @@
 // Parts that come to a board, each at lines that nothing takes yet. Where these are too few, the chips come with it that have them.
 
-import { upTo } from "../bench/numbers.js";
+import { counted, upTo } from "../bench/numbers.js";
 import { Face } from "../board/face.js";
 import { linesOfPrinter } from "../board/face_board.js";
 import { limit } from "../board/face_words.js";
@@ -258,7 +258,7 @@ export function addDisplay(sketch, kind, digits) {
   const at = sketch.board.lamps.length;
   if (kind === "digit") for (let digit = 0; digit < digits; digit++) putLamps(sketch, portOfDigit(sketch));
   else putLamps(sketch, bitsOfSegments(sketch, digits * LINES_OF_DIGIT.segments));
-  const words = `${digits} digit${digits > 1 ? "s" : ""}${kind === "segments" ? " of 7 segments" : ""}`;
+  const words = `${counted(digits, "digit")}${kind === "segments" ? " of 7 segments" : ""}`;
   sketch.edit(addGroup(sketch.draft, "display", at, words));
   return `lamp ${at}`;
 }
@@ -278,7 +278,7 @@ export function addScanned(sketch, digits) {
   /** @type {(board: Board) => string[]} */
   const find = (board) => freeForLamps(board).filter((line) => line.startsWith("ram"));
   putLamps(sketch, need(sketch, count, find, () => addRam(sketch)));
-  const words = `${digits} digit${digits > 1 ? "s" : ""} of 7 segments scanned by ${at + LINES_OF_DIGIT.segments}`;
+  const words = `${counted(digits, "digit")} of 7 segments scanned by ${at + LINES_OF_DIGIT.segments}`;
   sketch.edit(addGroup(sketch.draft, "display", at, words));
   return `lamp ${at}`;
 }

@@ -1,5 +1,6 @@
 // Parts that go from a board, and with each what hangs on it alone: a lamp without a line is none. The others keep their wires.
 
+import { counted } from "../bench/numbers.js";
 import { Face } from "../board/face.js";
 import { isScanned, lampsOf } from "../board/face_board.js";
 import { removeColumns, removeRows, renamePorts, renumberLamps, setWhole } from "./face_edits.js";
@@ -241,14 +242,6 @@ function deleteRow(sketch, row) {
   setRows(sketch, row);
   sketch.edit(removeRows(sketch.draft, row));
   return "";
-}
-
-/**
- * @param {number} count
- * @param {string} what
- */
-function counted(count, what) {
-  return `${count} ${what}${count > 1 ? "s" : ""}`;
 }
 
 /**

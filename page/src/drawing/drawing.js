@@ -3,6 +3,7 @@
 
 import { readBoard, refusalOf } from "../bench/answers.js";
 import { linesOf } from "../bench/board_form.js";
+import { counted } from "../bench/numbers.js";
 import { Face } from "../board/face.js";
 import { sentText } from "../text/text_fault.js";
 import { SHELF, actOn, isReadAlike, whyNotAdded } from "./acts.js";
@@ -174,7 +175,7 @@ export class Drawing {
     this.begun = isAgain ? "" : name;
     if (this.ends.size === 0) this.begun = "";
     const count = this.ends.size;
-    this.say(this.begun ? `A wire begins at ${nameOfPin(name)}: it can end at ${count} pin${count > 1 ? "s" : ""}.` : "");
+    this.say(this.begun ? `A wire begins at ${nameOfPin(name)}: it can end at ${counted(count, "pin")}.` : "");
     return Promise.resolve();
   }
 

@@ -1,5 +1,6 @@
 // What came of looking for what breaks properties, in words: of all, of one, of what was run. Without a document.
 
+import { counted } from "../bench/numbers.js";
 import { Coverage } from "./coverage.js";
 import { grouped, isRight, remarkOf, stepsOf } from "./report.js";
 
@@ -9,13 +10,6 @@ import { grouped, isRight, remarkOf, stepsOf } from "./report.js";
  */
 
 const NEEDS_COMMAND = "not asked: a page can start no command, and tools/explore can";
-
-/**
- * @param {number} count
- * @param {string} one
- * @param {string} many
- */
-const counted = (count, one, many) => `${grouped(count)} ${count === 1 ? one : many}`;
 
 /**
  * How many are broken, and how many goals were not reached.
@@ -34,7 +28,7 @@ function countsOf({ properties }) {
  */
 export function wordsOfFigures({ seeds, steps, seconds, states }) {
   const rate = seconds > 0 ? `, ${grouped(steps / seconds)} a second` : "";
-  return `${counted(steps, "step", "steps")}${rate}; ${counted(states, "state", "states")} told apart; seed ${seeds.join(" ")}.`;
+  return `${stepsOf(steps)}${rate}; ${counted(states, "state")} told apart; seed ${seeds.join(" ")}.`;
 }
 
 /**

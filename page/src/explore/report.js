@@ -1,5 +1,6 @@
 // What a search has come to, and its output as TAP. Reports of searches with other seeds, by other processes or machines, are joined.
 
+import { counted } from "../bench/numbers.js";
 import { Coverage } from "./coverage.js";
 
 /**
@@ -25,7 +26,7 @@ export const grouped = (number) => Math.round(number).toLocaleString("en");
  * `1 step`, `1,204 steps`.
  * @param {number} count
  */
-export const stepsOf = (count) => `${grouped(count)} ${count === 1 ? "step" : "steps"}`;
+export const stepsOf = (count) => counted(count, "step");
 
 /**
  * The shorter one of two finds, by steps and then by time.

@@ -4,7 +4,7 @@
 import { wordsOfCycles } from "../time/cycles.js";
 import { wordsOfPlace } from "../debug/stop_words.js";
 import { Cell, Switch, block, button, element, onClick } from "../ui/dom.js";
-import { countOf, hex } from "../bench/numbers.js";
+import { countOf, counted, hex } from "../bench/numbers.js";
 import { markOf } from "./breakpoint_marks.js";
 
 /**
@@ -98,7 +98,7 @@ export class BreakpointsView {
     /** @type {[HTMLInputElement, string][]} */
     const fields = [[row.condition, condition], [row.from, String(from)], [row.note, note]];
     for (const [field, value] of fields) if (field !== document.activeElement) field.value = value;
-    row.hits.set(hits > 0 ? `${hits.toLocaleString("en")} hit${hits === 1 ? "" : "s"}` : "");
+    row.hits.set(hits > 0 ? counted(hits, "hit") : "");
     row.fault.set(fault && `It stops nothing: ${fault}.`);
     row.isBroken.set(fault !== "");
   }
@@ -107,7 +107,7 @@ export class BreakpointsView {
   showHits({ list: { all } }) {
     for (const { id, hits } of all) {
       const row = this.rows.get(id);
-      if (row && hits > 0) row.hits.set(`${hits.toLocaleString("en")} hit${hits === 1 ? "" : "s"}`);
+      if (row && hits > 0) row.hits.set(counted(hits, "hit"));
     }
   }
 

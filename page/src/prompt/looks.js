@@ -1,6 +1,6 @@
 // What a prompt shows of a session: the source round a line, registers, RAM, ports, ROM, calls, breakpoints.
 
-import { hex, numberOf, upTo } from "../bench/numbers.js";
+import { counted, hex, numberOf, upTo } from "../bench/numbers.js";
 import { linesOfBreakpoints } from "../debug/breakpoint_lines.js";
 import { Standing } from "../debug/standing.js";
 import { wordsOfPlace } from "../debug/stop_words.js";
@@ -142,7 +142,7 @@ export function breakpointLines({ breakpoints }) {
   if (all.length === 0) return "there are no breakpoints";
   const lines = linesOfBreakpoints(kept);
   return all.map(({ id, hits }, at) => (
-    `${id}  ${lines[at].slice("break ".length)}${hits > 0 ? `, ${hits} hit${hits === 1 ? "" : "s"}` : ""}`)).join("\n");
+    `${id}  ${lines[at].slice("break ".length)}${hits > 0 ? `, ${counted(hits, "hit")}` : ""}`)).join("\n");
 }
 
 /**

@@ -1,5 +1,6 @@
 // What texts are, in words for someone who has not seen them yet.
 
+import { counted } from "../bench/numbers.js";
 import { Face } from "../board/face.js";
 import { headOf } from "../board/face_words.js";
 
@@ -31,21 +32,13 @@ export function titleOf(boardText, programText) {
 }
 
 /**
- * @param {number} count
- * @param {string} word
- */
-function counted(count, word) {
-  return count === 0 ? [] : [`${count} ${word}${count === 1 ? "" : "s"}`];
-}
-
-/**
  * What is on a board, as `2 ROMs, 1 RAM chip, 3 lamps`.
  * @param {Board} board
  */
 export function wordsOfBoard({ roms, banks, chains, lamps, rows, columns }) {
   const chips = banks.reduce((sum, bank) => sum + bank.chips, 0);
   const shifts = chains.reduce((sum, chain) => sum + chain.chips, 0);
-  const parts = [...counted(roms.length, "ROM"), ...counted(chips, "RAM chip"), ...counted(shifts, "shift register"),
-    ...counted(lamps.length, "lamp"), ...counted(rows * columns, "key")];
-  return parts.length === 0 ? "no chip yet" : parts.join(", ");
+  /** @type {[number, string][]} */
+  const parts = [[roms.length, "ROM"], [chips, "RAM chip"], [shifts, "shift register"], [lamps.length, "lamp"], [rows * columns, "key"]];
+  return parts.filter(([count]) => count > 0).map(([count, word]) => counted(count, word)).join(", ") || "no chip yet";
 }

@@ -1,10 +1,10 @@
 // ROM in files: an image of a file comes into ROM, and what stands in ROM goes into one.
 
 import { readBoard } from "../bench/answers.js";
-import { hex } from "../bench/numbers.js";
+import { counted, hex } from "../bench/numbers.js";
 import { NONE, PAGES, PAGE_BYTES, bytesOf, listsOf } from "../bench/rom_bytes.js";
 import { hexOf } from "../bench/rom_image.js";
-import { counted, textsOfBytes } from "../text/assembling.js";
+import { textsOfBytes } from "../text/assembling.js";
 
 /**
  * What it calls: answers to questions; lines are served, which gives the first answer, or null where they failed; time is stopped.
@@ -43,7 +43,7 @@ export class RomFiles {
     const first = bytes.findIndex((byte) => byte !== NONE);
     const count = bytes.filter((byte) => byte !== NONE).length;
     const stand = count === 1 ? "stands" : "stand";
-    return answer === null ? "" : `${counted(count)} of ${name} ${stand} in ROM, from ${hex(first, 3)} on; nothing was reset.`;
+    return answer === null ? "" : `${counted(count, "byte")} of ${name} ${stand} in ROM, from ${hex(first, 3)} on; nothing was reset.`;
   }
 
   /** The bytes of all ROMs that the board has. A list goes on behind the end of a ROM. */

@@ -1,5 +1,7 @@
 // The texts of the editors, as the session that is shown has them: they are kept, and one that is replaced can be brought back.
 
+import { counted } from "../bench/numbers.js";
+
 /**
  * @typedef {import("../ui/ask_view.js").AskView} AskView
  * @typedef {import("./kept_session.js").KeptSession} KeptSession
@@ -30,7 +32,7 @@ const EDIT_TIME = 600;
  */
 export function wordsOfLines(text) {
   const count = text === "" ? 0 : text.replace(/\n$/, "").split("\n").length;
-  return `${count.toLocaleString("en")} line${count === 1 ? "" : "s"}`;
+  return counted(count, "line");
 }
 
 export class TextsController {

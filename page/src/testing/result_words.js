@@ -1,5 +1,6 @@
 // What came of tests, in words: of all, of one, of what was counted. Without a document.
 
+import { counted } from "../bench/numbers.js";
 import { wordsOfCoverage } from "./coverage.js";
 
 /**
@@ -12,21 +13,13 @@ import { wordsOfCoverage } from "./coverage.js";
 const WHERE = { board: "Board", program: "Source", tests: "Tests", properties: "Properties" };
 
 /**
- * @param {number} count
- * @param {string} what
- */
-function several(count, what) {
-  return `${count.toLocaleString("en")} ${what}${count === 1 ? "" : "s"}`;
-}
-
-/**
  * How many passed, and how many did not.
  * @param {Outcome[]} outcomes
  */
 export function wordsOfOutcomes(outcomes) {
   const failed = outcomes.filter(({ failure }) => failure).length;
-  if (failed === 0) return outcomes.length === 1 ? "The test passed." : `All ${several(outcomes.length, "test")} passed.`;
-  return `${failed} of ${several(outcomes.length, "test")} failed.`;
+  if (failed === 0) return outcomes.length === 1 ? "The test passed." : `All ${counted(outcomes.length, "test")} passed.`;
+  return `${failed} of ${counted(outcomes.length, "test")} failed.`;
 }
 
 /**
@@ -55,7 +48,7 @@ export function wordsOfFaults(faults, wordsOfRefusal) {
  */
 export function wordsOfTime({ cycles }) {
   const time = cycles * 0.0108;
-  return `${several(cycles, "cycle")}, ${time < 1000 ? `${time.toFixed(1)} ms` : `${(time / 1000).toFixed(2)} s`}`;
+  return `${counted(cycles, "cycle")}, ${time < 1000 ? `${time.toFixed(1)} ms` : `${(time / 1000).toFixed(2)} s`}`;
 }
 
 /**
@@ -65,6 +58,6 @@ export function wordsOfTime({ cycles }) {
 export function wordsOfCounts({ coverage }) {
   if (!coverage || coverage.instructions === 0) return "";
   const ways = coverage.lines.filter(({ isJump, count, taken }) => isJump && count > 0 && (taken === 0 || taken === count)).length;
-  const oneWay = ways === 0 ? "" : ` ${several(ways, "jump")} always went one way.`;
+  const oneWay = ways === 0 ? "" : ` ${counted(ways, "jump")} always went one way.`;
   return `${wordsOfCoverage(coverage)}.${oneWay} The counts stand beside the source.`;
 }

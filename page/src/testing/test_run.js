@@ -1,6 +1,6 @@
 // Runs tests: each on a session of its own in memory, as tools/test does. Without a document: the page's worker and node call it.
 
-import { hex } from "../bench/numbers.js";
+import { counted, hex } from "../bench/numbers.js";
 import { LONGEST_RUN } from "../worker/key_queue.js";
 import { Answers, readTraced, valuesOf } from "../worker/tracing.js";
 import { cyclesOf } from "./account.js";
@@ -183,7 +183,7 @@ export class TestRun {
   choose(session, { word, place, probe, keys }) {
     const value = parseInt(valuesOf(new Answers(session.ask(`trace 1 ${probe}\n`)).takeTrace().row)[0], 16);
     const what = `${place} is ${value}, and `;
-    if (keys.length > 0) return { key: keys[value], words: `${what}${word} has ${keys.length} key${keys.length === 1 ? "" : "s"}` };
+    if (keys.length > 0) return { key: keys[value], words: `${what}${word} has ${counted(keys.length, "key")}` };
     const own = keysOf(this.prepared.names.face);
     const digit = hex(value, 1);
     const key = own.get(String(value)) || own.get(digit);

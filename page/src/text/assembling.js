@@ -1,6 +1,6 @@
 // The lines by which a program comes into ROM with nothing else beside it: as few commands as can be.
 
-import { hex } from "../bench/numbers.js";
+import { counted, hex } from "../bench/numbers.js";
 import { LONGEST_TEXT } from "./text_fault.js";
 
 /**
@@ -91,11 +91,6 @@ export function programTexts(program, addresses) {
  */
 export function wordsOfAssembled({ size, left }, counter) {
   const first = left.length > 0 ? `0x${hex(left[0], 3)}` : "";
-  const stay = `${counted(left.length)} of before ${left.length === 1 ? "stays" : "stay"} in ROM, from ${first} on.`;
-  return `${counted(size)} assembled.${left.length > 0 ? ` ${stay}` : ""} The counter stays at ${counter}; nothing was reset.`;
-}
-
-/** @param {number} count */
-export function counted(count) {
-  return `${count.toLocaleString("en")} byte${count === 1 ? "" : "s"}`;
+  const stay = `${counted(left.length, "byte")} of before ${left.length === 1 ? "stays" : "stay"} in ROM, from ${first} on.`;
+  return `${counted(size, "byte")} assembled.${left.length > 0 ? ` ${stay}` : ""} The counter stays at ${counter}; nothing was reset.`;
 }

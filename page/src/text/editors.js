@@ -1,8 +1,9 @@
 // Both editors and the bench: their texts are tried while they are typed, and sent.
 
 import { readBoard, refusalOf } from "../bench/answers.js";
+import { counted } from "../bench/numbers.js";
 import { AllFaultsOfTexts, faultsOfFace, refusalOfText } from "./all_faults.js";
-import { counted, programTexts, wordsOfAssembled } from "./assembling.js";
+import { programTexts, wordsOfAssembled } from "./assembling.js";
 import { defineAssemblyMode } from "./assembly_mode.js";
 import { completeBoard } from "./board_completion.js";
 import { completeProgram } from "./completion.js";
@@ -168,7 +169,8 @@ export class Editors {
     const answer = await this.calls.act(`${lines}reset\n`);
     if (answer === null) return;
     const refusal = refusalOf(answer);
-    this.program.tell(refusal ? this.wordsOfRefusal(refusal) : `${counted(size)} assembled, the rest of ROM is 0. It runs from 000 on.`);
+    const done = `${counted(size, "byte")} assembled, the rest of ROM is 0. It runs from 000 on.`;
+    this.program.tell(refusal ? this.wordsOfRefusal(refusal) : done);
     if (refusal) return;
     await this.calls.assembled(true);
     this.calls.run();

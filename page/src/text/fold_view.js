@@ -1,5 +1,6 @@
 // Parts of a text that fold away: by the margin, or by keys.
 
+import { counted } from "../bench/numbers.js";
 import { element } from "../ui/dom.js";
 import { headOf, lastFolded } from "./folding.js";
 
@@ -27,7 +28,7 @@ function linesOf(editor) {
  * @param {number} count
  */
 function makeWidget(count) {
-  return element("span", { className: "folded-lines", title: "a click unfolds them" }, `… ${count} line${count === 1 ? "" : "s"}`);
+  return element("span", { className: "folded-lines", title: "a click unfolds them" }, `… ${counted(count, "line")}`);
 }
 
 /**

@@ -1,5 +1,6 @@
 // Names in a text: to where one is defined, all places of it, another name in all of them; and a line by its number.
 
+import { counted } from "../bench/numbers.js";
 import CodeMirror from "codemirror";
 import { element, onClick } from "../ui/dom.js";
 import { FieldBar } from "./field_bar.js";
@@ -63,7 +64,7 @@ export class NameView {
     const places = referencesOf(lines, name);
     const close = element("button", { type: "button" }, "Close");
     onClick(close, () => this.close());
-    this.list.replaceChildren(element("li", {}, `${name} stands at ${places.length} place${places.length === 1 ? "" : "s"} `, close),
+    this.list.replaceChildren(element("li", {}, `${name} stands at ${counted(places.length, "place")} `, close),
       ...places.map((place) => this.row(place, lines[place.line - 1])));
     this.list.hidden = false;
   }
@@ -104,7 +105,7 @@ export class NameView {
         text.editor.replaceRange(wanted, CodeMirror.Pos(line - 1, from), CodeMirror.Pos(line - 1, to), "rename");
       }
     });
-    calls.tell(`${name} is ${wanted} now, at ${places.length} place${places.length === 1 ? "" : "s"}.`);
+    calls.tell(`${name} is ${wanted} now, at ${counted(places.length, "place")}.`);
     return "";
   }
 

@@ -1,5 +1,6 @@
 // Words about the words of a text, for one who points at them or has the caret there: from the manual's tables.
 
+import { counted } from "../bench/numbers.js";
 import { PAIR, REGISTER, namesOf, partsOf, wordAt } from "./assembly.js";
 import { plain, rowsOf } from "../help/manual.js";
 
@@ -13,10 +14,9 @@ import { plain, rowsOf } from "../help/manual.js";
  * @param {Instruction} instruction
  */
 export function wordsOfInstruction({ form, words, cycles, does }) {
-  /** @type {(count: string, what: string) => string} */
-  const counted = (count, what) => `${count} ${what}${count === "1" ? "" : "s"}`;
   const carry = /\bCY\b|carry|borrow/.test(does) ? "" : ". The carry stays";
-  return `${form}: ${counted(words, "word")}, ${counted(cycles, "cycle")}. ${does[0].toUpperCase()}${does.slice(1)}${carry}.`;
+  const size = `${counted(Number(words), "word")}, ${counted(Number(cycles), "cycle")}`;
+  return `${form}: ${size}. ${does[0].toUpperCase()}${does.slice(1)}${carry}.`;
 }
 
 /**

@@ -1,5 +1,7 @@
 // Cycles for people: how many since a reset, since the last stop and between two marks, with the time that a real 4004 takes for them.
 
+import { counted } from "../bench/numbers.js";
+
 /** A 4004 takes so many microseconds for a cycle: eight periods of 1.35. */
 const MICROSECONDS = 10.8;
 /** The same in milliseconds. */
@@ -25,7 +27,7 @@ export function timeOfCycles(cycles) {
  * @param {number} cycles
  */
 export function wordsOfCycles(cycles) {
-  return `${cycles.toLocaleString("en")} ${cycles === 1 ? "cycle" : "cycles"}, ${timeOfCycles(cycles)}`;
+  return `${counted(cycles, "cycle")}, ${timeOfCycles(cycles)}`;
 }
 
 export class Cycles {

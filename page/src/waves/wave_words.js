@@ -1,6 +1,6 @@
 // What is told of recordings, in words.
 
-import { countOf } from "../bench/numbers.js";
+import { countOf, counted } from "../bench/numbers.js";
 
 /**
  * @typedef {import("./waves.js").Instruction} Instruction
@@ -39,7 +39,7 @@ export function microseconds(cycles) {
 
 /** @param {number} cycles */
 export function cyclesText(cycles) {
-  return `${grouped(cycles)} ${cycles === 1 ? "cycle" : "cycles"}`;
+  return counted(cycles, "cycle");
 }
 
 /**
