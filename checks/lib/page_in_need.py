@@ -218,12 +218,13 @@ def check_little_memory(page, folder):
         browser.go(page.as_uri())
         until_ready(browser)
         stop_time(browser)
-        before = lines_answered(browser, "seq")
+        # What ran may come into the log meanwhile.
+        before = lines_answered(browser, "seq").split()[-1]
         browser.script("document.getElementById('lines').value = 'poke r5 9\\nasm\\n' + '; a comment of so many letters\\n'.repeat(150000)")
         browser.click("#send")
         comes(browser, "lack of memory in the module is told", NOTICE, re.compile("no 90: there was no memory.*The session is as it was"), 30)
         browser.script("document.getElementById('lines').value = ''")
-        verdict("and the session is as it was", lines_answered(browser, "seq"), before)
+        verdict("and the session is as it was", lines_answered(browser, "seq").split()[-1], before)
     finally:
         browser.end()
 
