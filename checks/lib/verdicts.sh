@@ -1,6 +1,6 @@
 # What the checks in shell share: verdicts are counted, and those that are wrong are told; parts of a check can be run alone. A check reads
 # this by `.`, after it has set `top`, the folder of the repository.
-# shellcheck shell=sh
+# shellcheck shell=sh disable=SC1090,SC2154
 
 check=checks/${0##*/}
 passed=0
@@ -98,8 +98,10 @@ run_parts() {
             ;;
         esac
     done
+    # shellcheck disable=SC2086
+    if [ $# -eq 0 ]; then set -- $parts; fi
     whole=$folder
-    for part in ${@:-$parts}; do run_part; done
+    for part in "$@"; do run_part; done
 }
 
 run_part() {
