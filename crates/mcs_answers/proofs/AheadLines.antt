@@ -9,7 +9,8 @@ use Rattle.mcs_model.specs.declared.stop.Stop.{Stop}
 use Rattle.mcs_model.specs.declared.regs.Regs.{Regs}
 use Rattle.mcs_model.specs.BenchState.{BenchState}
 use Rattle.mcs_model.specs.Command.{machine_of, stops_of}
-use Rattle.mcs_model.specs.QueryText.{address_text, as_line}
+use Rattle.mcs_model.specs.QueryText.{address_text}
+use Rattle.mcs_model.specs.TextLines.{as_line}
 use Rattle.mcs_model.specs.Running.{Machine, InstructionRan, after_cycles}
 use Rattle.mcs_model.proofs.ListLemmas.{range_more}
 use Rattle.mcs_ahead.specs.Ahead.{Begun, begins, cycle_at, is_branch, jumps_at, runs_at}

@@ -8,7 +8,9 @@ use Rattle.std.proofs.lemmas.Bool.{or_parts}
 use Rattle.mcs_model.specs.declared.board.BoardParts.{BoardParts}
 use Rattle.mcs_model.specs.Boards.{board_fault_of}
 use Rattle.mcs_model.specs.Bus.{BusState, chips_of}
-use Rattle.mcs_model.specs.QueryText.{as_line, chip_lines, digit_text, port_line, ram_lines, register_line}
+use Rattle.mcs_model.specs.QueryText.{chip_lines, digit_text, ram_lines, register_line}
+use Rattle.mcs_answers.specs.PortPieces.{port_line}
+use Rattle.mcs_model.specs.TextLines.{as_line}
 use Rattle.mcs_wiring.proofs.PartTexts.{text_of-flat_map}
 use Rattle.mcs_wiring.proofs.QueryLines.{joined_lines}
 use Rattle.mcs_model.proofs.SoundBoards.{sound}

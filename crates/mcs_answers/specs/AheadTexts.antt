@@ -5,7 +5,8 @@ use Rattle.std.specs.List.{flat_map, range_with_len}
 use Rattle.std.specs.Str.{bytes_eq}
 use Rattle.mcs_model.specs.BenchState.{BenchState}
 use Rattle.mcs_model.specs.Command.{machine_of, stops_of}
-use Rattle.mcs_model.specs.QueryText.{address_text, as_line}
+use Rattle.mcs_model.specs.QueryText.{address_text}
+use Rattle.mcs_model.specs.TextLines.{as_line}
 use Rattle.mcs_model.specs.Running.{Machine, run_length, run_stop}
 use Rattle.mcs_ahead.specs.declared.probe.Probe.{Probe}
 use Rattle.mcs_ahead.specs.Ahead.{Begun, begun_in, is_branch, jumps_at, runs_at}

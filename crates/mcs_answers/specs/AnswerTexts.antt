@@ -1,5 +1,5 @@
 -- The texts of answers, each line with its line feed. (Our own choice.)
-use Rattle.std.specs.Prelude.{ℕ, List, [], ◌∷◌, ◌++◌, codes}
+use Rattle.std.specs.Prelude.{ℕ, List, [], ◌++◌, codes}
 use Rattle.std.specs.Fmt.{decimal}
 use Rattle.mcs_model.specs.declared.command.Reply.{Reply}
 use Rattle.mcs_model.specs.declared.command.Reply.TheVariants.{Done, Loaded, Ran}
@@ -8,15 +8,13 @@ use Rattle.mcs_model.specs.declared.stop.Stop.TheVariants.{Outside, Breakpoint, 
 use Rattle.mcs_model.specs.declared.query.Query.{Query}
 use Rattle.mcs_model.specs.BenchState.{BenchState}
 use Rattle.mcs_model.specs.QueryText.{text_of_query}
+use Rattle.mcs_model.specs.TextLines.{as_line}
 use Rattle.mcs_source.specs.Text.{listing_text}
 use Rattle.mcs_wiring.specs.BoardText.{query_lines, text_of}
 
-abbrev pub line_feed : List ℕ
-line_feed = 10 ∷ []
-
 -- the first line of a transcript
 abbrev pub session_text : BenchState → List ℕ
-session_text s = codes "session " ++ (decimal s.seq ++ line_feed)
+session_text s = codes "session " ++ as_line (decimal s.seq)
 
 -- why a run or a step stopped
 abbrev pub stop_name : Stop → List ℕ
@@ -34,20 +32,20 @@ reply_text (Ran cycles stop) = codes " ran " ++ (decimal cycles ++ (codes " " ++
 
 -- the answer to an accepted command, from its reply and the state after it
 abbrev pub ok_text : Reply → BenchState → List ℕ
-ok_text r s = codes "ok " ++ (decimal s.seq ++ (reply_text r ++ line_feed))
+ok_text r s = codes "ok " ++ (decimal s.seq ++ as_line (reply_text r))
 
 -- the answer to what is refused
 abbrev pub no_text : ℕ → List ℕ
-no_text number = codes "no " ++ (decimal number ++ line_feed)
+no_text number = codes "no " ++ as_line (decimal number)
 
 -- the answer to a text that is refused for what one of its lines says; its lines are counted from 1
 abbrev pub no_line_text : ℕ → ℕ → List ℕ
 no_line_text number line =
-    codes "no " ++ (decimal number ++ (codes " line " ++ (decimal line ++ line_feed)))
+    codes "no " ++ (decimal number ++ (codes " line " ++ as_line (decimal line)))
 
 -- the answer to a query
 abbrev pub query_answer : Query → BenchState → List ℕ
-query_answer q s = text_of_query q s ++ line_feed
+query_answer q s = as_line (text_of_query q s)
 
 -- the answer to `list`
 abbrev pub listing_answer : ℕ → ℕ → BenchState → List ℕ

@@ -1,6 +1,6 @@
 pub mod AnswerTexts
 pub mod Commas
-pub mod Keys
+pub mod PortPieces
 pub mod Version1
 pub mod AheadTexts
 pub mod AheadLaws

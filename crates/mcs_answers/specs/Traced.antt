@@ -4,7 +4,8 @@ use Rattle.std.specs.Fmt.{decimal}
 use Rattle.std.specs.List.{flat_map}
 use Rattle.mcs_model.specs.BenchState.{BenchState}
 use Rattle.mcs_model.specs.Command.{machine_of, stops_of}
-use Rattle.mcs_model.specs.QueryText.{address_text, as_line}
+use Rattle.mcs_model.specs.QueryText.{address_text}
+use Rattle.mcs_model.specs.TextLines.{as_line}
 use Rattle.mcs_model.specs.Running.{run_length, run_stop}
 use Rattle.mcs_ahead.specs.declared.probe.Probe.{Probe}
 use Rattle.mcs_answers.specs.declared.traces.Traced.{Traced}

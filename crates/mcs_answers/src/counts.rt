@@ -3,7 +3,8 @@ ghost use Rattle.std.specs.Prelude.{◌≡◌, ◌+◌, ◌<◌, ◌≤◌, ◌+
 ghost use Rattle.std.specs.Fmt.{decimal};
 ghost use Rattle.std.specs.List.{flat_map};
 ghost use Rattle.mcs_model.specs.Command.{machine_of};
-ghost use Rattle.mcs_model.specs.QueryText.{address_text, as_line};
+ghost use Rattle.mcs_model.specs.QueryText.{address_text};
+ghost use Rattle.mcs_model.specs.TextLines.{as_line};
 ghost use Rattle.mcs_ahead.specs.Ahead.{is_branch};
 ghost use Rattle.mcs_answers.specs.AheadTexts.{count_answer};
 

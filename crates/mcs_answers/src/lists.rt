@@ -3,8 +3,8 @@ ghost use Rattle.std.specs.Prelude.{◌≡◌, ◌+◌, ◌*◌, ◌++◌, ◌�
 ghost use Rattle.std.specs.List.{flat_map};
 ghost use Rattle.arrayvec.specs.ArrayVec.{array_vec_len};
 ghost use Rattle.mcs_model.specs.Levels.{level};
+ghost use Rattle.mcs_model.specs.TextLines.{as_line};
 ghost use Rattle.mcs_model.specs.QueryText.{address_text, breaks_text, lamp_mark, lamps_text, or_dash, watch_text, watches_text};
-ghost use Rattle.mcs_answers.specs.AnswerTexts.{line_feed};
 
 use crate::digits::{put, put_address, put_byte, put_digit};
 use crate::size::{ANSWER_BYTES, LAMP_BYTES};
@@ -61,7 +61,7 @@ pub(crate) fn add_lamps(answer: &mut ArrayVec<u8, ANSWER_BYTES>, bench: &Bench)
 /// Tells the levels of the lamps, in an empty answer.
 pub fn put_lamps(answer: &mut ArrayVec<u8, ANSWER_BYTES>, bench: &Bench)
     requires { answer.old.items ≡ [] }
-    ensures { answer.new.items ≡ lamps_text bench.now.bus ++ line_feed }
+    ensures { answer.new.items ≡ as_line (lamps_text bench.now.bus) }
 {
     add_lamps(answer, bench);
     put(answer, b"\n");
@@ -82,7 +82,7 @@ fn put_addresses(answer: &mut ArrayVec<u8, ANSWER_BYTES>, list: &[Addr])
 /// Tells the breakpoints, in an empty answer.
 pub fn put_breaks(answer: &mut ArrayVec<u8, ANSWER_BYTES>, bench: &Bench)
     requires { answer.old.items ≡ [] }
-    ensures { answer.new.items ≡ breaks_text bench.now.breakpoints ++ line_feed }
+    ensures { answer.new.items ≡ as_line (breaks_text bench.now.breakpoints) }
 {
     match bench.breaks() {
         [] => put(answer, b"breaks -\n"),
@@ -120,7 +120,7 @@ fn put_places(answer: &mut ArrayVec<u8, ANSWER_BYTES>, list: &[Addr])
 /// Tells the watched characters, in an empty answer.
 pub fn put_watches(answer: &mut ArrayVec<u8, ANSWER_BYTES>, bench: &Bench)
     requires { answer.old.items ≡ [] }
-    ensures { answer.new.items ≡ watches_text bench.now.watches ++ line_feed }
+    ensures { answer.new.items ≡ as_line (watches_text bench.now.watches) }
 {
     match bench.watches() {
         [] => put(answer, b"watches -\n"),

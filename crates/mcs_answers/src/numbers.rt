@@ -2,7 +2,8 @@
 ghost use Rattle.std.specs.Prelude.{◌≡◌, ◌+◌, ◌++◌, ◌≤◌, [], length};
 ghost use Rattle.std.specs.Fmt.{decimal};
 ghost use Rattle.arrayvec.specs.ArrayVec.{array_vec_len};
-ghost use Rattle.mcs_answers.specs.AnswerTexts.{line_feed, no_line_text, ok_text, reply_text, stop_name};
+ghost use Rattle.mcs_answers.specs.AnswerTexts.{no_line_text, ok_text, reply_text, stop_name};
+ghost use Rattle.mcs_model.specs.TextLines.{as_line};
 
 use crate::digits::{put, put_decimal};
 use crate::size::ANSWER_BYTES;
@@ -25,7 +26,7 @@ pub(crate) fn put_counted(answer: &mut ArrayVec<u8, ANSWER_BYTES>, word: &[u8], 
 pub fn put_number(answer: &mut ArrayVec<u8, ANSWER_BYTES>, word: &[u8], n: u64)
     requires empty { answer.old.items ≡ [] }
     requires short { length word.now ≤ 20 }
-    ensures { answer.new.items ≡ word.now ++ (decimal n ++ line_feed) }
+    ensures { answer.new.items ≡ word.now ++ as_line (decimal n) }
 {
     put_counted(answer, word, n);
     put(answer, b"\n");

@@ -5,9 +5,9 @@ ghost use Rattle.std.specs.List.{flat_map, join_with_byte, range_with_len};
 ghost use Rattle.arrayvec.specs.ArrayVec.{array_vec_len};
 ghost use Rattle.mcs_model.specs.declared.board.KeyMatrix.{KeyMatrix};
 ghost use Rattle.mcs_model.specs.Boards.{chain_bits, chain_count, chain_part, has_key};
-ghost use Rattle.mcs_model.specs.QueryText.{as_line, bank_src_text, bit_text, chain_line, key_lines, ports_lines, rom_port_lines, row_keys, spaced_or_dash, src_line};
-ghost use Rattle.mcs_answers.specs.AnswerTexts.{line_feed};
-ghost use Rattle.mcs_answers.specs.Keys.{key_text};
+ghost use Rattle.mcs_model.specs.QueryText.{bit_text, chain_line, ports_lines};
+ghost use Rattle.mcs_model.specs.TextLines.{as_line, line_feed};
+ghost use Rattle.mcs_answers.specs.PortPieces.{bank_src_text, key_pieces, key_text, pieces_or_dash, rom_port_lines, row_keys, src_pieces};
 
 use crate::digits::{put, put_byte, put_decimal, put_digit};
 use crate::size::{ANSWER_BYTES, CHAIN_BYTES, KEY_BYTES, ROM_BYTES, SRC_BYTES};
@@ -45,7 +45,7 @@ fn put_bank_src(answer: &mut ArrayVec<u8, ANSWER_BYTES>, bench: &Bench, bank: u8
 /// Adds the line of the SRC bytes: that of the ROMs, and those of the banks that have chips.
 fn put_src(answer: &mut ArrayVec<u8, ANSWER_BYTES>, bench: &Bench)
     requires { array_vec_len answer.old + SRC_BYTES ≤ ANSWER_BYTES }
-    ensures text { answer.new.items ≡ answer.old.items ++ as_line (src_line bench.now.bus) }
+    ensures text { answer.new.items ≡ answer.old.items ++ as_line (src_pieces bench.now.bus) }
     ensures count { length answer.new.items ≤ length answer.old.items + SRC_BYTES }
 {
     put_byte(answer, b"src ", bench.rom_src());
@@ -205,7 +205,7 @@ fn put_keys_down(answer: &mut ArrayVec<u8, ANSWER_BYTES>, bench: &Bench, rows: u
     requires columns { columns ≤ KEY_COLUMNS }
     requires room { array_vec_len answer.old + 4 * KEYS ≤ ANSWER_BYTES }
     ensures text { answer.new.items ≡ answer.old.items
-        ++ spaced_or_dash (flat_map (row_keys bench.now.bus columns) (range_with_len 0 rows)) }
+        ++ pieces_or_dash (flat_map (row_keys bench.now.bus columns) (range_with_len 0 rows)) }
     ensures count { length answer.new.items ≤ length answer.old.items + 4 * KEYS }
 {
     let before = answer.len();
@@ -218,7 +218,7 @@ fn put_keys_down(answer: &mut ArrayVec<u8, ANSWER_BYTES>, bench: &Bench, rows: u
 /// Adds the line of the keys, where the board has a key matrix.
 fn put_keys(answer: &mut ArrayVec<u8, ANSWER_BYTES>, bench: &Bench)
     requires { array_vec_len answer.old + KEY_BYTES ≤ ANSWER_BYTES }
-    ensures { answer.new.items ≡ answer.old.items ++ flat_map as_line (key_lines bench.now.bus) }
+    ensures { answer.new.items ≡ answer.old.items ++ flat_map as_line (key_pieces bench.now.bus) }
 {
     are_within_limits(bench);
     if let Some(matrix) = &bench.board().parts().keys {
@@ -232,7 +232,7 @@ fn put_keys(answer: &mut ArrayVec<u8, ANSWER_BYTES>, bench: &Bench)
 /// Tells what SRC has selected, the ports of the ROMs, the chains and the keys, in an empty answer.
 pub fn put_ports(answer: &mut ArrayVec<u8, ANSWER_BYTES>, bench: &Bench)
     requires { answer.old.items ≡ [] }
-    ensures { answer.new.items ≡ join_with_byte 10 (ports_lines bench.now.bus) ++ line_feed }
+    ensures { answer.new.items ≡ as_line (join_with_byte line_feed (ports_lines bench.now.bus)) }
 {
     put(answer, b"ports\n");
     put_src(answer, bench);

@@ -3,8 +3,9 @@ ghost use Rattle.std.specs.Prelude.{◌≡◌, ℕ, ◌+◌, ◌*◌, ◌++◌, 
 ghost use Rattle.std.specs.List.{flat_map, join_with_byte};
 ghost use Rattle.arrayvec.specs.ArrayVec.{array_vec_len};
 ghost use Rattle.mcs_model.specs.Bus.{chips_of};
-ghost use Rattle.mcs_model.specs.QueryText.{as_line, chip_lines, hex_digit, port_line, ram_lines, register_line, stretch};
-ghost use Rattle.mcs_answers.specs.AnswerTexts.{line_feed};
+ghost use Rattle.mcs_model.specs.QueryText.{chip_lines, hex_digit, ram_lines, register_line, stretch};
+ghost use Rattle.mcs_answers.specs.PortPieces.{port_line};
+ghost use Rattle.mcs_model.specs.TextLines.{as_line, line_feed};
 
 use crate::digits::{hex_digit, put, put_digit};
 use crate::size::ANSWER_BYTES;
@@ -120,7 +121,7 @@ pub(crate) fn chips_of(bench: &Bench, bank: u8) -> u8
 pub fn put_ram(answer: &mut ArrayVec<u8, ANSWER_BYTES>, bench: &Bench, bank: u8)
     requires bank { bank < 8 }
     requires empty { answer.old.items ≡ [] }
-    ensures { answer.new.items ≡ join_with_byte 10 (ram_lines bench.now.bus bank) ++ line_feed }
+    ensures { answer.new.items ≡ as_line (join_with_byte line_feed (ram_lines bench.now.bus bank)) }
 {
     let chips = chips_of(bench, bank);
     put_digit(answer, b"ram ", bank);

@@ -2,7 +2,7 @@
 ghost use Rattle.std.specs.Prelude.{◌≡◌, ◌+◌, ◌++◌, ◌≤◌, [], length};
 ghost use Rattle.arrayvec.specs.ArrayVec.{array_vec_len};
 ghost use Rattle.mcs_model.specs.QueryText.{registers_text, regs_text};
-ghost use Rattle.mcs_answers.specs.AnswerTexts.{line_feed};
+ghost use Rattle.mcs_model.specs.TextLines.{as_line};
 
 use crate::digits::{put, put_address, put_digit, put_digits};
 use crate::size::{ANSWER_BYTES, REGISTER_BYTES};
@@ -30,7 +30,7 @@ pub(crate) fn put_registers(answer: &mut ArrayVec<u8, ANSWER_BYTES>, bench: &Ben
 /// Tells the registers and the TEST pin of a bench, in an empty answer.
 pub fn put_regs(answer: &mut ArrayVec<u8, ANSWER_BYTES>, bench: &Bench)
     requires { answer.old.items ≡ [] }
-    ensures { answer.new.items ≡ regs_text bench.now.processor bench.now.bus.test ++ line_feed }
+    ensures { answer.new.items ≡ as_line (regs_text bench.now.processor bench.now.bus.test) }
 {
     let ret = bench.regs().ret;
     put_registers(answer, bench);

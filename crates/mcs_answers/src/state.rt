@@ -1,7 +1,7 @@
 //! The answer to `state`.
 ghost use Rattle.std.specs.Prelude.{◌≡◌, ◌++◌, []};
 ghost use Rattle.mcs_model.specs.QueryText.{state_text};
-ghost use Rattle.mcs_answers.specs.AnswerTexts.{line_feed};
+ghost use Rattle.mcs_model.specs.TextLines.{as_line};
 
 use crate::digits::{put, put_byte};
 use crate::lists::add_lamps;
@@ -18,7 +18,7 @@ use mcs_bench::Bench;
 /// Tells all that is not ROM or RAM in one line, in an empty answer.
 pub fn put_state(answer: &mut ArrayVec<u8, ANSWER_BYTES>, bench: &Bench)
     requires { answer.old.items ≡ [] }
-    ensures { answer.new.items ≡ state_text bench.now ++ line_feed }
+    ensures { answer.new.items ≡ as_line (state_text bench.now) }
 {
     put_counted(answer, b"state seq ", u64::from(bench.seq()));
     put(answer, b" ");

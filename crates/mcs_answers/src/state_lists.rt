@@ -4,7 +4,8 @@ ghost use Rattle.std.specs.Prelude.{◌≡◌, ℕ, ◌+◌, ◌*◌, ◌++◌, 
 ghost use Rattle.std.specs.List.{flat_map, range_with_len};
 ghost use Rattle.arrayvec.specs.ArrayVec.{array_vec_len};
 ghost use Rattle.mcs_model.specs.Boards.{chain_count, has_key};
-ghost use Rattle.mcs_model.specs.QueryText.{address_text, bank_items, chain_item, key_item, key_items, one_word, ram_item, ram_items, rom_items, row_items, watch_text};
+ghost use Rattle.mcs_model.specs.QueryText.{address_text, bank_items, chain_item, key_item, key_items, one_word, ram_items, row_items, watch_text};
+ghost use Rattle.mcs_answers.specs.PortPieces.{ram_item, rom_items};
 ghost use Rattle.mcs_ahead.specs.Probes.{bits_text};
 ghost use Rattle.mcs_answers.specs.Commas.{with_comma, with_commas};
 

@@ -3,7 +3,8 @@ ghost use Rattle.std.specs.Prelude.{◌≡◌, ◌⊎◌, ℕ, ◌+◌, ◌*◌,
 ghost use Rattle.std.specs.Fmt.{decimal};
 ghost use Rattle.arrayvec.specs.ArrayVec.{array_vec_len};
 ghost use Rattle.mcs_model.specs.Command.{machine_of};
-ghost use Rattle.mcs_model.specs.QueryText.{address_text, as_line, one_word};
+ghost use Rattle.mcs_model.specs.QueryText.{address_text, one_word};
+ghost use Rattle.mcs_model.specs.TextLines.{as_line};
 ghost use Rattle.mcs_bench.specs.Runs.{stop_by};
 ghost use Rattle.mcs_ahead.specs.Probes.{probe_text, row};
 ghost use Rattle.mcs_answers.specs.AheadTexts.{is_told, trace_answer};

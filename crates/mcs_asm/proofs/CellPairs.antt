@@ -1,16 +1,16 @@
 -- Cells against pairs.
-use Rattle.std.proofs.Common.{◌≡◌, ◌≢◌, ℕ, suc, zero, ◌+◌, ◌-◌, ◌<◌, ◌≤◌, Bool, true, false, ◌&&◌, ◌||◌, ltb, leb, List, [], ◌∷◌, ◌++◌, length, get_or, set, take, drop, Option, Some, None, refl, sym, ap, subst, ◌∙◌, ◌⊎◌, inl, inr, arith, append_assoc, append-nil, replicate}
-use Rattle.std.specs.Prelude.{is_some}
-use Rattle.std.specs.List.{list_any, Contains}
+use Rattle.std.proofs.Common.{◌≡◌, ◌≢◌, cond, eqb, eq-eqb, find, ℕ, suc, zero, ◌+◌, ◌-◌, ◌<◌, ◌≤◌, Bool, true, false, ◌&&◌, ◌||◌, ltb, leb, List, [], ◌∷◌, ◌++◌, length, get_or, set, take, drop, Option, Some, None, refl, sym, ap, subst, ◌∙◌, ◌⊎◌, inl, inr, arith, append_assoc, append-nil, replicate}
+use Rattle.std.specs.Prelude.{◌↔◌, is_some}
+use Rattle.std.specs.List.{filter_map, list_any, range_with_len, Contains}
 use Rattle.std.proofs.lemmas.List.{get_or-set_same, get_or-set_other, length-set}
-use Rattle.std.proofs.lemmas.List.Elements.{Contains-push, Contains-push_cases, Contains-append_left, Contains-append_right, Contains-append_cases, Contains-get_or}
-use Rattle.std.proofs.lemmas.List.Kept.{AllPairs-cons}
+use Rattle.std.proofs.lemmas.List.Elements.{Contains-push, Contains-push_cases, Contains-append_left, Contains-append_right, Contains-append_cases}
 use Rattle.std.proofs.lemmas.List.{get_or-replicate, length-replicate, replicate_more, get_or_past, get_or-drop}
-use Rattle.std.proofs.lemmas.Bool.{cases_eq, cases_lt, lt-ltb, le-leb, leb-true, ltb-true, and_parts, true≢false, false≢true}
+use Rattle.std.proofs.lemmas.Bool.{cases_eq, eqb-true, cases_lt, lt-ltb, le-leb, leb-true, ltb-true, and_parts, true≢false, false≢true}
 use Rattle.std.proofs.lemmas.List.Folds.{list_any_at}
 use Rattle.std.proofs.lemmas.Option.{none-some}
-use Rattle.mcs_model.specs.Images.{from_address, overlaps, IsRising, IsImageOf}
+use Rattle.mcs_model.specs.Images.{by_address, from_address, overlaps}
 use Rattle.mcs_asm.specs.ByteMap.{cells_after, pairs_from, HoldsPairs}
+use Rattle.mcs_asm.specs.View.{HaveOneByteEach}
 
 abbrev pub within : ℕ → ℕ → ℕ × ℕ → Bool
 within at n p = leb at p.0 && ltb p.0 (at + n)
@@ -76,59 +76,89 @@ free_from pairs x n untaken y low high b has =
 
 -- ---- in order of addresses
 
-pub Contains-cons_cases : (p : ℕ × ℕ) (ps : List (ℕ × ℕ)) (q : ℕ × ℕ) → Contains (p ∷ ps) q → (p ≡ q) ⊎ Contains ps q
+Contains-cons_cases : (p : ℕ × ℕ) (ps : List (ℕ × ℕ)) (q : ℕ × ℕ) → Contains (p ∷ ps) q → (p ≡ q) ⊎ Contains ps q
 Contains-cons_cases p ps q has = elim (Contains-append_cases (p ∷ []) ps q has) [
   | inl (zero, lt, e) ↦ inl e
   | inl (suc k, lt, e) ↦ absurd (omega (arith, lt))
   | inr more ↦ inr more
 ]
 
-pub Contains-head : (p : ℕ × ℕ) (ps : List (ℕ × ℕ)) → Contains (p ∷ ps) p
+Contains-head : (p : ℕ × ℕ) (ps : List (ℕ × ℕ)) → Contains (p ∷ ps) p
 Contains-head p ps = (0, omega arith, refl)
 
--- each raised pair lies at `at` or above, and is what the cell holds
-raised_from : (cells : List (Option ℕ)) (at a b : ℕ) → Contains (pairs_from at cells) (a, b) → (at ≤ a) × (get_or cells (a - at) None ≡ Some b)
-raised_from [] at a b has = absurd (omega (arith, has.1))
-raised_from (None ∷ cells) at a b has =
-    let r = raised_from cells (at + 1) a b has in
-    let e : a - at ≡ suc (a - (at + 1)) = omega (arith, r.0) in
-    (omega (arith, r.0), rw e r.1)
-raised_from (Some v ∷ cells) at a b has = elim (Contains-cons_cases (at, v) (pairs_from (at + 1) cells) (a, b) has) [
-  | inl here ↦
-      let same : at ≡ a = ap (λ (p : ℕ × ℕ). p.0) here in
-      let e : a - at ≡ 0 = omega (arith, same) in
-      (omega (arith, same), rw e (ap (λ (p : ℕ × ℕ). Some p.1) here))
-  | inr more ↦
-      let r = raised_from cells (at + 1) a b more in
-      let e : a - at ≡ suc (a - (at + 1)) = omega (arith, r.0) in
-      (omega (arith, r.0), rw e r.1)
-]
+-- what is found has the address, and is one of the pairs
+found : (pairs : List (ℕ × ℕ)) (a : ℕ) (p : ℕ × ℕ) → find (λ (q : ℕ × ℕ). eqb q.0 a) pairs ≡ Some p → Contains pairs p × (p.0 ≡ a)
+found [] a p e = absurd (none-some p e)
+found (q ∷ pairs) a p e =
+    (elim (eqb q.0 a) as (λ v. eqb q.0 a ≡ v → cond v (Some q) (find (λ (q : ℕ × ℕ). eqb q.0 a) pairs) ≡ Some p → Contains (q ∷ pairs) p × (p.0 ≡ a)) [
+      | true ↦ λ yes f.
+          let same : q ≡ p = ap (λ (o : Option (ℕ × ℕ)). elim o [ Some x ↦ x | None ↦ q ]) f in
+          (subst (λ (r : ℕ × ℕ). Contains (q ∷ pairs) r) same (Contains-head q pairs), ap (λ (r : ℕ × ℕ). r.0) (sym same) ∙ eqb-true q.0 a yes)
+      | false ↦ λ no f.
+          let more = found pairs a p f in
+          (Contains-append_right (q ∷ []) pairs p more.0, more.1)
+    ]) refl e
 
-raised_has : (cells : List (Option ℕ)) (at k b : ℕ) → get_or cells k None ≡ Some b → Contains (pairs_from at cells) (at + k, b)
-raised_has [] at k b e = absurd (none-some b e)
-raised_has (None ∷ cells) at zero b e = absurd (none-some b e)
-raised_has (Some v ∷ cells) at zero b e =
-    subst (λ (p : ℕ × ℕ). Contains ((at, v) ∷ pairs_from (at + 1) cells) p) (rw (some_same v b e) (ap (λ (n : ℕ). (n, b)) (omega arith))) (Contains-head (at, v) (pairs_from (at + 1) cells))
-raised_has (None ∷ cells) at (suc k) b e =
-    subst (λ (n : ℕ). Contains (pairs_from (at + 1) cells) (n, b)) (omega arith) (raised_has cells (at + 1) k b e)
-raised_has (Some v ∷ cells) at (suc k) b e =
-    Contains-append_right ((at, v) ∷ []) (pairs_from (at + 1) cells) (at + suc k, b) (subst (λ (n : ℕ). Contains (pairs_from (at + 1) cells) (n, b)) (omega arith) (raised_has cells (at + 1) k b e))
+is_found : (pairs : List (ℕ × ℕ)) (a b : ℕ) → Contains pairs (a, b) → find (λ (q : ℕ × ℕ). eqb q.0 a) pairs ≡ None → ⊥
+is_found [] a b has e = omega (arith, has.1)
+is_found (q ∷ pairs) a b has e =
+    (elim (eqb q.0 a) as (λ v. eqb q.0 a ≡ v → cond v (Some q) (find (λ (q : ℕ × ℕ). eqb q.0 a) pairs) ≡ None → ⊥) [
+      | true ↦ λ yes f. none-some q (sym f)
+      | false ↦ λ no f. elim (Contains-cons_cases q pairs (a, b) has) [
+        | inl here ↦ true≢false (sym (eq-eqb q.0 a (ap (λ (r : ℕ × ℕ). r.0) here)) ∙ no)
+        | inr more ↦ is_found pairs a b more f
+      ]
+    ]) refl e
 
-raised_rises : (cells : List (Option ℕ)) (at : ℕ) → IsRising (pairs_from at cells)
-raised_rises [] at = λ i j d lt within. absurd (omega (arith, within))
-raised_rises (None ∷ cells) at = raised_rises cells (at + 1)
-raised_rises (Some v ∷ cells) at = AllPairs-cons (λ (p q : ℕ × ℕ). p.0 < q.0) (at, v) (pairs_from (at + 1) cells)
-    (λ k d lt. omega (arith, (raised_from cells (at + 1) (get_or (pairs_from (at + 1) cells) k d).0 (get_or (pairs_from (at + 1) cells) k d).1 (Contains-get_or (pairs_from (at + 1) cells) k d lt)).0)) (raised_rises cells (at + 1))
+-- the pair that has an address, by the cell of it
+nowhere : (pairs : List (ℕ × ℕ)) (a : ℕ) → ((b : ℕ) → (None ≡ Some b) ↔ Contains pairs (a, b)) → find (λ (q : ℕ × ℕ). eqb q.0 a) pairs ≡ None
+nowhere pairs a h =
+    (elim (find (λ (q : ℕ × ℕ). eqb q.0 a) pairs) as (λ (o : Option (ℕ × ℕ)). find (λ (q : ℕ × ℕ). eqb q.0 a) pairs ≡ o → o ≡ None) [
+      | None ↦ λ e. refl
+      | Some p ↦ λ e.
+          let f = found pairs a p e in
+          absurd (none-some p.1 ((h p.1).1 (subst (λ (n : ℕ). Contains pairs (n, p.1)) f.1 f.0)))
+    ]) refl
 
--- the cells, raised, are the image of their pairs
-pub image_of_kept : (cells : List (Option ℕ)) (pairs : List (ℕ × ℕ)) → HoldsPairs cells pairs → IsImageOf (pairs_from 0 cells) pairs
-image_of_kept cells pairs kept = (
-  raised_rises cells 0,
-  λ p. (
-    (λ has. (kept.1 p.0 p.1).0 (subst (λ (n : ℕ). get_or cells n None ≡ Some p.1) (omega arith) (raised_from cells 0 p.0 p.1 has).1)),
-    (λ has. subst (λ (n : ℕ). Contains (pairs_from 0 cells) (n, p.1)) (omega arith) (raised_has cells 0 p.0 p.1 ((kept.1 p.0 p.1).1 has))),
-  ),
-)
+there : (pairs : List (ℕ × ℕ)) (a b : ℕ) → ((c : ℕ) → (Some b ≡ Some c) ↔ Contains pairs (a, c)) → find (λ (q : ℕ × ℕ). eqb q.0 a) pairs ≡ Some (a, b)
+there pairs a b h =
+    (elim (find (λ (q : ℕ × ℕ). eqb q.0 a) pairs) as (λ (o : Option (ℕ × ℕ)). find (λ (q : ℕ × ℕ). eqb q.0 a) pairs ≡ o → o ≡ Some (a, b)) [
+      | None ↦ λ e. absurd (is_found pairs a b ((h b).0 refl) e)
+      | Some p ↦ λ e.
+          let f = found pairs a p e in
+          let value : b ≡ p.1 = some_same b p.1 ((h p.1).1 (subst (λ (n : ℕ). Contains pairs (n, p.1)) f.1 f.0)) in
+          ap (λ (n : ℕ). Some (n, p.1)) f.1 ∙ ap (λ (n : ℕ). Some (a, n)) (sym value)
+    ]) refl
+
+-- what the cells hold, address by address
+in_turn : (pairs : List (ℕ × ℕ)) (cells : List (Option ℕ)) (at : ℕ) → ((k b : ℕ) → (get_or cells k None ≡ Some b) ↔ Contains pairs (at + k, b))
+    → pairs_from at cells ≡ filter_map (λ a. find (λ (q : ℕ × ℕ). eqb q.0 a) pairs) (range_with_len at (length cells))
+in_turn pairs [] at h = refl
+in_turn pairs (None ∷ cells) at h =
+    let here : find (λ (q : ℕ × ℕ). eqb q.0 at) pairs ≡ None = nowhere pairs at (λ b. subst (λ (n : ℕ). (None ≡ Some b) ↔ Contains pairs (n, b)) (omega arith) (h 0 b)) in
+    let more = in_turn pairs cells (at + 1) (λ k b. subst (λ (n : ℕ). (get_or cells k None ≡ Some b) ↔ Contains pairs (n, b)) (omega arith) (h (suc k) b)) in
+    rw here more
+in_turn pairs (Some v ∷ cells) at h =
+    let here : find (λ (q : ℕ × ℕ). eqb q.0 at) pairs ≡ Some (at, v) = there pairs at v (λ b. subst (λ (n : ℕ). (Some v ≡ Some b) ↔ Contains pairs (n, b)) (omega arith) (h 0 b)) in
+    let more = in_turn pairs cells (at + 1) (λ k b. subst (λ (n : ℕ). (get_or cells k None ≡ Some b) ↔ Contains pairs (n, b)) (omega arith) (h (suc k) b)) in
+    rw here (ap (λ (l : List (ℕ × ℕ)). (at, v) ∷ l) more)
+
+-- the cells, raised, are their pairs by rising address
+pub image_of_kept : (cells : List (Option ℕ)) (pairs : List (ℕ × ℕ)) → HoldsPairs cells pairs → pairs_from 0 cells ≡ by_address pairs
+unfolding by_address
+image_of_kept cells pairs kept =
+    in_turn pairs cells 0 (λ k b. subst (λ (n : ℕ). (get_or cells k None ≡ Some b) ↔ Contains pairs (n, b)) (omega arith) (kept.1 k b))
+    ∙ ap (λ (n : ℕ). filter_map (λ a. find (λ (q : ℕ × ℕ). eqb q.0 a) pairs) (range_with_len 0 n)) kept.0
+
+-- what the cells hold is one byte at an address
+pub one_each : (cells : List (Option ℕ)) (pairs : List (ℕ × ℕ)) → HoldsPairs cells pairs → HaveOneByteEach pairs
+one_each cells pairs kept = record {
+  within = λ a b has. elim (cases_lt a 4096) [
+    | inl lt ↦ lt
+    | inr le ↦ absurd (none-some b (sym (get_or_past cells a None (omega (arith, le, kept.0))) ∙ (kept.1 a b).1 has))
+  ];
+  once = λ a b c h k. some_same b c (sym ((kept.1 a b).1 h) ∙ (kept.1 a c).1 k);
+}
 
 replicate_none : (n a b : ℕ) → get_or (replicate {A = Option ℕ} n None) a None ≡ Some b → ⊥
 replicate_none n a b e = elim (cases_lt a n) [

@@ -1,15 +1,16 @@
 -- Where a word ends, and what comes after it.
-use Rattle.std.proofs.Common.{◌≡◌, ℕ, suc, ◌+◌, ◌-◌, ◌<◌, ◌≤◌, Bool, true, false, cond, eqb, List, [], ◌∷◌, ◌++◌, length, get_or, take, drop, refl, sym, ap, ◌⊎◌, ◌||◌, ◌≢◌, ◌∙◌, append_assoc, arith, inl, inr}
+use Rattle.std.proofs.Common.{◌≡◌, ℕ, suc, ◌+◌, ◌-◌, ◌<◌, ◌≤◌, Bool, true, false, cond, eqb, List, [], ◌∷◌, ◌++◌, length, get_or, take, drop, refl, sym, ap, ◌≢◌, ◌∙◌, append_assoc, arith}
 use Rattle.std.specs.List.{prefix_len}
-use Rattle.std.proofs.lemmas.Bool.{eqb-true, ne_eqb}
+use Rattle.std.proofs.lemmas.Bool.{ne_eqb}
 use Rattle.std.proofs.lemmas.List.{append-nil, length-take, take_all}
-use Rattle.mcs_source.specs.Lexical.{Token, Word, is_word_byte, symbol, word_then, tokens_after, tokens}
+use Rattle.mcs_source.specs.Lexical.{Token, Word, is_word_byte, symbol, tokens}
+use Rattle.mcs_source.proofs.Tokens.{byte_by_byte, no_word, tokens_after, word_then}
 use Rattle.mcs_model.specs.TextLines.{is_blank}
 
 -- what comes after the end of a word
 abbrev pub after_word : List ℕ → List Token
 after_word [] = []
-after_word (b ∷ bytes) = cond (is_blank b) (tokens bytes) (cond (eqb b 59) [] (symbol b ∷ tokens bytes))
+after_word (b ∷ bytes) = cond (is_blank b) (tokens_after [] bytes) (cond (eqb b 59) [] (symbol b ∷ tokens_after [] bytes))
 
 pub word_ends : (word bytes : List ℕ) → tokens_after word bytes ≡ word_then (word ++ take (prefix_len is_word_byte bytes) bytes) (after_word (drop (prefix_len is_word_byte bytes) bytes))
 unfolding tokens_after
@@ -23,32 +24,23 @@ word_ends word (b ∷ bytes) =
       | false ↦ rw (append-nil word) refl
     ]
 
-in_no_word : (b : ℕ) → (b ≡ 32) ⊎ (b ≡ 9) → is_word_byte b ≡ false
-in_no_word b (inl e) = rw e refl
-in_no_word b (inr e) = rw e refl
-
-either_blank : (s t : Bool) (b : ℕ) → eqb b 32 ≡ s → eqb b 9 ≡ t → (s || t) ≡ true → (b ≡ 32) ⊎ (b ≡ 9)
-either_blank true t b p q e = inl (eqb-true _ _ p)
-either_blank false true b p q e = inr (eqb-true _ _ q)
-either_blank false false b p q e = absurd cc
-
-pub no_word : (b : ℕ) → is_blank b ≡ true → is_word_byte b ≡ false
-no_word b e = in_no_word b (either_blank (eqb b 32) (eqb b 9) b refl refl e)
-
-pub blanks_before : (bytes : List ℕ) → tokens bytes ≡ tokens (drop (prefix_len is_blank bytes) bytes)
+blanks_after : (bytes : List ℕ) → tokens_after [] bytes ≡ tokens_after [] (drop (prefix_len is_blank bytes) bytes)
 unfolding tokens_after
-blanks_before [] = refl
-blanks_before (b ∷ bytes) =
+blanks_after [] = refl
+blanks_after (b ∷ bytes) =
     let n : ℕ = prefix_len is_blank bytes in
     let up : 1 + n ≡ suc n = omega arith in
-    let Q : Bool → Type 0 = λ t. is_blank b ≡ t → tokens (b ∷ bytes) ≡ tokens (drop (cond t (1 + n) 0) (b ∷ bytes)) in
+    let Q : Bool → Type 0 = λ t. is_blank b ≡ t → tokens_after [] (b ∷ bytes) ≡ tokens_after [] (drop (cond t (1 + n) 0) (b ∷ bytes)) in
     (elim (is_blank b) as Q [
-      | true ↦ λ yes. rw (no_word b yes, yes, up) (blanks_before bytes)
+      | true ↦ λ yes. rw (no_word b yes, yes, up) (blanks_after bytes)
       | false ↦ λ no. refl
     ]) refl
 
+pub blanks_before : (bytes : List ℕ) → tokens bytes ≡ tokens (drop (prefix_len is_blank bytes) bytes)
+blanks_before bytes = byte_by_byte bytes ∙ blanks_after bytes ∙ sym (byte_by_byte (drop (prefix_len is_blank bytes) bytes))
+
 -- with no word in front, the tokens are those after the empty word
-pub none_in_front : (bytes : List ℕ) → prefix_len is_word_byte bytes ≡ 0 → tokens bytes ≡ after_word bytes
+none_in_front : (bytes : List ℕ) → prefix_len is_word_byte bytes ≡ 0 → tokens_after [] bytes ≡ after_word bytes
 none_in_front bytes e = word_ends [] bytes ∙ rw e refl
 
 pub not_first : (p : ℕ → Bool) (x : ℕ) (xs : List ℕ) → prefix_len p (x ∷ xs) ≡ 0 → p x ≡ false
@@ -68,7 +60,7 @@ stops p (x ∷ xs) =
     ]) refl
 
 -- after the longest word comes no word
-pub after_word_is : (bytes : List ℕ) → after_word (drop (prefix_len is_word_byte bytes) bytes) ≡ tokens (drop (prefix_len is_word_byte bytes) bytes)
+after_word_is : (bytes : List ℕ) → after_word (drop (prefix_len is_word_byte bytes) bytes) ≡ tokens_after [] (drop (prefix_len is_word_byte bytes) bytes)
 after_word_is bytes = sym (none_in_front (drop (prefix_len is_word_byte bytes) bytes) (stops is_word_byte bytes))
 
 -- a word, and what comes after it
@@ -76,25 +68,27 @@ pub word_first : (word rest bytes : List ℕ) (n : ℕ) → n ≡ prefix_len is_
 word_first [] rest bytes n len some front back within = absurd (omega (arith, ap length front, length-take n bytes))
 word_first (b ∷ word) rest bytes n len some front back within =
     let front' : take (prefix_len is_word_byte bytes) bytes ≡ b ∷ word = rw (← len) (sym front) in
-    word_ends [] bytes ∙ rw (front', after_word_is bytes, ← len, ← back) refl
+    let read : tokens_after [] bytes ≡ Word (b ∷ word) ∷ tokens_after [] rest = word_ends [] bytes ∙ rw (front', after_word_is bytes, ← len, ← back) refl in
+    byte_by_byte bytes ∙ read ∙ ap (λ (ts : List Token). Word (b ∷ word) ∷ ts) (sym (byte_by_byte rest))
 
 pub no_bytes : (bytes : List ℕ) → length bytes ≡ 0 → tokens bytes ≡ []
 unfolding tokens_after
-no_bytes [] e = refl
+no_bytes [] e = byte_by_byte []
 no_bytes (b ∷ bytes) e = absurd (omega (arith, e))
 
 -- a comment
 pub comment_first : (bytes : List ℕ) → 1 ≤ length bytes → get_or bytes 0 0 ≡ 59 → tokens bytes ≡ []
 unfolding tokens_after
 comment_first [] some e = absurd (omega (arith, some))
-comment_first (b ∷ bytes) some e = rw e refl
+comment_first (b ∷ bytes) some e = byte_by_byte (b ∷ bytes) ∙ rw e refl
 
 -- a byte that is not in a word, not a blank, and begins no comment
 pub symbol_first : (bytes : List ℕ) → 1 ≤ length bytes → get_or bytes 0 0 ≢ 59 → prefix_len is_word_byte bytes ≡ 0 → prefix_len is_blank bytes ≡ 0 → tokens bytes ≡ symbol (get_or bytes 0 0) ∷ tokens (take (length bytes - 1) (drop 1 bytes))
 symbol_first [] some other no_w no_b = absurd (omega (arith, some))
 symbol_first (b ∷ rest) some other no_w no_b =
     let all : take (length (b ∷ rest) - 1) rest ≡ rest = take_all (length (b ∷ rest) - 1) rest (omega arith) in
-    none_in_front (b ∷ rest) no_w ∙ rw (not_first is_blank b rest no_b, ne_eqb b 59 other, all) refl
+    let read : tokens_after [] (b ∷ rest) ≡ symbol b ∷ tokens_after [] rest = none_in_front (b ∷ rest) no_w ∙ rw (not_first is_blank b rest no_b, ne_eqb b 59 other) refl in
+    byte_by_byte (b ∷ rest) ∙ read ∙ ap (λ (ts : List Token). symbol b ∷ ts) (sym (byte_by_byte rest) ∙ ap tokens (sym all))
 
 pub trimmed_same : (line bytes : List ℕ) (n : ℕ) → n ≡ prefix_len is_blank line → bytes ≡ drop n line → tokens bytes ≡ tokens line
 trimmed_same line bytes n len back = rw (back, len) (sym (blanks_before line))

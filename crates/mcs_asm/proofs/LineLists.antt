@@ -1,48 +1,51 @@
 -- Where a line ends, and what comes after it.
 use Rattle.std.proofs.Common.{◌≡◌, ℕ, suc, ◌+◌, ◌-◌, ◌<◌, ◌≤◌, Bool, true, false, cond, not, eqb, List, [], ◌∷◌, ◌++◌, length, take, drop, refl, sym, ap, ◌∙◌, append_assoc, arith}
-use Rattle.std.specs.List.{prefix_len}
+use Rattle.std.specs.List.{position_or_len}
 use Rattle.std.proofs.lemmas.List.{append-nil, length-take, length-drop, take_all}
 use Rattle.std.specs.Str.Lines.{strip_carriage_return}
-use Rattle.mcs_model.specs.TextLines.{last_line, lines_after, lines_of, no_lf}
-use Rattle.mcs_model.proofs.LineLemmas.{some_last}
+use Rattle.mcs_model.specs.TextLines.{is_line_feed, last_line, lines, lines_of}
+use Rattle.mcs_model.proofs.LineLemmas.{byte_by_byte, lines_after, some_last}
 
 -- the lines, where one ends
 abbrev pub ended : List ℕ → List ℕ → List (List ℕ)
 ended line [] = last_line true line
 ended line (b ∷ bytes) = strip_carriage_return line ∷ lines_of bytes
 
-pub line_ends : (line bytes : List ℕ) → lines_after true line bytes ≡ ended (line ++ take (prefix_len no_lf bytes) bytes) (drop (prefix_len no_lf bytes) bytes)
+line_goes_on : (line bytes : List ℕ) → lines_after true line bytes ≡ ended (line ++ take (position_or_len is_line_feed bytes) bytes) (drop (position_or_len is_line_feed bytes) bytes)
 unfolding lines_after
-line_ends line [] = ap (last_line true) (sym (append-nil line))
-line_ends line (b ∷ bytes) =
-    let n : ℕ = prefix_len no_lf bytes in
+line_goes_on line [] = ap (last_line true) (sym (append-nil line))
+line_goes_on line (b ∷ bytes) =
+    let n : ℕ = position_or_len is_line_feed bytes in
     let up : 1 + n ≡ suc n = omega arith in
-    let Q : Bool → Type 0 = λ t. cond t (strip_carriage_return line ∷ lines_of bytes) (lines_after true (line ++ b ∷ []) bytes) ≡ ended (line ++ take (cond (not t) (1 + n) 0) (b ∷ bytes)) (drop (cond (not t) (1 + n) 0) (b ∷ bytes)) in
+    let Q : Bool → Type 0 = λ t. cond t (strip_carriage_return line ∷ lines_after true [] bytes) (lines_after true (line ++ b ∷ []) bytes) ≡ ended (line ++ take (cond (not t) (1 + n) 0) (b ∷ bytes)) (drop (cond (not t) (1 + n) 0) (b ∷ bytes)) in
     elim (eqb b 10) as Q [
-      | true ↦ ap (λ (l : List ℕ). strip_carriage_return l ∷ lines_of bytes) (sym (append-nil line))
-      | false ↦ line_ends (line ++ b ∷ []) bytes ∙ rw (up, append_assoc line (b ∷ []) (take n bytes)) refl
+      | true ↦ ap (λ (l : List ℕ). strip_carriage_return l ∷ lines_after true [] bytes) (sym (append-nil line)) ∙ ap (λ (ls : List (List ℕ)). strip_carriage_return (line ++ []) ∷ ls) (sym (byte_by_byte bytes true))
+      | false ↦ line_goes_on (line ++ b ∷ []) bytes ∙ rw (up, append_assoc line (b ∷ []) (take n bytes)) refl
     ]
 
+pub line_ends : (text : List ℕ) → lines_of text ≡ ended (take (position_or_len is_line_feed text) text) (drop (position_or_len is_line_feed text) text)
+line_ends text = byte_by_byte text true ∙ line_goes_on [] text
+
 -- the last line
-pub last_front : (text line rest cut : List ℕ) (n : ℕ) → n ≡ prefix_len no_lf text → n ≤ length text → 0 < length text → line ≡ take n text → rest ≡ drop n text → length rest ≡ 0 → cut ≡ strip_carriage_return line
+pub last_front : (text line rest cut : List ℕ) (n : ℕ) → n ≡ position_or_len is_line_feed text → n ≤ length text → 0 < length text → line ≡ take n text → rest ≡ drop n text → length rest ≡ 0 → cut ≡ strip_carriage_return line
     → (lines_of text ≡ cut ∷ lines_of rest) × (length rest < length text)
-unfolding lines_after
+unfolding lines
 last_front text line [] cut n len within some front back none is =
     let short : 0 ≡ length text - n = ap length back ∙ length-drop n text in
     let full : 0 < length line = omega (arith, ap length front ∙ length-take n text, short, within, some) in
-    (line_ends [] text ∙ rw (← len, ← back, ← front) (some_last line full ∙ rw is refl), omega (arith, some))
+    (line_ends text ∙ rw (← len, ← back, ← front) (some_last line full ∙ rw is refl), omega (arith, some))
 last_front text line (b ∷ rest) cut n len within some front back none is = absurd (omega (arith, none))
 
 -- a line before another
-pub more_front : (text line rest cut : List ℕ) (n : ℕ) → n ≡ prefix_len no_lf text → n ≤ length text → line ≡ take n text → rest ≡ drop n text → 1 ≤ length rest → cut ≡ strip_carriage_return line
+pub more_front : (text line rest cut : List ℕ) (n : ℕ) → n ≡ position_or_len is_line_feed text → n ≤ length text → line ≡ take n text → rest ≡ drop n text → 1 ≤ length rest → cut ≡ strip_carriage_return line
     → (lines_of text ≡ cut ∷ lines_of (take (length rest - 1) (drop 1 rest))) × (length (take (length rest - 1) (drop 1 rest)) < length text)
 more_front text line [] cut n len within front back some is = absurd (omega (arith, some))
 more_front text line (b ∷ rest) cut n len within front back some is =
     let all : take (length (b ∷ rest) - 1) rest ≡ rest = take_all (length (b ∷ rest) - 1) rest (omega arith) in
     let long : length (b ∷ rest) ≡ length text - n = ap length back ∙ length-drop n text in
-    (line_ends [] text ∙ rw (← len, ← back, ← front, is, all) refl, rw all (omega (arith, long)))
+    (line_ends text ∙ rw (← len, ← back, ← front, is, all) refl, rw all (omega (arith, long)))
 
 pub no_lines : (text : List ℕ) → length text ≡ 0 → lines_of text ≡ []
-unfolding lines_after
+unfolding lines
 no_lines [] e = refl
 no_lines (b ∷ text) e = absurd (omega (arith, e))

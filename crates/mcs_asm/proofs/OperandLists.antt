@@ -1,7 +1,8 @@
 -- Reading operands one after the other, as a loop does.
 use Rattle.std.proofs.Common.{◌≡◌, List, [], ◌∷◌, ◌++◌, Option, Some, None, refl, sym, ap, ◌∙◌, append_assoc}
 use Rattle.mcs_source.specs.Lexical.{Token, Word, Comma, Colon, Equals, Other}
-use Rattle.mcs_source.specs.Lines.{Operand, operand_of, list_item, operands_of}
+use Rattle.mcs_source.specs.Lines.{Operand, operand_of, operands_of}
+use Rattle.mcs_asm.specs.ListItems.{list_item}
 use Rattle.mcs_model.specs.Options.{◌>>=◌}
 
 -- what was read before, and what is still read

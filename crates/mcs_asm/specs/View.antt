@@ -1,5 +1,6 @@
 -- What `assemble` and `survey` promise, and what the code's tokens, statements and lines stand for.
-use Rattle.std.specs.Prelude.{◌≡◌, ◌∷◌, [], List, ℕ, map, option_map, Option, Some, Result, Ok, Err, None}
+use Rattle.std.specs.Prelude.{◌≡◌, ◌<◌, ◌∷◌, [], List, ℕ, map, option_map, Option, Some, Result, Ok, Err, None}
+use Rattle.std.specs.List.{Contains}
 use Rattle.std.specs.Option.{option_copied, option_to_list}
 use Rattle.std.specs.Borrow.{Bor}
 use Rattle.std.specs.Ordering.{nat_cmp}
@@ -24,7 +25,7 @@ use Rattle.mcs_source.specs.declared.mnemonic.Mnemonic.{Mnemonic}
 use Rattle.mcs_source.specs.declared.mnemonic.Mnemonic.TheVariants as m
 use Rattle.mcs_source.specs.Lexical as spec
 use Rattle.mcs_source.specs.Lines as lines
-use Rattle.mcs_model.specs.Images.{IsImageOf}
+use Rattle.mcs_model.specs.Images.{by_address}
 use Rattle.mcs_source.specs.Assembly.{Names, value_of}
 use Rattle.mcs_source.specs.Survey.{Survey}
 
@@ -35,10 +36,17 @@ abbrev pub FailsAs : FaultKind → ℕ → {A : Type 0} → Result A (ℕ × Sou
 FailsAs NoMemory line wanted = line ≡ 0
 FailsAs (Refused f) line wanted = wanted ≡ Err (line, f)
 
--- the image of the pairs that are wanted, or the fault that is wanted
+-- each address is one of 0 to 4095, and none has two bytes
+pub record HaveOneByteEach (pairs : List (ℕ × ℕ)) : Type 0 where
+  pub within : (at byte : ℕ) → Contains pairs (at, byte) → at < 4096
+  pub once : (at one other : ℕ) → Contains pairs (at, one) → Contains pairs (at, other) → one ≡ other
+
+-- the pairs that are wanted by rising address, or the fault that is wanted
 abbrev pub Assembles : Result (List (ℕ × ℕ)) AsmFault → Result (List (ℕ × ℕ)) (ℕ × SourceFault)
     → Type 0
-Assembles (Ok image) wanted = (pairs : List (ℕ × ℕ)) × (wanted ≡ Ok pairs) × IsImageOf image pairs
+Assembles (Ok image) wanted =
+    (pairs : List (ℕ × ℕ)) × (wanted ≡ Ok pairs) × (image ≡ by_address pairs)
+    × HaveOneByteEach pairs
 Assembles (Err f) wanted = FailsAs f.kind f.line wanted
 
 -- the survey that is wanted, or the fault that is wanted

@@ -2,7 +2,6 @@
 ghost use Rattle.std.specs.Prelude.{◌≡◌, ℕ, ◌<◌, ◌≤◌, ◌+◌, IfOk, length, take, drop, is_some, None};
 ghost use Rattle.std.specs.List.{list_any};
 ghost use lib.ListN.{replicate};
-ghost use Rattle.mcs_model.specs.Images.{IsImageOf};
 ghost use Rattle.mcs_asm.specs.ByteMap.{cells_after, pairs_from};
 
 use mcs_model::image::Image;

@@ -1,6 +1,7 @@
 //! The text of a survey, as the shell answers it to `map`.
 ghost use Rattle.std.specs.Prelude.{◌≡◌, ◌≤◌, ◌<◌, ◌++◌, string_bytes, length, map, OnOk, IfOk};
-ghost use Rattle.mcs_model.specs.QueryText.{address_text, as_line, hex_digit};
+ghost use Rattle.mcs_model.specs.QueryText.{address_text, hex_digit};
+ghost use Rattle.mcs_model.specs.TextLines.{as_line};
 ghost use Rattle.mcs_source.specs.MapText.{head_row, line_row, line_rows, name_row, place_text, rows_text, survey_text};
 
 use crate::surveys::Survey;

@@ -2,7 +2,8 @@
 ghost use Rattle.std.specs.Prelude.{◌≡◌, ◌&&◌, map, option_map, IfOk, MatchOption, ◌∷◌, Some, None};
 ghost use Rattle.std.specs.Option.{option_copied};
 ghost use Rattle.mcs_source.specs.Lexical.{Word, Colon, Equals, tokens, Token};
-ghost use Rattle.mcs_source.specs.Lines.{Whole, word_only, word_first, name_of, operand_of, one_operand, one_number, one_register, one_pair, first_operand, first_register, first_pair, rest_if, list_item, operands_of, after_mnemonic, statement_of, nothing, rest_of, unlabelled, line_of};
+ghost use Rattle.mcs_source.specs.Lines.{Whole, after_mnemonic, bare_statement, first_operand, first_pair, first_register, line_of, name_of, one_number, one_operand, one_pair, one_register, operand_of, operands_of, rest_of, statement_of, unlabelled, word_first, word_only};
+ghost use Rattle.mcs_asm.specs.ListItems.{rest_if, list_item};
 ghost use Rattle.mcs_source.specs.declared.mnemonic.Mnemonic.TheVariants.{Org, Jcn, Fim, Isz};
 ghost use Rattle.mcs_asm.specs.View.{operand_view, statement_view, line_view, NoLabel, NoDefinition, IsNotDb};
 
@@ -124,7 +125,7 @@ fn first_pair(tokens: &mut Tokens<'_>) -> Option<PairNo>
 
 /// An instruction without operands.
 fn without_operands<'a>(op: Op, tokens: &mut Tokens<'a>) -> Option<Statement<'a>>
-    ensures { option_map statement_view result ≡ nothing op tokens.old }
+    ensures { option_map statement_view result ≡ bare_statement op tokens.old }
 {
     if tokens.is_empty() {
         Some(Statement::Whole(op))

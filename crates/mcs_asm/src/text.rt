@@ -1,14 +1,14 @@
 //! The lines of a source text.
 ghost use Rattle.std.specs.Prelude.{◌≡◌, ◌≤◌, ◌<◌, map, length, IfOk, MatchOption, ◌∷◌, ◌++◌, [], take, drop};
-ghost use Rattle.std.specs.List.{prefix_len};
-ghost use Rattle.mcs_model.specs.TextLines.{lines_of, no_lf};
+ghost use Rattle.std.specs.List.{position_or_len};
+ghost use Rattle.mcs_model.specs.TextLines.{is_line_feed, lines_of};
 
 use mcs_model::text_lines::without_return;
 use std::alloc::{AllocError, Global};
 
 /// How many bytes come before the first LF.
 fn line_len(bytes: &[u8]) -> usize
-    ensures len { result ≡ prefix_len no_lf bytes.now }
+    ensures len { result ≡ position_or_len is_line_feed bytes.now }
     ensures within { result ≤ length bytes.now }
 {
     bytes.iter().take_while(|b| **b != b'\n').count()

@@ -8,9 +8,10 @@ use Rattle.mcs_model.specs.declared.op.Op.{Op}
 use Rattle.mcs_model.specs.declared.op.Op.TheVariants.{Nop, Jcn, Fim, Src, Fin, Jin, Jun, Jms, Inc, Isz, Add, Sub, Ld, Xch, Bbl, Ldm, Wrm, Wmp, Wrr, Wr0, Wr1, Wr2, Wr3, Sbm, Rdm, Rdr, Adm, Rd0, Rd1, Rd2, Rd3, Clb, Clc, Iac, Cmc, Cma, Ral, Rar, Tcc, Dac, Tcs, Stc, Daa, Kbp, Dcl}
 use Rattle.mcs_source.specs.Assembly.{near_page}
 use Rattle.mcs_source.specs.Text.{instruction_text, address, byte_text}
-use Rattle.mcs_source.specs.Spelling.{IsOp}
+use Rattle.mcs_source.specs.Spelled.{IsOp}
 use Rattle.mcs_dis.proofs.ReadBack.{one_below, near_small}
-use Rattle.mcs_model.specs.TextLines.{no_lf}
+use Rattle.mcs_model.specs.Cutting.{HasNone}
+use Rattle.mcs_model.specs.TextLines.{is_line_feed}
 use Rattle.mcs_dis.proofs.LinesAgain.{ends_in_cr, IsLine}
 
 abbrev pub is_clean : ℕ → Bool
@@ -30,11 +31,11 @@ no_cr (b ∷ l) all =
     let last : ℕ = get_or (b ∷ l) (length (b ∷ l) - 1) 0 in
     not-true (eqb last 13) (and_parts (not (eqb last 10)) (not (eqb last 13)) (all_at (b ∷ l) (length (b ∷ l) - 1) (omega arith) all)).1
 
-no_lfs : (l : List ℕ) → Clean l → list_all no_lf l ≡ true
-no_lfs [] all = refl
+no_lfs : (l : List ℕ) → Clean l → HasNone is_line_feed l
+no_lfs [] all = tt
 no_lfs (b ∷ l) all =
     let (here, more) = and_parts (is_clean b) (list_all is_clean l) all in
-    rw ((and_parts (not (eqb b 10)) (not (eqb b 13)) here).0) (no_lfs l more)
+    (not-true (eqb b 10) (and_parts (not (eqb b 10)) (not (eqb b 13)) here).0, no_lfs l more)
 
 pub line_is : (l : List ℕ) → Clean l → IsLine l
 line_is l all = (no_lfs l all, no_cr l all)

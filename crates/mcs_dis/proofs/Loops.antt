@@ -6,8 +6,9 @@ use Rattle.std.proofs.lemmas.List.{length-drop, length-take}
 use Rattle.std.specs.List.{flat_map}
 use Rattle.mcs_model.specs.declared.op.Op.{Op}
 use Rattle.mcs_model.specs.Table.{instruction_of, word_count_of}
-use Rattle.mcs_source.specs.Text.{op_at, whole_or_byte, second_word, piece_text, piece_size, second_of, piece_texts, listing_lines, listed_line, origin_text, range, source_text, listing_text}
-use Rattle.mcs_model.specs.QueryText.{as_line}
+use Rattle.mcs_source.specs.Text.{listing_line, listing_lines, listing_text, op_at, piece_size, piece_text, second_of, second_word, whole_or_byte}
+use Rattle.mcs_source.specs.SourceText.{piece_texts, origin_text, range, source_text}
+use Rattle.mcs_model.specs.TextLines.{as_line}
 use Rattle.mcs_source.proofs.Decoding.{one_or_two}
 use Rattle.mcs_model.proofs.ListLemmas.{tail_whole}
 
@@ -141,7 +142,7 @@ pub record IsListed (whole out : List ℕ) (left at : ℕ) (rest : List ℕ) : T
   pub text : out ++ flat_map as_line (listing_lines left at rest) ≡ whole
 
 one_listed : (left : ℕ) (whole out : List ℕ) (at b : ℕ) (rest : List ℕ) → IsListed whole out (suc left) at (b ∷ rest)
-    → IsListed whole (out ++ as_line (listed_line at b rest (op_at b rest))) left (at + piece_size (op_at b rest)) (drop (piece_size (op_at b rest)) (b ∷ rest))
+    → IsListed whole (out ++ as_line (listing_line at b rest (op_at b rest))) left (at + piece_size (op_at b rest)) (drop (piece_size (op_at b rest)) (b ∷ rest))
 unfolding listing_lines
 one_listed left whole out at b rest w =
     let n : ℕ = piece_size (op_at b rest) in
@@ -150,20 +151,20 @@ one_listed left whole out at b rest w =
     let len : length (drop (n - 1) rest) ≡ length rest - (n - 1) = length-drop (n - 1) rest in
     rw (rest_is (piece_size (op_at b rest)) b rest some) (record {
       in_rom = omega (arith, len, w.in_rom, some, fits);
-      text = append_assoc out (as_line (listed_line at b rest (op_at b rest))) (flat_map as_line (listing_lines left (at + n) (drop (n - 1) rest))) ∙ w.text;
+      text = append_assoc out (as_line (listing_line at b rest (op_at b rest))) (flat_map as_line (listing_lines left (at + n) (drop (n - 1) rest))) ∙ w.text;
     })
 
 front_listed : (whole out new rest : List ℕ) (left at n : ℕ) → 0 < length rest → IsListed whole out (suc left) at rest → n ≡ piece_size (op_at (get_or rest 0 0) (drop 1 rest))
-    → new ≡ out ++ as_line (listed_line at (get_or rest 0 0) (drop 1 rest) (op_at (get_or rest 0 0) (drop 1 rest))) → IsListed whole new left (at + n) (drop n rest)
+    → new ≡ out ++ as_line (listing_line at (get_or rest 0 0) (drop 1 rest) (op_at (get_or rest 0 0) (drop 1 rest))) → IsListed whole new left (at + n) (drop n rest)
 front_listed whole out new [] left at n some w size line = absurd (omega (arith, some))
 front_listed whole out new (b ∷ rest) left at n some w size line = rw (line, size) (one_listed left whole out at b rest w)
 
 pub next_listed : (whole out new rest : List ℕ) (lines i at n here : ℕ) → i < lines → 0 < length rest → IsListed whole out (lines - i) at rest → here ≡ at → n ≡ piece_size (op_at (get_or rest 0 0) (drop 1 rest))
-    → new ≡ out ++ as_line (listed_line here (get_or rest 0 0) (drop 1 rest) (op_at (get_or rest 0 0) (drop 1 rest))) → IsListed whole new (lines - (i + 1)) (at + n) (take (length rest - n) (drop n rest))
+    → new ≡ out ++ as_line (listing_line here (get_or rest 0 0) (drop 1 rest) (op_at (get_or rest 0 0) (drop 1 rest))) → IsListed whole new (lines - (i + 1)) (at + n) (take (length rest - n) (drop n rest))
 next_listed whole out new rest lines i at n here more some w there size line =
     let left : lines - i ≡ suc (lines - (i + 1)) = omega (arith, more) in
-    let written : new ≡ out ++ as_line (listed_line at (get_or rest 0 0) (drop 1 rest) (op_at (get_or rest 0 0) (drop 1 rest))) =
-    line ∙ ap (λ (k : ℕ). out ++ as_line (listed_line k (get_or rest 0 0) (drop 1 rest) (op_at (get_or rest 0 0) (drop 1 rest)))) there in
+    let written : new ≡ out ++ as_line (listing_line at (get_or rest 0 0) (drop 1 rest) (op_at (get_or rest 0 0) (drop 1 rest))) =
+    line ∙ ap (λ (k : ℕ). out ++ as_line (listing_line k (get_or rest 0 0) (drop 1 rest) (op_at (get_or rest 0 0) (drop 1 rest)))) there in
     let now : IsListed whole out (suc (lines - (i + 1))) at rest = subst (λ (k : ℕ). IsListed whole out k at rest) left w in
     subst (λ (l : List ℕ). IsListed whole new (lines - (i + 1)) (at + n) l) (sym (tail_whole n rest)) (front_listed whole out new rest (lines - (i + 1)) at n some now size written)
 

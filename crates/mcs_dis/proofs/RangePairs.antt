@@ -2,7 +2,7 @@
 use Rattle.std.proofs.Common.{◌≡◌, ℕ, zero, suc, ◌+◌, ◌-◌, ◌<◌, ◌≤◌, List, [], ◌∷◌, length, get_or, drop, refl, sym, ap, subst, ◌∙◌, arith}
 use Rattle.std.proofs.lemmas.List.{length-take, length-drop, get_or-take, get_or-drop}
 use Rattle.mcs_model.specs.Images.{from_address}
-use Rattle.mcs_source.specs.Text.{range}
+use Rattle.mcs_source.specs.SourceText.{range}
 use Rattle.mcs_dis.specs.Again.{AreItsPairs}
 
 length-from_address : (bytes : List ℕ) (at : ℕ) → length (from_address at bytes) ≡ length bytes

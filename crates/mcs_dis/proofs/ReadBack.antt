@@ -7,14 +7,17 @@ use Rattle.mcs_model.specs.QueryText.{hex_2, hex_digit}
 use Rattle.std.specs.Char.{digit_value}
 use Rattle.mcs_model.specs.declared.op.Op.{Op}
 use Rattle.mcs_model.specs.declared.op.Op.TheVariants.{Nop, Jcn, Fim, Src, Fin, Jin, Jun, Jms, Inc, Isz, Add, Sub, Ld, Xch, Bbl, Ldm, Wrm, Wmp, Wrr, Wr0, Wr1, Wr2, Wr3, Sbm, Rdm, Rdr, Adm, Rd0, Rd1, Rd2, Rd3, Clb, Clc, Iac, Cmc, Cma, Ral, Rar, Tcc, Dac, Tcs, Stc, Daa, Kbp, Dcl}
-use Rattle.mcs_source.specs.Lexical.{Token, Word, Comma, tokens, tokens_after, word_then, is_word_byte}
+use Rattle.mcs_source.specs.Lexical.{Token, Word, Comma, tokens, is_word_byte}
+use Rattle.mcs_source.proofs.Tokens.{byte_by_byte, tokens_after, word_then}
 use Rattle.mcs_model.specs.Numerals.{capped_number, number_written}
 use Rattle.mcs_source.specs.Mnemonics.{mnemonic_of, on_addresses, on_registers, on_ports, on_memory, on_accumulator, on_carry}
 use Rattle.mcs_source.specs.Lines as asm
-use Rattle.mcs_source.specs.Text.{byte_text, origin_text, address}
+use Rattle.mcs_source.specs.Text.{address, byte_text, instruction_text}
+use Rattle.mcs_source.specs.SourceText.{origin_text}
 use Rattle.mcs_source.specs.Assembly.{Names, statement_bytes, size, next_statement, is_bad_statement, near_page}
 use Rattle.mcs_model.specs.Table.{word_count_of}
-use Rattle.mcs_source.specs.Spelling.{spelling, IsOp}
+use Rattle.mcs_source.specs.Spelling.{spelling}
+use Rattle.mcs_source.specs.Spelled.{IsOp}
 use Rattle.mcs_dis.specs.Again.{statement, ReadsAs}
 use Rattle.mcs_model.specs.Options.{◌>>=◌}
 
@@ -51,12 +54,12 @@ word_end w (b ∷ bs) all =
     rw here (word_end (w ++ b ∷ []) bs more ∙ ap (λ l. word_then l []) (append_assoc w (b ∷ []) bs))
 
 -- a word to a comma
-word_comma : (w bs rest : List ℕ) → list_all is_word_byte bs ≡ true → tokens_after w (bs ++ 44 ∷ rest) ≡ word_then (w ++ bs) (Comma ∷ tokens rest)
+word_comma : (w bs rest : List ℕ) → list_all is_word_byte bs ≡ true → tokens_after w (bs ++ 44 ∷ rest) ≡ word_then (w ++ bs) (Comma ∷ tokens_after [] rest)
 unfolding tokens_after
-word_comma w [] rest all = ap (λ l. word_then l (Comma ∷ tokens rest)) (sym (append-nil w))
+word_comma w [] rest all = ap (λ l. word_then l (Comma ∷ tokens_after [] rest)) (sym (append-nil w))
 word_comma w (b ∷ bs) rest all =
     let (here, more) = and_parts (is_word_byte b) (list_all is_word_byte bs) all in
-    rw here (word_comma (w ++ b ∷ []) bs rest more ∙ ap (λ l. word_then l (Comma ∷ tokens rest)) (append_assoc w (b ∷ []) bs))
+    rw here (word_comma (w ++ b ∷ []) bs rest more ∙ ap (λ l. word_then l (Comma ∷ tokens_after [] rest)) (append_assoc w (b ∷ []) bs))
 
 is_nat : ℕ → Option ℕ → Bool
 is_nat n (Some m) = eqb m n
@@ -101,8 +104,8 @@ decimal_some d lt = ltb-true 0 (length (decimal d)) (one_below (λ d. ltb 0 (len
 decimal_end : (d : ℕ) → d < 16 → tokens_after [] (decimal d) ≡ Word (decimal d) ∷ []
 decimal_end d lt = word_end [] (decimal d) (decimal_word d lt) ∙ word_then_some (decimal d) [] (decimal_some d lt)
 
-decimal_comma : (d : ℕ) (rest : List ℕ) → d < 16 → tokens_after [] (decimal d ++ 44 ∷ rest) ≡ Word (decimal d) ∷ Comma ∷ tokens rest
-decimal_comma d rest lt = word_comma [] (decimal d) rest (decimal_word d lt) ∙ word_then_some (decimal d) (Comma ∷ tokens rest) (decimal_some d lt)
+decimal_comma : (d : ℕ) (rest : List ℕ) → d < 16 → tokens_after [] (decimal d ++ 44 ∷ rest) ≡ Word (decimal d) ∷ Comma ∷ tokens_after [] rest
+decimal_comma d rest lt = word_comma [] (decimal d) rest (decimal_word d lt) ∙ word_then_some (decimal d) (Comma ∷ tokens_after [] rest) (decimal_some d lt)
 
 decimal_again : (n : ℕ) → n < 16 → asm.operand_of (decimal n) ≡ Some (asm.Number n)
 unfolding digits is_number
@@ -132,67 +135,70 @@ address_number p b n lp lt e =
 pub near_small : (at : ℕ) → near_page at < 16
 near_small at = omega arith
 
-address_end : (p b : ℕ) → p < 16 → b < 256 → tokens (address p b) ≡ Word (address p b) ∷ []
+address_end : (p b : ℕ) → p < 16 → b < 256 → tokens_after [] (address p b) ≡ Word (address p b) ∷ []
 unfolding tokens_after
 address_end p b lp lt =
     let high : b / 16 < 16 = omega arith in
     let last : b % 16 < 16 = omega arith in
     rw (glyph_word p lp, glyph_word (b / 16) high, glyph_word (b % 16) last) refl
 
-hex_end : (b : ℕ) → b < 256 → tokens (48 ∷ 120 ∷ hex_2 b) ≡ Word (48 ∷ 120 ∷ hex_2 b) ∷ []
+hex_end : (b : ℕ) → b < 256 → tokens_after [] (48 ∷ 120 ∷ hex_2 b) ≡ Word (48 ∷ 120 ∷ hex_2 b) ∷ []
 unfolding tokens_after
 hex_end b lt =
     let high : b / 16 < 16 = omega arith in
     let last : b % 16 < 16 = omega arith in
     rw (glyph_word (b / 16) high, glyph_word (b % 16) last) refl
 
-pub read_back : (at : ℕ) (o : Op) → IsOp o → ReadsAs at o
+read_after : (at : ℕ) (o : Op) → IsOp o → asm.line_of (tokens_after [] (instruction_text at o)) ≡ Some (asm.Code None (Some (statement at o)))
 unfolding tokens_after asm.statement_of asm.operands_of mnemonic_of on_addresses on_registers on_ports on_memory on_accumulator on_carry
-read_back at Nop h = refl
-read_back at Wrm h = refl
-read_back at Wmp h = refl
-read_back at Wrr h = refl
-read_back at Wr0 h = refl
-read_back at Wr1 h = refl
-read_back at Wr2 h = refl
-read_back at Wr3 h = refl
-read_back at Sbm h = refl
-read_back at Rdm h = refl
-read_back at Rdr h = refl
-read_back at Adm h = refl
-read_back at Rd0 h = refl
-read_back at Rd1 h = refl
-read_back at Rd2 h = refl
-read_back at Rd3 h = refl
-read_back at Clb h = refl
-read_back at Clc h = refl
-read_back at Iac h = refl
-read_back at Cmc h = refl
-read_back at Cma h = refl
-read_back at Ral h = refl
-read_back at Rar h = refl
-read_back at Tcc h = refl
-read_back at Dac h = refl
-read_back at Tcs h = refl
-read_back at Stc h = refl
-read_back at Daa h = refl
-read_back at Kbp h = refl
-read_back at Dcl h = refl
-read_back at (Inc r) h = rw (word_end (82 ∷ []) (decimal r) (decimal_word r h), small_again r h) refl
-read_back at (Add r) h = rw (word_end (82 ∷ []) (decimal r) (decimal_word r h), small_again r h) refl
-read_back at (Sub r) h = rw (word_end (82 ∷ []) (decimal r) (decimal_word r h), small_again r h) refl
-read_back at (Ld r) h = rw (word_end (82 ∷ []) (decimal r) (decimal_word r h), small_again r h) refl
-read_back at (Xch r) h = rw (word_end (82 ∷ []) (decimal r) (decimal_word r h), small_again r h) refl
-read_back at (Src p) h = rw (word_end (80 ∷ []) (decimal p) (decimal_word p (omega (arith, h))), pair_again p h) refl
-read_back at (Fin p) h = rw (word_end (80 ∷ []) (decimal p) (decimal_word p (omega (arith, h))), pair_again p h) refl
-read_back at (Jin p) h = rw (word_end (80 ∷ []) (decimal p) (decimal_word p (omega (arith, h))), pair_again p h) refl
-read_back at (Bbl d) h = rw (decimal_end d h, decimal_again d h) refl
-read_back at (Ldm d) h = rw (decimal_end d h, decimal_again d h) refl
-read_back at (Jun p b) h = rw (address_end p b h.0 h.1, address_again p b h.0 h.1) refl
-read_back at (Jms p b) h = rw (address_end p b h.0 h.1, address_again p b h.0 h.1) refl
-read_back at (Fim p b) h = rw (word_comma (80 ∷ []) (decimal p) (32 ∷ 48 ∷ 120 ∷ hex_2 b) (decimal_word p (omega (arith, h.0))), pair_again p h.0, hex_end b h.1, hex_2_again b h.1) refl
-read_back at (Isz r b) h = rw (word_comma (82 ∷ []) (decimal r) (32 ∷ address (near_page at) b) (decimal_word r h.0), small_again r h.0, address_end (near_page at) b (near_small at) h.1, address_again (near_page at) b (near_small at) h.1) refl
-read_back at (Jcn c b) h = rw (decimal_comma c (32 ∷ address (near_page at) b) h.0, decimal_again c h.0, address_end (near_page at) b (near_small at) h.1, address_again (near_page at) b (near_small at) h.1) refl
+read_after at Nop h = refl
+read_after at Wrm h = refl
+read_after at Wmp h = refl
+read_after at Wrr h = refl
+read_after at Wr0 h = refl
+read_after at Wr1 h = refl
+read_after at Wr2 h = refl
+read_after at Wr3 h = refl
+read_after at Sbm h = refl
+read_after at Rdm h = refl
+read_after at Rdr h = refl
+read_after at Adm h = refl
+read_after at Rd0 h = refl
+read_after at Rd1 h = refl
+read_after at Rd2 h = refl
+read_after at Rd3 h = refl
+read_after at Clb h = refl
+read_after at Clc h = refl
+read_after at Iac h = refl
+read_after at Cmc h = refl
+read_after at Cma h = refl
+read_after at Ral h = refl
+read_after at Rar h = refl
+read_after at Tcc h = refl
+read_after at Dac h = refl
+read_after at Tcs h = refl
+read_after at Stc h = refl
+read_after at Daa h = refl
+read_after at Kbp h = refl
+read_after at Dcl h = refl
+read_after at (Inc r) h = rw (word_end (82 ∷ []) (decimal r) (decimal_word r h), small_again r h) refl
+read_after at (Add r) h = rw (word_end (82 ∷ []) (decimal r) (decimal_word r h), small_again r h) refl
+read_after at (Sub r) h = rw (word_end (82 ∷ []) (decimal r) (decimal_word r h), small_again r h) refl
+read_after at (Ld r) h = rw (word_end (82 ∷ []) (decimal r) (decimal_word r h), small_again r h) refl
+read_after at (Xch r) h = rw (word_end (82 ∷ []) (decimal r) (decimal_word r h), small_again r h) refl
+read_after at (Src p) h = rw (word_end (80 ∷ []) (decimal p) (decimal_word p (omega (arith, h))), pair_again p h) refl
+read_after at (Fin p) h = rw (word_end (80 ∷ []) (decimal p) (decimal_word p (omega (arith, h))), pair_again p h) refl
+read_after at (Jin p) h = rw (word_end (80 ∷ []) (decimal p) (decimal_word p (omega (arith, h))), pair_again p h) refl
+read_after at (Bbl d) h = rw (decimal_end d h, decimal_again d h) refl
+read_after at (Ldm d) h = rw (decimal_end d h, decimal_again d h) refl
+read_after at (Jun p b) h = rw (address_end p b h.0 h.1, address_again p b h.0 h.1) refl
+read_after at (Jms p b) h = rw (address_end p b h.0 h.1, address_again p b h.0 h.1) refl
+read_after at (Fim p b) h = rw (word_comma (80 ∷ []) (decimal p) (32 ∷ 48 ∷ 120 ∷ hex_2 b) (decimal_word p (omega (arith, h.0))), pair_again p h.0, hex_end b h.1, hex_2_again b h.1) refl
+read_after at (Isz r b) h = rw (word_comma (82 ∷ []) (decimal r) (32 ∷ address (near_page at) b) (decimal_word r h.0), small_again r h.0, address_end (near_page at) b (near_small at) h.1, address_again (near_page at) b (near_small at) h.1) refl
+read_after at (Jcn c b) h = rw (decimal_comma c (32 ∷ address (near_page at) b) h.0, decimal_again c h.0, address_end (near_page at) b (near_small at) h.1, address_again (near_page at) b (near_small at) h.1) refl
+
+pub read_back : (at : ℕ) (o : Op) → IsOp o → ReadsAs at o
+read_back at o h = ap asm.line_of (byte_by_byte (instruction_text at o)) ∙ read_after at o h
 
 -- ---- the statement spells the words
 
@@ -260,9 +266,12 @@ spells at (Src r) names h = refl
 spells at (Fin r) names h = refl
 spells at (Jin r) names h = refl
 
-pub byte_back : (b : ℕ) → b < 256 → asm.line_of (tokens (byte_text b)) ≡ Some (asm.Code None (Some (asm.Data (asm.Number b ∷ []))))
+byte_after : (b : ℕ) → b < 256 → asm.line_of (tokens_after [] (byte_text b)) ≡ Some (asm.Code None (Some (asm.Data (asm.Number b ∷ []))))
 unfolding tokens_after asm.statement_of asm.operands_of mnemonic_of on_addresses
-byte_back b lt = rw (hex_end b lt, hex_2_again b lt) refl
+byte_after b lt = rw (hex_end b lt, hex_2_again b lt) refl
+
+pub byte_back : (b : ℕ) → b < 256 → asm.line_of (tokens (byte_text b)) ≡ Some (asm.Code None (Some (asm.Data (asm.Number b ∷ []))))
+byte_back b lt = ap asm.line_of (byte_by_byte (byte_text b)) ∙ byte_after b lt
 
 pub size_is : (at : ℕ) (o : Op) → size (statement at o) ≡ word_count_of o
 size_is at Nop = refl
@@ -405,9 +414,12 @@ fine_is at (Jun r b) = refl
 fine_is at (Jms r b) = refl
 fine_is at (Isz r b) = refl
 
-pub origin_back : (from : ℕ) → from < 4096 → asm.line_of (tokens (origin_text from)) ≡ Some (asm.Code None (Some (asm.Origin from)))
+origin_after : (from : ℕ) → from < 4096 → asm.line_of (tokens_after [] (origin_text from)) ≡ Some (asm.Code None (Some (asm.Origin from)))
 unfolding tokens_after asm.statement_of mnemonic_of on_addresses
-origin_back from lt =
+origin_after from lt =
     let p : from / 256 < 16 = omega arith in
     let b : from % 256 < 256 = omega arith in
     rw (address_end (from / 256) (from % 256) p b, address_number (from / 256) (from % 256) from p b (omega arith)) refl
+
+pub origin_back : (from : ℕ) → from < 4096 → asm.line_of (tokens (origin_text from)) ≡ Some (asm.Code None (Some (asm.Origin from)))
+origin_back from lt = ap asm.line_of (byte_by_byte (origin_text from)) ∙ origin_after from lt

@@ -11,7 +11,8 @@ use Rattle.mcs_source.specs.declared.fault.SourceFault.{SourceFault}
 use Rattle.mcs_model.specs.TextLines.{lines_of}
 use Rattle.mcs_source.specs.Assembly.{assembly_of_text, read, ith_line, Names, definition, address_of, names_before, pairs_before, next_at, fault_one, fault_two, line_bytes, bytes_or_none, class_one_fault, class_two_fault}
 use Rattle.mcs_source.proofs.LineByLine.{NoneBefore, address_next, names_next, pairs_next, none_before_next, none_first, first_of_rest, all_passed}
-use Rattle.mcs_source.specs.Text.{SpellsItself, origin_text, source_of, op_at, second_word, piece_text, piece_size, piece_texts}
+use Rattle.mcs_source.specs.Text.{op_at, second_word, piece_text, piece_size}
+use Rattle.mcs_source.specs.SourceText.{SpellsItself, origin_text, source_of, piece_texts}
 use Rattle.mcs_dis.proofs.Clean.{line_is, address_clean}
 use Rattle.mcs_dis.proofs.LinesAgain.{IsLine, lines_again}
 use Rattle.mcs_dis.proofs.ReadBack.{origin_back}

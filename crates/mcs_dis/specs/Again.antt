@@ -7,7 +7,8 @@ use Rattle.mcs_model.specs.declared.op.Op.TheVariants.{Jcn, Fim, Jun, Jms, Isz, 
 use Rattle.mcs_source.specs.Lexical.{tokens}
 use Rattle.mcs_source.specs.Lines as asm
 use Rattle.mcs_source.specs.Assembly.{near_page}
-use Rattle.mcs_source.specs.Text.{instruction_text, range}
+use Rattle.mcs_source.specs.Text.{instruction_text}
+use Rattle.mcs_source.specs.SourceText.{range}
 
 -- the address that JCN and ISZ at an address reach
 abbrev pub near : ℕ → ℕ → asm.Operand

@@ -2,8 +2,8 @@
 ghost use Rattle.std.specs.Prelude.{◌≡◌, ℕ, ◌<◌, ◌≤◌, List, length};
 ghost use Rattle.std.specs.List.{AllByRecursion};
 ghost use Rattle.mcs_dis.specs.Again.{AreItsPairs, ReadsAs};
-ghost use Rattle.mcs_source.specs.Spelling.{IsOp};
-ghost use Rattle.mcs_source.specs.Text.{SpellsItself};
+ghost use Rattle.mcs_source.specs.Spelled.{IsOp};
+ghost use Rattle.mcs_source.specs.SourceText.{SpellsItself};
 ghost use Rattle.mcs_model.specs.declared.op.Op.{Op};
 
 /// The text of an instruction reads as the statement that spells it.

@@ -1,8 +1,9 @@
 //! The text of one instruction, the listing of a ROM, and the source of a range of it.
 ghost use Rattle.std.specs.Prelude.{◌≡◌, ◌<◌, ◌≤◌, ◌++◌, length, slice_index, drop, string_bytes, IfOk};
-ghost use Rattle.mcs_source.specs.Text.{piece_size, piece_text, listed_line, line_text, listing_text, source_text};
+ghost use Rattle.mcs_source.specs.Text.{listing_line, listing_text, piece_size, piece_text};
+ghost use Rattle.mcs_source.specs.SourceText.{line_text, source_text};
 ghost use Rattle.mcs_dis.specs.Front.{op_in_front};
-ghost use Rattle.mcs_model.specs.QueryText.{as_line};
+ghost use Rattle.mcs_model.specs.TextLines.{as_line};
 
 use crate::decoding::{op_in_front, op_of, piece_size, second};
 use crate::texts::{push_columns, push_origin, push_piece};
@@ -43,7 +44,7 @@ fn push_listed_line(out: &mut String, at: Addr, bytes: &[u8]) -> Result<usize, A
     ensures size { IfOk result (λ n. n ≡ piece_size (op_in_front bytes.now)) }
     ensures within { IfOk result (λ n. (0 < n) × (n ≤ length bytes.now)) }
     ensures line { IfOk result (λ n. string_bytes out.new ≡ string_bytes out.old
-        ++ as_line (listed_line at (slice_index bytes.now 0) (drop 1 bytes.now)
+        ++ as_line (listing_line at (slice_index bytes.now 0) (drop 1 bytes.now)
         (op_in_front bytes.now))) }
 {
     let piece = op_in_front(bytes);

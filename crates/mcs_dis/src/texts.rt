@@ -3,8 +3,10 @@ ghost use Rattle.std.specs.Prelude.{◌≡◌, ◌++◌, ◌/◌, ◌%◌, codes
 ghost use Rattle.std.specs.Fmt.{decimal};
 ghost use Rattle.mcs_source.specs.InstructionNames.{name};
 ghost use Rattle.mcs_source.specs.Assembly.{near_page};
-ghost use Rattle.mcs_source.specs.Text.{address, operands, instruction_text, piece_text, origin_text, address_digits, word_columns, columns};
-ghost use Rattle.mcs_model.specs.QueryText.{as_line, hex_2};
+ghost use Rattle.mcs_source.specs.Text.{address, operands, instruction_text, piece_text, address_digits, word_columns, columns};
+ghost use Rattle.mcs_source.specs.SourceText.{origin_text};
+ghost use Rattle.mcs_model.specs.QueryText.{hex_2};
+ghost use Rattle.mcs_model.specs.TextLines.{as_line};
 
 use mcs_code::{Op, instructions, taken};
 use mcs_nibble::{Addr, Nibble};

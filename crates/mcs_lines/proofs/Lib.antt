@@ -1,4 +1,2 @@
-pub mod Cutting
-pub mod LineWords
 pub mod WordParts
 pub mod ProbeLists

@@ -1,6 +1,6 @@
-pub mod Cutting
 pub mod Words
 pub mod Requests
 pub mod RefusalNumbers
 pub mod ProbeWords
 pub mod LineRequests
+pub mod ReadNumbers

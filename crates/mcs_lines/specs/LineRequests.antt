@@ -11,7 +11,8 @@ use Rattle.mcs_lines.specs.declared.requests.LineFault.{LineFault}
 use Rattle.mcs_lines.specs.declared.requests.LineFault.TheVariants.{NotACommand, BadNumber, LineTooLong, NotAscii}
 use Rattle.mcs_lines.specs.ProbeWords.{probes_within}
 use Rattle.mcs_lines.specs.Requests.{cycles_of, request_of_word}
-use Rattle.mcs_lines.specs.Words.{is_plain_byte, words_of}
+use Rattle.mcs_lines.specs.Words.{is_plain_byte}
+use Rattle.mcs_model.specs.TextLines.{words_of}
 
 -- a number of cycles, if it is one, and places
 abbrev pub trace_of : Option ℕ → Result (List Probe) LineFault → Request

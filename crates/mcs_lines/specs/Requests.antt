@@ -1,6 +1,7 @@
 -- What a command line asks for: the table of lines. (Our own choice.)
 use Rattle.std.specs.Prelude.{◌==◌, ◌&&◌, Bool, ℕ, List, [], ◌∷◌, codes, nat_lt, is_some, if◌then◌else◌, Option, Some, None}
 use Rattle.std.specs.Str.{bytes_eq}
+use Rattle.mcs_model.specs.WordTables.{beside}
 use Rattle.mcs_model.specs.Numerals.{number_written, number_up_to}
 use Rattle.mcs_model.specs.declared.command.Command.TheVariants.{Press, Release, Run, Step, Poke, Test, Reset, Break, Unbreak, Watch, Unwatch}
 use Rattle.mcs_model.specs.declared.command.Place.{Place}
@@ -20,11 +21,6 @@ is_number word = is_some (number_written word)
 abbrev pub with_number : ℕ → List ℕ → (ℕ → Request) → Request
 with_number most word ask =
     elim (number_up_to most word) [ None ↦ Refused BadNumber | Some n ↦ ask n ]
-
--- what was read, or the refusal of a number
-abbrev pub or_bad_number : Option Request → Request
-or_bad_number None = Refused BadNumber
-or_bad_number (Some r) = r
 
 -- ---- places, and the values that are put into them
 
@@ -85,23 +81,23 @@ poke_of place value = poke_parts (parts_of_word place) value
 
 -- ---- lines
 
--- a line of one word
-abbrev pub request_alone : List ℕ → Request
-request_alone word =
-    if bytes_eq word (codes "step") then Change Step
-    else if bytes_eq word (codes "reset") then Change Reset
-    else if bytes_eq word (codes "lamps") then Ask query.Lamps
-    else if bytes_eq word (codes "regs") then Ask query.Regs
-    else if bytes_eq word (codes "breaks") then Ask query.Breaks
-    else if bytes_eq word (codes "watches") then Ask query.Watches
-    else if bytes_eq word (codes "ports") then Ask query.Ports
-    else if bytes_eq word (codes "seq") then Ask query.Seq
-    else if bytes_eq word (codes "state") then Ask query.State
-    else if bytes_eq word (codes "board") then Board
-    else if bytes_eq word (codes "wire") then Begin Wire
-    else if bytes_eq word (codes "asm") then Begin Asm
-    else if bytes_eq word (codes "map") then Begin Map
-    else Refused NotACommand
+-- what a line of one word asks for
+abbrev pub alone : List (List ℕ × Request)
+alone =
+    (codes "step", Change Step)
+    ∷ (codes "reset", Change Reset)
+    ∷ (codes "lamps", Ask query.Lamps)
+    ∷ (codes "regs", Ask query.Regs)
+    ∷ (codes "breaks", Ask query.Breaks)
+    ∷ (codes "watches", Ask query.Watches)
+    ∷ (codes "ports", Ask query.Ports)
+    ∷ (codes "seq", Ask query.Seq)
+    ∷ (codes "state", Ask query.State)
+    ∷ (codes "board", Board)
+    ∷ (codes "wire", Begin Wire)
+    ∷ (codes "asm", Begin Asm)
+    ∷ (codes "map", Begin Map)
+    ∷ []
 
 -- a number of cycles, as a run takes it: at least one
 abbrev pub cycles_of : List ℕ → Option ℕ
@@ -114,43 +110,45 @@ cycles_of word = elim (number_up_to RUN_CYCLES word) [
 abbrev pub count_request : List ℕ → Request
 count_request n = elim (cycles_of n) [ None ↦ Refused BadNumber | Some n ↦ Count n ]
 
--- a line of two words
-abbrev pub request_with_one : List ℕ → List ℕ → Request
-request_with_one word a =
-    if bytes_eq word (codes "run") then with_number 4294967295 a (λ n. Change (Run n))
-    else if bytes_eq word (codes "test") then with_number 1 a (λ bit. Change (Test bit))
-    else if bytes_eq word (codes "break") then with_number 4095 a (λ at. Change (Break at))
-    else if bytes_eq word (codes "unbreak") then with_number 4095 a (λ at. Change (Unbreak at))
-    else if bytes_eq word (codes "ram") then with_number 7 a (λ bank. Ask (query.Ram bank))
-    else if bytes_eq word (codes "count") then count_request a
-    else Refused NotACommand
+-- what a word asks for of the one after it
+abbrev pub with_one : List (List ℕ × (List ℕ → Request))
+with_one =
+    (codes "run", λ a. with_number 4294967295 a (λ n. Change (Run n)))
+    ∷ (codes "test", λ a. with_number 1 a (λ bit. Change (Test bit)))
+    ∷ (codes "break", λ a. with_number 4095 a (λ at. Change (Break at)))
+    ∷ (codes "unbreak", λ a. with_number 4095 a (λ at. Change (Unbreak at)))
+    ∷ (codes "ram", λ a. with_number 7 a (λ bank. Ask (query.Ram bank)))
+    ∷ (codes "count", count_request)
+    ∷ []
 
 -- a listing has at least one line
 abbrev pub listing : ℕ → ℕ → Request
 listing at lines = if nat_lt 0 lines then Listing at lines else Refused BadNumber
 
--- `list`
-abbrev pub list_request : List ℕ → List ℕ → Request
-list_request a n = with_number 4095 a (λ at. with_number LISTING_LINES n (λ lines. listing at lines))
+-- two numbers, each in its range
+abbrev pub with_numbers : ℕ → List ℕ → ℕ → List ℕ → (ℕ → ℕ → Request) → Request
+with_numbers most a most' b ask = with_number most a (λ n. with_number most' b (λ m. ask n m))
 
--- a line of three words
-abbrev pub request_with_two : List ℕ → List ℕ → List ℕ → Request
-request_with_two word a b =
-    if bytes_eq word (codes "poke") then poke_of a b
-    else if bytes_eq word (codes "press")
-    then with_number 255 a (λ row. with_number 255 b (λ column. Change (Press row column)))
-    else if bytes_eq word (codes "release")
-    then with_number 255 a (λ row. with_number 255 b (λ column. Change (Release row column)))
-    else if bytes_eq word (codes "watch")
-    then with_number 7 a (λ bank. with_number 255 b (λ src. Change (Watch bank src)))
-    else if bytes_eq word (codes "unwatch")
-    then with_number 7 a (λ bank. with_number 255 b (λ src. Change (Unwatch bank src)))
-    else if bytes_eq word (codes "list") then list_request a b
-    else Refused NotACommand
+-- what a word asks for of the two after it
+abbrev pub with_two : List (List ℕ × (List ℕ → List ℕ → Request))
+with_two =
+    (codes "poke", poke_of)
+    ∷ (codes "press", λ a b. with_numbers 255 a 255 b (λ row column. Change (Press row column)))
+    ∷ (codes "release", λ a b. with_numbers 255 a 255 b (λ row column. Change (Release row column)))
+    ∷ (codes "watch", λ a b. with_numbers 7 a 255 b (λ bank src. Change (Watch bank src)))
+    ∷ (codes "unwatch", λ a b. with_numbers 7 a 255 b (λ bank src. Change (Unwatch bank src)))
+    ∷ (codes "list", λ a b. with_numbers 4095 a LISTING_LINES b listing)
+    ∷ []
+
+-- what stands beside a word in one of these tables
+abbrev pub asked : {A : Type 0} → List ℕ → List (List ℕ × A) → Option A
+asked word table = beside (bytes_eq word) table
 
 -- a word and those after it, by their number; but for `trace`
 abbrev pub request_of_word : List ℕ → List (List ℕ) → Request
-request_of_word word [] = request_alone word
-request_of_word word (a ∷ []) = request_with_one word a
-request_of_word word (a ∷ b ∷ []) = request_with_two word a b
+request_of_word word [] = elim (asked word alone) [ None ↦ Refused NotACommand | Some r ↦ r ]
+request_of_word word (a ∷ []) =
+    elim (asked word with_one) [ None ↦ Refused NotACommand | Some ask ↦ ask a ]
+request_of_word word (a ∷ b ∷ []) =
+    elim (asked word with_two) [ None ↦ Refused NotACommand | Some ask ↦ ask a b ]
 request_of_word word words = Refused NotACommand

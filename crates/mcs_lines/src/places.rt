@@ -2,7 +2,8 @@
 ghost use Rattle.std.specs.Prelude.{◌≡◌, ◌∷◌, [], Some};
 ghost use Rattle.mcs_model.specs.declared.command.Command.TheVariants.{Poke};
 ghost use Rattle.mcs_lines.specs.declared.requests.Request.TheVariants.{Change};
-ghost use Rattle.mcs_lines.specs.Requests.{or_bad_number, poke_numbered, poke_of, poke_parts, poke_plain, poke_ram, poke_register, poke_rom, poke_status};
+ghost use Rattle.mcs_lines.specs.Requests.{poke_numbered, poke_of, poke_parts, poke_plain, poke_ram, poke_register, poke_rom, poke_status};
+ghost use Rattle.mcs_lines.specs.ReadNumbers.{or_bad_number};
 
 use crate::numbers::{address, bank, bit, byte, is_number, nibble, register, status};
 use crate::requests::{LineFault, Request, or_bad_number};

@@ -1,10 +1,12 @@
 //! What a command line asks for.
-ghost use Rattle.std.specs.Prelude.{◌≡◌};
+ghost use Rattle.std.specs.Prelude.{[], ◌∷◌, ◌≡◌};
 ghost use Rattle.std.specs.List.{list_all};
 ghost use Rattle.mcs_lines.specs.RefusalNumbers.{line_fault_number};
 ghost use Rattle.mcs_lines.specs.LineRequests.{request_of, request_of_words, trace_request};
-ghost use Rattle.mcs_lines.specs.Requests.{cycles_of, list_request, or_bad_number, request_alone, request_of_word, request_with_one, request_with_two};
-ghost use Rattle.mcs_lines.specs.Words.{is_plain_byte, words_of};
+ghost use Rattle.mcs_lines.specs.ReadNumbers.{or_bad_number};
+ghost use Rattle.mcs_lines.specs.Requests.{cycles_of, listing, request_of_word, with_numbers};
+ghost use Rattle.mcs_lines.specs.Words.{is_plain_byte};
+ghost use Rattle.mcs_model.specs.TextLines.{words_of};
 
 use crate::numbers::{address, bank, bit, byte};
 use crate::places::read_poke;
@@ -88,7 +90,7 @@ pub enum Request {
 
 /// What a line of one word asks for.
 fn read_alone(word: &[u8]) -> Request
-    ensures { result ≡ request_alone word.now }
+    ensures { result ≡ request_of_word word.now [] }
 {
     if equals(word, b"step") {
         Request::Change(Command::Step)
@@ -157,7 +159,7 @@ fn read_trace(line: &[u8]) -> Request
 
 /// What a line of two words asks for; none where its number is none, or out of its range.
 fn read_with_one(word: &[u8], a: &[u8]) -> Option<Request>
-    ensures { or_bad_number result ≡ request_with_one word.now a.now }
+    ensures { or_bad_number result ≡ request_of_word word.now (a.now ∷ []) }
 {
     let request = if equals(word, b"run") {
         Request::Change(Command::Run(number_within(a, u32::MAX)?))
@@ -180,7 +182,7 @@ fn read_with_one(word: &[u8], a: &[u8]) -> Option<Request>
 /// What `list` with an address and a number of lines asks for; none where one is no number, or out
 /// of its range.
 fn read_list(a: &[u8], n: &[u8]) -> Option<Request>
-    ensures { or_bad_number result ≡ list_request a.now n.now }
+    ensures { or_bad_number result ≡ with_numbers 4095 a.now LISTING_LINES n.now listing }
 {
     let at = address(a)?;
     let lines = number_within(n, LISTING_LINES)?;
@@ -192,7 +194,7 @@ fn read_list(a: &[u8], n: &[u8]) -> Option<Request>
 
 /// What a line of three words asks for; none where a number is none, or out of its range.
 fn read_with_two(word: &[u8], a: &[u8], b: &[u8]) -> Option<Request>
-    ensures { or_bad_number result ≡ request_with_two word.now a.now b.now }
+    ensures { or_bad_number result ≡ request_of_word word.now (a.now ∷ b.now ∷ []) }
 {
     let request = if equals(word, b"poke") {
         read_poke(a, b)

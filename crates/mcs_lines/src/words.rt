@@ -1,7 +1,9 @@
 //! The words of a line, and the parts of a word.
 ghost use Rattle.std.specs.Prelude.{◌≡◌, ◌≤◌, ◌∷◌, [], MatchOption, length, take, drop};
 ghost use Rattle.std.specs.Str.{bytes_eq};
-ghost use Rattle.mcs_lines.specs.Words.{BeginsWord, EndsPart, EndsWord, is_plain_byte, parts_of_word, words_of};
+ghost use Rattle.mcs_lines.specs.Words.{is_dot, is_plain_byte, parts_of_word};
+ghost use Rattle.mcs_model.specs.Cutting.{BeginsWord, EndsPiece};
+ghost use Rattle.mcs_model.specs.TextLines.{is_blank, words_of};
 
 use mcs_model::text_lines::is_blank;
 
@@ -35,7 +37,7 @@ fn without_blanks(line: &[u8]) -> &[u8]
 /// How many bytes the word has that a line begins with.
 fn word_at_front(line: &[u8]) -> usize
     ensures within { result ≤ length line.now }
-    ensures word { EndsWord (take result line.now) (drop result line.now) }
+    ensures word { EndsPiece is_blank (take result line.now) (drop result line.now) }
 {
     for (at, byte) in line.iter().enumerate() {
         if is_blank(*byte) {
@@ -61,7 +63,7 @@ pub fn next_word(line: &[u8]) -> Option<(&[u8], &[u8])>
 /// How many bytes the part has that a word begins with.
 fn part_at_front(word: &[u8]) -> usize
     ensures within { result ≤ length word.now }
-    ensures part { EndsPart (take result word.now) (drop result word.now) }
+    ensures part { EndsPiece is_dot (take result word.now) (drop result word.now) }
 {
     for (at, byte) in word.iter().enumerate() {
         if *byte == b'.' {

@@ -1,17 +1,67 @@
--- The first bytes of a line, and the last line of a text.
-use Rattle.std.proofs.Common.{◌≡◌, ℕ, ◌<◌, Bool, true, eqb, List, [], ◌∷◌, ◌++◌, length, refl, sym, ap, ◌∙◌, append_assoc, append-nil, arith}
-use Rattle.std.proofs.lemmas.Bool.{and_parts, not-true}
-use Rattle.std.specs.List.{list_all}
+-- The lines of a text byte by byte: the first bytes of a line, and the last line of a text.
+use Rattle.std.proofs.Common.{◌≡◌, ℕ, ◌<◌, Bool, true, false, cond, if◌then◌else◌, List, [], ◌∷◌, ◌++◌, length, refl, sym, ap, ◌∙◌, append_assoc, append-nil, arith}
+use Rattle.std.specs.List.{onto_first, slice_split}
 use Rattle.std.specs.Str.Lines.{strip_carriage_return}
-use Rattle.mcs_model.specs.TextLines.{last_line, lines_after, no_lf}
+use Rattle.mcs_model.specs.TextLines.{is_line_feed, last_line, lines, lines_in}
+use Rattle.mcs_model.specs.Cutting.{HasNone}
+use Rattle.mcs_model.proofs.Cutting.{before, before_nothing, first_piece_of}
 
--- bytes without an LF begin a line, or go on with it
-pub line_begun : (whole : Bool) (line bytes more : List ℕ) → list_all no_lf bytes ≡ true → lines_after whole line (bytes ++ more) ≡ lines_after whole (line ++ bytes) more
+-- the lines of a text, where `line` is what was already read of the first
+unfoldable pub lines_after : Bool → List ℕ → List ℕ → List (List ℕ)
+lines_after whole line [] = last_line whole line
+lines_after whole line (b ∷ text) =
+    if is_line_feed b
+    then strip_carriage_return line ∷ lines_after whole [] text
+    else lines_after whole (line ++ b ∷ []) text
+
+-- a byte that is put after what goes before the first piece
+moved : (line : List ℕ) (b : ℕ) (ps : List (List ℕ)) (p : List ℕ) (rest : List (List ℕ)) → ps ≡ p ∷ rest → before line (onto_first b ps) ≡ before (line ++ b ∷ []) ps
+moved line b [] p rest e = absurd (cc)
+moved line b (q ∷ qs) p rest e = ap (λ (v : List ℕ). v ∷ qs) (sym (append_assoc line (b ∷ []) q))
+
+-- a piece that is followed by others is a line
+led : (whole : Bool) (line : List ℕ) (ps : List (List ℕ)) (p : List ℕ) (rest : List (List ℕ)) → ps ≡ p ∷ rest → lines_in whole ((line ++ []) ∷ ps) ≡ strip_carriage_return line ∷ lines_in whole ps
+led whole line [] p rest e = absurd (cc)
+led whole line (q ∷ qs) p rest e = ap (λ (v : List ℕ). strip_carriage_return v ∷ lines_in whole (q ∷ qs)) (append-nil line)
+
+in_pieces : (whole : Bool) (line text : List ℕ) → lines_in whole (before line (slice_split is_line_feed text)) ≡ lines_after whole line text
 unfolding lines_after
-line_begun whole line [] more all = ap (λ (l : List ℕ). lines_after whole l more) (sym (append-nil line))
-line_begun whole line (b ∷ bytes) more all =
-    let (here, rest) = and_parts (no_lf b) (list_all no_lf bytes) all in
-    rw (not-true (eqb b 10) here) (line_begun whole (line ++ b ∷ []) bytes more rest ∙ ap (λ (l : List ℕ). lines_after whole l more) (append_assoc line (b ∷ []) bytes))
+in_pieces whole line [] = ap (last_line whole) (append-nil line)
+in_pieces whole line (b ∷ text) =
+    let ps = slice_split is_line_feed text in
+    let f = first_piece_of is_line_feed text in
+    elim (is_line_feed b) as (λ v. lines_in whole (before line (cond v ([] ∷ ps) (onto_first b ps))) ≡ cond v (strip_carriage_return line ∷ lines_after whole [] text) (lines_after whole (line ++ b ∷ []) text)) [
+      | true ↦ led whole line ps f.0 f.1 f.2
+          ∙ ap (λ (v : List (List ℕ)). strip_carriage_return line ∷ lines_in whole v) (sym (before_nothing ps f.0 f.1 f.2))
+          ∙ ap (λ (v : List (List ℕ)). strip_carriage_return line ∷ v) (in_pieces whole [] text)
+      | false ↦ ap (lines_in whole) (moved line b ps f.0 f.1 f.2) ∙ in_pieces whole (line ++ b ∷ []) text
+    ]
+
+pub byte_by_byte : (text : List ℕ) (whole : Bool) → lines text whole ≡ lines_after whole [] text
+unfolding lines
+byte_by_byte text whole =
+    let f = first_piece_of is_line_feed text in
+    ap (lines_in whole) (sym (before_nothing (slice_split is_line_feed text) f.0 f.1 f.2)) ∙ in_pieces whole [] text
+
+-- bytes without a line feed begin a line, or go on with it
+pub line_begun : (whole : Bool) (line bytes more : List ℕ) → HasNone is_line_feed bytes → lines_after whole line (bytes ++ more) ≡ lines_after whole (line ++ bytes) more
+unfolding lines_after
+line_begun whole line [] more none = ap (λ (l : List ℕ). lines_after whole l more) (sym (append-nil line))
+line_begun whole line (b ∷ bytes) more none =
+    rw none.0 (line_begun whole (line ++ b ∷ []) bytes more none.1 ∙ ap (λ (l : List ℕ). lines_after whole l more) (append_assoc line (b ∷ []) bytes))
+
+-- a line feed ends a line
+pub lines-feed : (line bytes : List ℕ) (whole : Bool) → HasNone is_line_feed line → lines (line ++ 10 ∷ bytes) whole ≡ strip_carriage_return line ∷ lines bytes whole
+unfolding lines_after
+lines-feed line bytes whole none =
+    byte_by_byte (line ++ 10 ∷ bytes) whole ∙ line_begun whole [] line (10 ∷ bytes) none
+    ∙ ap (λ (ls : List (List ℕ)). strip_carriage_return line ∷ ls) (sym (byte_by_byte bytes whole))
+
+-- an unfinished line is the last one
+pub lines-unfed : (line : List ℕ) (whole : Bool) → HasNone is_line_feed line → lines line whole ≡ last_line whole line
+unfolding lines_after
+lines-unfed line whole none =
+    ap (λ (l : List ℕ). lines l whole) (sym (append-nil line)) ∙ byte_by_byte (line ++ []) whole ∙ line_begun whole [] line [] none
 
 -- a last line that has bytes
 pub some_last : (line : List ℕ) → 0 < length line → last_line true line ≡ strip_carriage_return line ∷ []

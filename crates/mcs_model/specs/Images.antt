@@ -1,6 +1,6 @@
 -- Bytes with their addresses.
-use Rattle.std.specs.Prelude.{ℕ, ◌+◌, ◌<◌, ◌↔◌, Bool, ◌&&◌, List, [], ◌∷◌, nat_lt, nat_le}
-use Rattle.std.specs.List.{list_any, All, AllPairs, Contains}
+use Rattle.std.specs.Prelude.{ℕ, ◌+◌, ◌<◌, ◌==◌, Bool, ◌&&◌, List, [], ◌∷◌, find, nat_lt, nat_le}
+use Rattle.std.specs.List.{list_any, filter_map, range_with_len, All, AllPairs}
 
 -- some bytes from an address on, each with its address
 abbrev pub from_address : ℕ → List ℕ → List (ℕ × ℕ)
@@ -20,6 +20,6 @@ pub record IsImage (image : List (ℕ × ℕ)) : Type 0 where
   pub rising : IsRising image
   pub in_range : All (λ p. (p.0 < 4096) × (p.1 < 256)) image
 
--- the same pairs, by rising address
-abbrev pub IsImageOf : List (ℕ × ℕ) → List (ℕ × ℕ) → Type 0
-IsImageOf image pairs = IsRising image × ((p : ℕ × ℕ) → Contains image p ↔ Contains pairs p)
+-- these pairs by rising address: for each address in turn the first pair that has it, if any
+unfoldable pub by_address : List (ℕ × ℕ) → List (ℕ × ℕ)
+by_address pairs = filter_map (λ at. find (λ p. p.0 == at) pairs) (range_with_len 0 4096)

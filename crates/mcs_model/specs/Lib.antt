@@ -1,7 +1,9 @@
 pub mod Options
+pub mod WordTables
 pub mod Numbers
 pub mod Numerals
 pub mod TextLines
+pub mod Cutting
 pub mod Images
 pub mod Boards
 pub mod Bus

@@ -8,12 +8,9 @@ use Rattle.mcs_model.specs.declared.regs.Regs.{Regs}
 use Rattle.mcs_model.specs.declared.limits.TheConstants.{BANKS, ROMS}
 use Rattle.mcs_model.specs.Boards.{chain_bits, chain_count, key_place, masks_on}
 use Rattle.mcs_model.specs.Bus.{BusState, chips_of}
+use Rattle.mcs_model.specs.TextLines.{line_feed}
 use Rattle.mcs_model.specs.BenchState.{BenchState}
 use Rattle.mcs_model.specs.Levels.{chain_bit, level, port_at}
-
--- a line, ended by its line feed
-abbrev pub as_line : List ℕ → List ℕ
-as_line bytes = bytes ++ 10 ∷ []
 
 -- the upper case hexadecimal digit of a nibble
 abbrev pub hex_digit : ℕ → ℕ
@@ -71,16 +68,17 @@ register_line s bank chip r =
     ++ codes " " ++ map hex_digit (stretch s.ram (bank * 256 + chip * 64 + r * 16) 16)
     ++ codes " " ++ map hex_digit (stretch s.status (bank * 64 + chip * 16 + r * 4) 4)
 
--- the output port of a RAM chip
-abbrev pub port_line : BusState → ℕ → ℕ → List ℕ
-port_line s bank chip =
-    digit_text bank ++ codes "." ++ digit_text chip ++ codes " out "
+-- the port of a RAM chip: its bank, its number, and after some word what its latch holds
+abbrev pub ram_port_text : List ℕ → BusState → ℕ → ℕ → List ℕ
+ram_port_text out s bank chip =
+    digit_text bank ++ codes "." ++ digit_text chip ++ out
     ++ digit_text (slice_index s.ram_ports (bank * 4 + chip))
 
 -- a RAM chip: its four registers, and its port
 abbrev pub chip_lines : BusState → ℕ → ℕ → List (List ℕ)
 chip_lines s bank chip =
-    map (register_line s bank chip) (range_with_len 0 4) ++ port_line s bank chip ∷ []
+    map (register_line s bank chip) (range_with_len 0 4)
+    ++ ram_port_text (codes " out ") s bank chip ∷ []
 
 -- `ram`: how many chips a bank has, and what each of them holds
 abbrev pub ram_lines : BusState → ℕ → List (List ℕ)
@@ -104,83 +102,7 @@ watch_text w = digit_text (w / 256) ++ codes "." ++ hex_2 (w % 256)
 abbrev pub watches_text : List ℕ → List ℕ
 watches_text watches = codes "watches " ++ or_dash (join_by watch_text (codes " ") watches)
 
--- after a word, texts that each begin with a space; a list of nothing is told as a dash
-abbrev pub spaced_or_dash : List ℕ → List ℕ
-spaced_or_dash [] = codes " -"
-spaced_or_dash bytes = bytes
-
--- the SRC byte that a bank keeps, where it has chips
-abbrev pub bank_src_text : BusState → ℕ → List ℕ
-bank_src_text s bank =
-    if nat_lt 0 (chips_of s bank)
-    then codes " " ++ digit_text bank ++ codes "." ++ hex_2 (slice_index s.ram_src bank)
-    else []
-
--- the SRC byte that the ROMs keep, and those of the banks, rising
-abbrev pub src_line : BusState → List ℕ
-src_line s =
-    codes "src " ++ hex_2 s.rom_src ++ flat_map (bank_src_text s) (range_with_len 0 BANKS)
-
--- the port of a ROM that is there: what its latch holds, and what is read there
-abbrev pub rom_port_lines : BusState → ℕ → List (List ℕ)
-rom_port_lines s chip =
-    elim (masks_on s.board chip) [
-      | Some mask ↦
-          (codes "rom " ++ decimal chip
-          ++ codes " out " ++ digit_text (slice_index s.rom_ports chip)
-          ++ codes " in " ++ digit_text (port_at s chip)) ∷ []
-      | None ↦ []
-    ]
-
--- bit i of a chain; a space goes before each group of ten
-abbrev pub bit_text : BusState → ℕ → ℕ → List ℕ
-bit_text s n i = (if i % 10 == 0 then codes " " else []) ++ digit_text (chain_bit s n i)
-
--- a chain: its bits, bit 0 first
-abbrev pub chain_line : BusState → ℕ → List ℕ
-chain_line s n =
-    codes "chain " ++ digit_text n
-    ++ flat_map (bit_text s n) (range_with_len 0 (chain_bits s.board n))
-
--- the keys of a row that are down, each as row and column
-abbrev pub row_keys : BusState → ℕ → ℕ → List ℕ
-row_keys s columns row =
-    flat_map
-    (λ column.
-    if slice_index s.keys (key_place s.board row column) == 1
-    then codes " " ++ digit_text row ++ codes "." ++ digit_text column
-    else [])
-    (range_with_len 0 columns)
-
--- the keys that are down, row by row; no line where the board has no key matrix
-abbrev pub key_lines : BusState → List (List ℕ)
-key_lines s =
-    elim s.board.keys [
-      | Some m ↦
-          (codes "keys"
-          ++ spaced_or_dash
-          (flat_map (row_keys s (length m.columns.items)) (range_with_len 0 m.rows))) ∷ []
-      | None ↦ []
-    ]
-
--- `ports`: what SRC has selected, the ports of the ROMs, the chains and the keys
-abbrev pub ports_lines : BusState → List (List ℕ)
-ports_lines s =
-    codes "ports" ∷ src_line s
-    ∷ flat_map (rom_port_lines s) (range_with_len 0 ROMS)
-    ++ map (chain_line s) (range_with_len 0 (chain_count s.board))
-    ++ key_lines s
-
--- `seq`: how many commands were accepted
-abbrev pub seq_text : ℕ → List ℕ
-seq_text seq = codes "seq " ++ decimal seq
-
--- ---- the state in one line
-
--- a list in one word: commas between the items, and a dash where there is none
-abbrev pub one_word : List (List ℕ) → List ℕ
-one_word [] = codes "-"
-one_word items = join_with_byte 44 items
+-- ---- what stands outside ROM and RAM, item by item
 
 -- a bank that has chips: its number, and the SRC byte that it keeps
 abbrev pub bank_items : BusState → ℕ → List (List ℕ)
@@ -189,30 +111,17 @@ bank_items s bank =
     then (digit_text bank ++ codes "." ++ hex_2 (slice_index s.ram_src bank)) ∷ []
     else []
 
--- a ROM that is there: its number, what the latch of its port holds, and what is read there
-abbrev pub rom_items : BusState → ℕ → List (List ℕ)
-rom_items s chip =
+-- the port of a ROM that is there: its number, and after some words what its latch holds and what is
+-- read there
+abbrev pub rom_port_texts : List ℕ → List ℕ → List ℕ → BusState → ℕ → List (List ℕ)
+rom_port_texts rom out read s chip =
     elim (masks_on s.board chip) [
       | Some mask ↦
-          (decimal chip
-          ++ codes "." ++ digit_text (slice_index s.rom_ports chip)
-          ++ codes "." ++ digit_text (port_at s chip)) ∷ []
+          (rom ++ decimal chip
+          ++ out ++ digit_text (slice_index s.rom_ports chip)
+          ++ read ++ digit_text (port_at s chip)) ∷ []
       | None ↦ []
     ]
-
--- a RAM chip: its bank, its number, and what the latch of its port holds
-abbrev pub ram_item : BusState → ℕ → ℕ → List ℕ
-ram_item s bank chip =
-    digit_text bank ++ codes "." ++ digit_text chip
-    ++ codes "." ++ digit_text (slice_index s.ram_ports (bank * 4 + chip))
-
--- the RAM chips of a bank
-abbrev pub ram_items : BusState → ℕ → List (List ℕ)
-ram_items s bank = map (ram_item s bank) (range_with_len 0 (chips_of s bank))
-
--- the bits of a chain, bit 0 first
-abbrev pub chain_item : BusState → ℕ → List ℕ
-chain_item s n = map (λ i. hex_digit (chain_bit s n i)) (range_with_len 0 (chain_bits s.board n))
 
 -- the key of a row and a column, where it is down
 abbrev pub key_item : BusState → ℕ → ℕ → List (List ℕ)
@@ -233,6 +142,67 @@ key_items s =
       | None ↦ []
     ]
 
+-- ---- `ports`
+
+-- items, each after a space
+abbrev pub spaced : List (List ℕ) → List ℕ
+spaced items = flat_map (λ item. codes " " ++ item) items
+
+-- the same; a list of nothing is told as a dash
+abbrev pub spaced_or_dash : List (List ℕ) → List ℕ
+spaced_or_dash [] = codes " -"
+spaced_or_dash items = spaced items
+
+-- the SRC byte that the ROMs keep, and those of the banks, rising
+abbrev pub src_line : BusState → List ℕ
+src_line s =
+    codes "src " ++ hex_2 s.rom_src ++ spaced (flat_map (bank_items s) (range_with_len 0 BANKS))
+
+-- bit i of a chain; a space goes before each group of ten
+abbrev pub bit_text : BusState → ℕ → ℕ → List ℕ
+bit_text s n i = (if i % 10 == 0 then codes " " else []) ++ digit_text (chain_bit s n i)
+
+-- a chain: its bits, bit 0 first
+abbrev pub chain_line : BusState → ℕ → List ℕ
+chain_line s n =
+    codes "chain " ++ digit_text n
+    ++ flat_map (bit_text s n) (range_with_len 0 (chain_bits s.board n))
+
+-- the keys that are down; no line where the board has no key matrix
+abbrev pub key_lines : BusState → List (List ℕ)
+key_lines s =
+    elim s.board.keys [
+      | Some m ↦ (codes "keys" ++ spaced_or_dash (key_items s)) ∷ []
+      | None ↦ []
+    ]
+
+-- `ports`: what SRC has selected, the ports of the ROMs, the chains and the keys
+abbrev pub ports_lines : BusState → List (List ℕ)
+ports_lines s =
+    codes "ports" ∷ src_line s
+    ∷ flat_map (rom_port_texts (codes "rom ") (codes " out ") (codes " in ") s) (range_with_len 0 ROMS)
+    ++ map (chain_line s) (range_with_len 0 (chain_count s.board))
+    ++ key_lines s
+
+-- `seq`: how many commands were accepted
+abbrev pub seq_text : ℕ → List ℕ
+seq_text seq = codes "seq " ++ decimal seq
+
+-- ---- the state in one line
+
+-- a list in one word: commas between the items, and a dash where there is none
+abbrev pub one_word : List (List ℕ) → List ℕ
+one_word [] = codes "-"
+one_word items = join_with_byte 44 items
+
+-- the ports of the RAM chips of a bank
+abbrev pub ram_items : BusState → ℕ → List (List ℕ)
+ram_items s bank = map (ram_port_text (codes ".") s bank) (range_with_len 0 (chips_of s bank))
+
+-- the bits of a chain, bit 0 first
+abbrev pub chain_item : BusState → ℕ → List ℕ
+chain_item s n = map (λ i. hex_digit (chain_bit s n i)) (range_with_len 0 (chain_bits s.board n))
+
 -- `state`: all that is not ROM or RAM, each part as a key and one word
 abbrev pub state_text : BenchState → List ℕ
 state_text s =
@@ -241,7 +211,7 @@ state_text s =
     ++ codes " ret " ++ one_word (map address_text s.processor.ret)
     ++ codes " src " ++ hex_2 s.bus.rom_src
     ++ codes " banks " ++ one_word (flat_map (bank_items s.bus) (range_with_len 0 BANKS))
-    ++ codes " roms " ++ one_word (flat_map (rom_items s.bus) (range_with_len 0 ROMS))
+    ++ codes " roms " ++ one_word (flat_map (rom_port_texts [] (codes ".") (codes ".") s.bus) (range_with_len 0 ROMS))
     ++ codes " rams " ++ one_word (flat_map (ram_items s.bus) (range_with_len 0 BANKS))
     ++ codes " chains "
     ++ one_word (map (chain_item s.bus) (range_with_len 0 (chain_count s.bus.board)))
@@ -254,9 +224,9 @@ state_text s =
 abbrev pub text_of_query : Query → BenchState → List ℕ
 text_of_query query.Lamps s = lamps_text s.bus
 text_of_query query.Regs s = regs_text s.processor s.bus.test
-text_of_query (query.Ram bank) s = join_with_byte 10 (ram_lines s.bus bank)
+text_of_query (query.Ram bank) s = join_with_byte line_feed (ram_lines s.bus bank)
 text_of_query query.Breaks s = breaks_text s.breakpoints
 text_of_query query.Watches s = watches_text s.watches
-text_of_query query.Ports s = join_with_byte 10 (ports_lines s.bus)
+text_of_query query.Ports s = join_with_byte line_feed (ports_lines s.bus)
 text_of_query query.Seq s = seq_text s.seq
 text_of_query query.State s = state_text s

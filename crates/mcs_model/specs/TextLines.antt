@@ -1,34 +1,46 @@
--- The lines of a text: of a source text, and of what the shell reads. (Our own choice.)
-use Rattle.std.specs.Prelude.{ℕ, ◌==◌, ◌||◌, Bool, not, true, false, List, [], ◌∷◌, ◌++◌, if◌then◌else◌}
+-- The lines of a text, and the words of a line: of a source text, and of what the shell reads. (Our
+-- own choice.)
+use Rattle.std.specs.Prelude.{ℕ, ◌==◌, ◌||◌, Bool, true, false, List, [], ◌∷◌, ◌++◌, filter, length, nat_lt}
+use Rattle.std.specs.List.{slice_split}
 use Rattle.std.specs.Str.Lines.{strip_carriage_return}
 
--- a space or a tab
-abbrev pub is_blank : ℕ → Bool
-is_blank b = b == 32 || b == 9
+-- the byte that ends a line
+abbrev pub line_feed : ℕ
+line_feed = 10
 
--- a byte that is not an LF
-abbrev pub no_lf : ℕ → Bool
-no_lf b = not (b == 10)
+abbrev pub is_line_feed : ℕ → Bool
+is_line_feed b = b == line_feed
 
--- what follows the last LF: a line where the text ends there (`whole`) and it has bytes; else none
+-- a line, ended by its line feed
+abbrev pub as_line : List ℕ → List ℕ
+as_line bytes = bytes ++ line_feed ∷ []
+
+-- what follows the last line feed: a line where the text ends there (`whole`) and it has bytes; else
+-- none
 abbrev pub last_line : Bool → List ℕ → List (List ℕ)
 last_line false line = []
 last_line true [] = []
 last_line true (b ∷ line) = strip_carriage_return (b ∷ line) ∷ []
 
--- the lines of a text, where `line` is what was already read of the first
-unfoldable pub lines_after : Bool → List ℕ → List ℕ → List (List ℕ)
-lines_after whole line [] = last_line whole line
-lines_after whole line (b ∷ text) =
-    if b == 10
-    then strip_carriage_return line ∷ lines_after whole [] text
-    else lines_after whole (line ++ b ∷ []) text
+-- the lines in the pieces between line feeds
+abbrev pub lines_in : Bool → List (List ℕ) → List (List ℕ)
+lines_in whole [] = []
+lines_in whole (last ∷ []) = last_line whole last
+lines_in whole (line ∷ next ∷ pieces) = strip_carriage_return line ∷ lines_in whole (next ∷ pieces)
 
--- The lines of a text, each without its LF and without one CR that ends it; `whole` says that the
--- text ends there, else it was cut.
-abbrev pub lines : List ℕ → Bool → List (List ℕ)
-lines text whole = lines_after whole [] text
+-- The lines of a text, each without its line feed and without one CR that ends it; `whole` says that
+-- the text ends there, else it was cut.
+unfoldable pub lines : List ℕ → Bool → List (List ℕ)
+lines text whole = lines_in whole (slice_split is_line_feed text)
 
 -- the lines of a text that ends
 abbrev pub lines_of : List ℕ → List (List ℕ)
 lines_of text = lines text true
+
+-- a space or a tab
+abbrev pub is_blank : ℕ → Bool
+is_blank b = b == 32 || b == 9
+
+-- the words of a line: what stands between spaces and tabs
+unfoldable pub words_of : List ℕ → List (List ℕ)
+words_of line = filter (λ w. nat_lt 0 (length w)) (slice_split is_blank line)

@@ -26,7 +26,8 @@ use Rattle.mcs_shell.specs.RefusalNumbers.{session_fault_number}
 use Rattle.mcs_answers.specs.AnswerTexts.{no_text, ok_text}
 use Rattle.mcs_shell.specs.Transcript.{IsPossibleOutcome, accepted_commands, answer, asked_command, change_answer, acknowledged_commands, halt_of, is_device_fault, plain_answer, reached_commands, takes_memory}
 use Rattle.mcs_session.specs.KeptCommands.{IsIntact}
-use Rattle.mcs_shell.specs.Serving.{AnsweredInput, LeavesSession, ServesInputs, ServesSteps, WroteBytes, outcome_of}
+use Rattle.mcs_shell.specs.Serving.{LeavesSession, ServesInputs, ServesSteps, WroteBytes}
+use Rattle.mcs_shell.specs.ServedPieces.{AnsweredInput, outcome_of}
 use Rattle.mcs_session.proofs.Keeping.{acknowledged_keeps, carries_nothing, failed_keeps, stays_keeps}
 use Rattle.mcs_shell.proofs.StepLists.{or_no, or_none}
 

@@ -6,7 +6,8 @@ use Rattle.std.proofs.lemmas.List.Elements.{filter-append}
 use Rattle.std.proofs.KnownBytes.{Appends-trans, Appends-nil, Consumes-kept, Consumes-trans, Consumes-nil}
 use Rattle.std.specs.Fmt.{decimal}
 use Rattle.std.specs.Option.{option_or}
-use Rattle.mcs_answers.specs.AnswerTexts.{line_feed, session_text}
+use Rattle.mcs_answers.specs.AnswerTexts.{session_text}
+use Rattle.mcs_model.specs.TextLines.{as_line, lines}
 use Rattle.mcs_lines.specs.declared.requests.TextKind.{TextKind}
 use Rattle.mcs_model.specs.declared.command.Command.{Command}
 use Rattle.mcs_model.specs.BenchState.{BenchState}
@@ -20,12 +21,14 @@ use Rattle.mcs_shell.specs.declared.outcome.Outcome.TheVariants.{Device}
 use Rattle.mcs_shell.specs.declared.shell.TheConstants.{CHUNK_BYTES}
 use Rattle.mcs_shell.specs.declared.texts.TextFault.TheVariants.{NoEnd}
 use Rattle.mcs_shell.specs.LineFeeds.{HasNoFeed}
-use Rattle.mcs_shell.specs.Inputs.{Input, BadText, Commands, InText, Pending, nothing_pending, inputs, inputs_after, inputs_of_lines}
-use Rattle.mcs_shell.specs.Serving.{ServesBytes, GotFirstBytes, LeavesSession, ServesInputs, WroteBytes}
+use Rattle.mcs_shell.specs.Inputs.{Input, BadText, inputs}
+use Rattle.mcs_shell.specs.Pending.{Commands, InText, Pending, nothing_pending, inputs_after, inputs_from}
+use Rattle.mcs_shell.specs.Serving.{GotFirstBytes, LeavesSession, ServesInputs, WroteBytes}
+use Rattle.mcs_shell.specs.ServedPieces.{ServesBytes}
 use Rattle.mcs_shell.specs.Shell.{EndsBy, ReadInput, ReadsLittleAhead, RanShellGiven, ReadBytes, inputs_read}
 use Rattle.mcs_shell.specs.ShellState.{KnownBytes, ShellState, with_written}
 use Rattle.mcs_shell.specs.Transcript.{Step, acknowledged_commands, answered_steps, halt_after, halt_of, in_turn, inputs_in, reached_commands}
-use Rattle.mcs_shell.proofs.LineFeeds.{after-cut, after-empty, after-whole}
+use Rattle.mcs_shell.proofs.LineFeeds.{after-cut, after-empty, after-whole, at_dots}
 use Rattle.mcs_shell.proofs.StepLists.{answered_all, halt-append, has_failed, some_apart}
 use Rattle.mcs_shell.proofs.Steps.{feeds_more, feeds_nothing, meets_nothing, serves_more}
 
@@ -55,11 +58,11 @@ meets_halted whole a b p q bytes cause x = record { met = x.met; serves = x.serv
 -- ---- where input ended
 
 pub finished_empty : (a : ShellState) (p : Pending) → length p.line ≡ 0 → p.mode ≡ Commands → ServesInputs IsIntact (inputs_after p [] true) a a None
-unfolding inputs_of_lines
+unfolding inputs_from
 finished_empty a p none is = meets_as IsIntact (inputs_after p [] true) [] a a None (after-empty p Commands none is) (meets_nothing a)
 
 pub finished_text : (a b : ShellState) (p : Pending) (kind : TextKind) (text : List ℕ) (halted : Option ShellEnd) → length p.line ≡ 0 → p.mode ≡ InText kind text → ServesInputs IsIntact (BadText NoEnd ∷ []) a b halted → ServesInputs IsIntact (inputs_after p [] true) a b halted
-unfolding inputs_of_lines
+unfolding inputs_from
 finished_text a b p kind text halted none is m = meets_as IsIntact (inputs_after p [] true) (BadText NoEnd ∷ []) a b halted (after-empty p (InText kind text) none is) m
 
 -- as if a line feed had come
@@ -92,7 +95,7 @@ so_far_more r r' r'' a b c line new_line chunk total n most x y z = record {
 
 from_fresh : (bytes : List ℕ) (whole : Bool) → inputs bytes whole ≡ inputs_after nothing_pending (bytes ++ []) whole
 unfolding inputs
-from_fresh bytes whole = ap (λ v. inputs_after nothing_pending v whole) (sym (append-nil bytes))
+from_fresh bytes whole = sym (at_dots whole Commands (lines bytes whole)) ∙ ap (λ v. inputs_after nothing_pending v whole) (sym (append-nil bytes))
 
 cut_is_met : (a b : ShellState) (line : Pending) (bytes : List ℕ) (x : ServesBytes a b nothing_pending line bytes None) → inputs bytes false ≡ inputs_in x.met
 cut_is_met a b line bytes x = from_fresh bytes false ∙ x.spelled [] false ∙ ap (λ v. inputs_in x.met ++ v) (x.all_met refl [] false ∙ after-cut line (x.no_feed refl)) ∙ append-nil (inputs_in x.met)
@@ -259,4 +262,4 @@ not_begun end r a out first_line settle some untold ends = record {
 }
 
 pub session_has_bytes : (s : BenchState) → 0 < length (session_text s)
-session_has_bytes s = let e : length (codes "session " ++ (decimal s.seq ++ line_feed)) ≡ 8 + length (decimal s.seq ++ line_feed) = length-append (codes "session ") (decimal s.seq ++ line_feed) in omega (arith, e)
+session_has_bytes s = let e : length (codes "session " ++ (as_line (decimal s.seq))) ≡ 8 + length (as_line (decimal s.seq)) = length-append (codes "session ") (as_line (decimal s.seq)) in omega (arith, e)

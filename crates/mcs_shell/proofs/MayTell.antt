@@ -8,7 +8,8 @@ use Rattle.mcs_session.specs.SessionState.{Premise, SessionState, SessionView, s
 use Rattle.mcs_session.specs.StandsFor.{DiskStandsFor}
 use Rattle.mcs_shell.specs.Answers.{MayTell}
 use Rattle.mcs_shell.specs.Inputs.{Input}
-use Rattle.mcs_shell.specs.Serving.{AnsweredInput, LeavesSession}
+use Rattle.mcs_shell.specs.Serving.{LeavesSession}
+use Rattle.mcs_shell.specs.ServedPieces.{AnsweredInput}
 use Rattle.mcs_shell.specs.Transcript.{is_device_fault}
 use Rattle.mcs_shell.specs.declared.outcome.Outcome.{Outcome}
 

@@ -9,16 +9,18 @@ use Rattle.mcs_lines.specs.LineRequests.{request_of}
 use Rattle.mcs_model.specs.declared.command.Command.{Command}
 use Rattle.mcs_model.specs.BenchState.{BenchState}
 use Rattle.mcs_model.specs.Fold.{fold}
-use Rattle.mcs_model.specs.TextLines.{lines}
+use Rattle.mcs_model.specs.TextLines.{is_line_feed, lines}
 use Rattle.mcs_session.specs.KeptCommands.{RecordsCommands, IsIntact}
 use Rattle.mcs_session.specs.SessionState.{Premise, SessionState}
 use Rattle.mcs_session.proofs.Folds.{fold-append}
 use Rattle.mcs_session.proofs.Keeping.{carries_more, carries_nothing, kept_more, settled_on}
 use Rattle.mcs_shell.specs.declared.ends.ShellEnd.{ShellEnd}
-use Rattle.mcs_shell.specs.LineFeeds.{HasNoFeed, is_line_feed}
-use Rattle.mcs_shell.specs.Inputs.{Input, Line, Pending, Commands, InText, text_begun, nothing_pending, inputs_after, is_dot_line, judged_text}
+use Rattle.mcs_shell.specs.LineFeeds.{HasNoFeed}
+use Rattle.mcs_shell.specs.Inputs.{Input, Line, text_begun, is_dot_line, judged_text}
+use Rattle.mcs_shell.specs.Pending.{Pending, Commands, InText, nothing_pending, inputs_after}
 use Rattle.mcs_shell.specs.Reading.{AddsLine, AddsLineToText}
-use Rattle.mcs_shell.specs.Serving.{ServesBytes, LeavesSession, ServesInputs, ServesSteps, WroteAnswers}
+use Rattle.mcs_shell.specs.Serving.{LeavesSession, ServesInputs, ServesSteps, WroteAnswers}
+use Rattle.mcs_shell.specs.ServedPieces.{ServesBytes}
 use Rattle.mcs_shell.specs.ShellState.{ShellState}
 use Rattle.mcs_shell.specs.Transcript.{ArePossibleSteps, Step, acknowledged_commands, halt_after, in_turn, inputs_in, reached_commands}
 use Rattle.mcs_shell.proofs.Cutting.{HasNone-append, HasNone-take}

@@ -1,12 +1,15 @@
 pub mod AnswerPieces
 pub mod LineFeeds
 pub mod Inputs
+pub mod Pending
 pub mod Reading
 pub mod Spelling
+pub mod TextNumbers
 pub mod RefusalNumbers
 pub mod ShellState
 pub mod Transcript
 pub mod Serving
+pub mod ServedPieces
 pub mod Shell
 pub mod Headline
 pub mod Program

@@ -1,9 +1,7 @@
--- Bytes without a line feed.
-use Rattle.std.specs.Prelude.{◌==◌, Bool, ℕ, List}
-use Rattle.mcs_lines.specs.Cutting.{HasNone}
-
-abbrev pub is_line_feed : ℕ → Bool
-is_line_feed b = b == 10
+-- Bytes without a line feed. It is cited by clauses of private functions alone.
+use Rattle.std.specs.Prelude.{ℕ, List}
+use Rattle.mcs_model.specs.Cutting.{HasNone}
+use Rattle.mcs_model.specs.TextLines.{is_line_feed}
 
 abbrev pub HasNoFeed : List ℕ → Type 0
 HasNoFeed bytes = HasNone is_line_feed bytes

@@ -1,4 +1,4 @@
--- The numbers that refusals are reported as.
+-- The numbers that refusals of commands and of sessions are reported as.
 use Rattle.std.specs.Prelude.{ℕ}
 use Rattle.mcs_host.specs.declared.file_fault.FileFault.{FileFault}
 use Rattle.mcs_host.specs.declared.file_fault.FileFault.TheVariants as file_fault
@@ -9,20 +9,11 @@ use Rattle.mcs_journal.specs.declared.fault.CreateFault.TheVariants as create_fa
 use Rattle.mcs_journal.specs.declared.fault.OpenFault.{OpenFault}
 use Rattle.mcs_journal.specs.declared.fault.OpenFault.TheVariants as open_fault
 use Rattle.mcs_model.specs.RefusalNumbers.{bench_fault_number}
-use Rattle.mcs_model.specs.declared.refusal_numbers.TheConstants.{CLOSED, DAMAGED, DEVICE, LINE_TOO_LONG, NOT_ASCII, NOT_A_SESSION, NOT_BLANK, NO_END, NO_MEMORY, TEXT_TOO_LONG}
+use Rattle.mcs_model.specs.declared.refusal_numbers.TheConstants.{CLOSED, DAMAGED, DEVICE, NOT_A_SESSION, NOT_BLANK, NO_MEMORY}
 use Rattle.mcs_session.specs.declared.fault.SessionFault.{SessionFault}
 use Rattle.mcs_session.specs.declared.fault.SessionFault.TheVariants as session_fault
 use Rattle.mcs_shell.specs.declared.refusal.Refusal.{Refusal}
 use Rattle.mcs_shell.specs.declared.refusal.Refusal.TheVariants as refusal
-use Rattle.mcs_shell.specs.declared.texts.TextFault.{TextFault}
-use Rattle.mcs_shell.specs.declared.texts.TextFault.TheVariants as text_fault
-
--- the numbers of texts that are refused whatever their lines say
-abbrev pub text_fault_number : TextFault → ℕ
-text_fault_number text_fault.NoEnd = NO_END
-text_fault_number text_fault.TextTooLong = TEXT_TOO_LONG
-text_fault_number text_fault.HasLongLine = LINE_TOO_LONG
-text_fault_number text_fault.HasBadByte = NOT_ASCII
 
 -- the numbers that refusals to record a command are reported as
 abbrev pub session_fault_number : SessionFault → ℕ

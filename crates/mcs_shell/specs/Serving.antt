@@ -6,17 +6,12 @@ use Rattle.mcs_disk.specs.Disk.{CountsFault}
 use Rattle.mcs_model.specs.declared.command.Command.{Command}
 use Rattle.mcs_model.specs.BenchState.{BenchState}
 use Rattle.mcs_model.specs.Fold.{fold}
-use Rattle.mcs_shell.specs.declared.outcome.Outcome.{Outcome}
-use Rattle.mcs_shell.specs.declared.outcome.Outcome.TheVariants.{Plain, Device, Closed}
-use Rattle.mcs_session.specs.declared.fault.SessionFault.{SessionFault}
-use Rattle.mcs_session.specs.declared.fault.SessionFault.TheVariants as session_fault
 use Rattle.mcs_shell.specs.declared.ends.ShellEnd.{ShellEnd}
-use Rattle.mcs_shell.specs.LineFeeds.{HasNoFeed}
-use Rattle.mcs_shell.specs.Inputs.{Input, Pending, inputs_after}
+use Rattle.mcs_shell.specs.Inputs.{Input}
 use Rattle.mcs_session.specs.SessionState.{Premise, SessionState}
 use Rattle.mcs_shell.specs.ShellState.{KnownBytes, ShellState}
-use Rattle.mcs_shell.specs.Transcript.{IsPossibleOutcome, ArePossibleSteps, Step, answer, acknowledged_commands, halt_after, in_turn, inputs_in, is_device_fault, reached_commands}
-use Rattle.mcs_session.specs.KeptCommands.{RecordsCommands, IsIntact, KeepsCommands}
+use Rattle.mcs_shell.specs.Transcript.{ArePossibleSteps, Step, answer, acknowledged_commands, halt_after, in_turn, inputs_in, is_device_fault, reached_commands}
+use Rattle.mcs_session.specs.KeptCommands.{RecordsCommands, KeepsCommands}
 
 -- ---- an answer
 
@@ -40,12 +35,6 @@ WroteAnswers s (x ∷ rest) old new =
 
 -- ---- the session
 
--- what comes of an input whose command was not recorded
-abbrev pub outcome_of : SessionFault → Outcome
-outcome_of (session_fault.Refused fault) = Plain
-outcome_of session_fault.Device = Device
-outcome_of session_fault.Closed = Closed
-
 -- The device failed, which closed the session. The commands `done` were answered `ok`;
 -- `reached_too`, which holds them and the one at which the device failed, may all have reached the
 -- disk.
@@ -61,16 +50,6 @@ abbrev pub LeavesSession : Premise → Bool → SessionState → SessionState �
     → List Command → Type 0
 LeavesSession Given false a b done reached_too = RecordsCommands Given a b done
 LeavesSession Given true a b done reached_too = ClosesSession Given a b done reached_too
-
--- an input had this outcome in the session a: its answer is this, and it left the session b
-pub record AnsweredInput
-    (a : SessionState) (i : Input) (o : Outcome) (told : List ℕ)
-    (b : SessionState) : Type 0 where
-  pub may : IsPossibleOutcome a.live a.state i o
-  pub told_is : told ≡ answer a.state i o
-  pub leaves : LeavesSession IsIntact (is_device_fault o) a b
-      (acknowledged_commands a.state i o)
-      (reached_commands a.state i o)
 
 -- ---- inputs in turn
 
@@ -95,18 +74,3 @@ pub record ServesInputs
   pub not_met : List Input
   pub spelled : given ≡ inputs_in met ++ not_met
   pub all_met : halted ≡ None → not_met ≡ []
-
--- From what was unfinished in `p` on, these bytes were read, and the first of the inputs that they
--- spell were met: all, where nothing halted the shell, and what is unfinished then is `q`.
-pub record ServesBytes
-    (a b : ShellState) (p q : Pending) (bytes : List ℕ) (halted : Option ShellEnd) : Type 0 where
-  pub met : List Step
-  pub serves : ServesSteps IsIntact a met b
-  pub halts : halt_after met ≡ halted
-  -- however the bytes go on
-  pub not_met : List ℕ → Bool → List Input
-  pub spelled : (more : List ℕ) (whole : Bool)
-      → inputs_after p (bytes ++ more) whole ≡ inputs_in met ++ not_met more whole
-  pub all_met : halted ≡ None → (more : List ℕ) (whole : Bool)
-      → not_met more whole ≡ inputs_after q more whole
-  pub no_feed : halted ≡ None → HasNoFeed q.line

@@ -1,9 +1,10 @@
 -- What a text comes to, and what is told where it spells nothing.
-use Rattle.std.specs.Prelude.{ℕ, List, [], ◌∷◌, nat_lt, if◌then◌else◌, Result, Ok, Err}
+use Rattle.std.specs.Prelude.{ℕ, List, Result, Ok, Err}
 use Rattle.std.specs.Result.{result_map_both}
 use Rattle.mcs_model.specs.declared.board.BoardParts.{BoardParts}
 use Rattle.mcs_model.specs.declared.command.Command.{Command}
 use Rattle.mcs_model.specs.declared.command.Command.TheVariants as command
+use Rattle.mcs_model.specs.Images.{by_address}
 use Rattle.mcs_source.specs.Assembly.{assembly_of_text}
 use Rattle.mcs_source.specs.MapText.{survey_text}
 use Rattle.mcs_source.specs.RefusalNumbers.{source_fault_number}
@@ -24,18 +25,6 @@ use Rattle.mcs_answers.specs.AnswerTexts.{no_line_text, no_text}
 abbrev pub wire_command : Result BoardParts WiringFault → Result Command TextRefusal
 wire_command (Ok board) = Ok (command.Wire board)
 wire_command (Err fault) = Err (Wiring fault)
-
--- a pair among pairs that rise by address
-abbrev pub insert_pair : ℕ × ℕ → List (ℕ × ℕ) → List (ℕ × ℕ)
-insert_pair p [] = p ∷ []
-insert_pair p (q ∷ qs) =
-    if nat_lt p.0 q.0 then p ∷ q ∷ qs
-    else (if nat_lt q.0 p.0 then q ∷ insert_pair p qs else q ∷ qs)
-
--- these pairs by rising address
-abbrev pub by_address : List (ℕ × ℕ) → List (ℕ × ℕ)
-by_address [] = []
-by_address (p ∷ ps) = insert_pair p (by_address ps)
 
 -- the command to load the bytes of a program
 abbrev pub load_command : Result (List (ℕ × ℕ)) (ℕ × SourceFault) → Result Command TextRefusal

@@ -17,7 +17,7 @@ use Rattle.mcs_shell.specs.declared.outcome.Outcome.{Outcome}
 use Rattle.mcs_shell.specs.declared.outcome.Outcome.TheVariants.{Plain, Device, Closed, NoMemory}
 use Rattle.mcs_shell.specs.declared.spelling.TextRefusal.{TextRefusal}
 use Rattle.mcs_shell.specs.Inputs.{Input, Line, Text, BadText}
-use Rattle.mcs_shell.specs.RefusalNumbers.{text_fault_number}
+use Rattle.mcs_shell.specs.TextNumbers.{text_fault_number}
 use Rattle.mcs_shell.specs.Spelling.{TextMeaning, Does, Tells, meaning_of_text, text_refusal}
 
 -- ---- one input

@@ -2,7 +2,8 @@
 ghost use Rattle.std.specs.Prelude.{◌≡◌, ◌≤◌, ◌++◌, [], length, OnOk, OnErr};
 ghost use Rattle.std.specs.Io.KnownBytes.{Appends};
 ghost use Rattle.std.specs.Fmt.{decimal};
-ghost use Rattle.mcs_answers.specs.AnswerTexts.{board_answer, line_feed, listing_answer, no_text, ok_text, query_answer};
+ghost use Rattle.mcs_answers.specs.AnswerTexts.{board_answer, listing_answer, no_text, ok_text, query_answer};
+ghost use Rattle.mcs_model.specs.TextLines.{as_line};
 ghost use Rattle.mcs_answers.specs.AheadTexts.{count_answer, trace_answer};
 ghost use Rattle.mcs_shell.specs.Serving.{GotFirstBytes};
 ghost use Rattle.mcs_shell.specs.Answers.{MayTell};
@@ -57,7 +58,7 @@ impl Answer {
     /// Tells a word, a number and a line feed.
     pub(crate) fn tell_number(&mut self, word: &[u8], n: u32)
         requires { length word.now ≤ 20 }
-        ensures { self.new ≡ word.now ++ (decimal n ++ line_feed) }
+        ensures { self.new ≡ word.now ++ as_line (decimal n) }
     {
         self.long = None;
         self.short.clear();

@@ -5,7 +5,7 @@ ghost use Rattle.mcs_lines.specs.declared.requests.Request.TheVariants.{Change};
 ghost use Rattle.mcs_model.specs.declared.refusal_numbers.TheConstants.{NO_MEMORY};
 ghost use Rattle.mcs_session.specs.SessionState.{session_state};
 ghost use Rattle.mcs_shell.specs.Inputs.{Line, judged_text};
-ghost use Rattle.mcs_shell.specs.Serving.{AnsweredInput, outcome_of};
+ghost use Rattle.mcs_shell.specs.ServedPieces.{AnsweredInput, outcome_of};
 
 use crate::answer::Answer;
 use crate::faults::session_number;

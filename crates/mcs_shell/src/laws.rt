@@ -1,13 +1,14 @@
 //! Laws of inputs, as the contracts of functions that do nothing.
 ghost use Rattle.std.specs.Prelude.{◌≡◌, ◌↔◌, ◌∷◌, ◌++◌, [], ℕ, Bool, List, Err, None, codes, false, true};
 ghost use Rattle.std.specs.List.{flat_map, list_any};
+ghost use Rattle.mcs_model.specs.TextLines.{as_line};
 ghost use Rattle.mcs_lines.specs.LineRequests.{request_of};
 ghost use Rattle.mcs_lines.specs.declared.requests.Request.TheVariants.{Begin};
 ghost use Rattle.mcs_lines.specs.declared.requests.TextKind.{TextKind};
 ghost use Rattle.mcs_lines.specs.declared.requests.TextKind.TheVariants.{Asm, Map};
 ghost use Rattle.mcs_shell.specs.declared.spelling.TextRefusal.{TextRefusal};
 ghost use Rattle.mcs_shell.specs.declared.texts.TextFault.TheVariants.{NoEnd};
-ghost use Rattle.mcs_shell.specs.Inputs.{BadText, Commands, Text, inputs_of_lines, is_dot_line, judged_text};
+ghost use Rattle.mcs_shell.specs.Inputs.{BadText, Text, inputs_of_lines, is_dot_line, judged_text};
 ghost use Rattle.mcs_shell.specs.Spelling.{meaning_of_text};
 ghost use Rattle.mcs_shell.specs.Transcript.{asked_command};
 
@@ -17,12 +18,12 @@ ghost use Rattle.mcs_shell.specs.Transcript.{asked_command};
 pub fn a_text_ends_at_a_dot()
     ensures ended { (whole : Bool) (kind : TextKind) (line : List ℕ) (text rest : List (List ℕ))
         → request_of line ≡ Begin kind → list_any is_dot_line text ≡ false
-        → inputs_of_lines whole Commands (line ∷ (text ++ codes "." ∷ rest))
-        ≡ judged_text kind (flat_map (λ l. l ++ 10 ∷ []) text)
-        ∷ inputs_of_lines whole Commands rest }
+        → inputs_of_lines whole false (line ∷ (text ++ codes "." ∷ rest))
+        ≡ judged_text kind (flat_map as_line text)
+        ∷ inputs_of_lines whole false rest }
     ensures open { (kind : TextKind) (line : List ℕ) (text : List (List ℕ))
         → request_of line ≡ Begin kind → list_any is_dot_line text ≡ false
-        → inputs_of_lines true Commands (line ∷ text) ≡ BadText NoEnd ∷ [] }
+        → inputs_of_lines true false (line ∷ text) ≡ BadText NoEnd ∷ [] }
 {}
 
 /// A map asks for no command, and it is refused where the program would be, for the same reason.

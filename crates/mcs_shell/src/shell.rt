@@ -7,7 +7,7 @@ ghost use Rattle.mcs_shell.specs.LineFeeds.{HasNoFeed};
 ghost use Rattle.mcs_shell.specs.ShellState.{shell_state};
 ghost use Rattle.mcs_shell.specs.Shell.{RanShell, RanShellGiven, ReadBytes};
 ghost use Rattle.mcs_shell.specs.Serving.{ServesInputs};
-ghost use Rattle.mcs_shell.specs.Inputs.{inputs_after};
+ghost use Rattle.mcs_shell.specs.Pending.{inputs_after};
 ghost use Rattle.mcs_session.specs.KeptCommands.{IsIntact};
 
 use crate::answer::Answer;

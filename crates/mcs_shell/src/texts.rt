@@ -1,10 +1,9 @@
 //! Texts: where they end, and which are refused whatever their lines say.
 ghost use Rattle.std.specs.Prelude.{◌≡◌, None};
-ghost use Rattle.std.specs.List.{list_all};
-ghost use Rattle.mcs_lines.specs.Cutting.{cut_at};
-ghost use Rattle.mcs_shell.specs.LineFeeds.{is_line_feed};
+ghost use Rattle.std.specs.List.{list_all, slice_split};
+ghost use Rattle.mcs_model.specs.TextLines.{is_line_feed};
 ghost use Rattle.mcs_shell.specs.Inputs.{text_fault_of, is_dot_line, is_short, is_text_byte};
-ghost use Rattle.mcs_shell.specs.RefusalNumbers.{text_fault_number};
+ghost use Rattle.mcs_shell.specs.TextNumbers.{text_fault_number};
 
 use mcs_lines::words::{equals, is_plain_byte};
 use mcs_model::limits::{LINE_BYTES, TEXT_BYTES};
@@ -51,7 +50,7 @@ pub fn ends_text(line: &[u8]) -> bool
 }
 
 fn has_short_lines(text: &[u8]) -> bool
-    ensures { result ≡ list_all is_short (cut_at is_line_feed text.now) }
+    ensures { result ≡ list_all is_short (slice_split is_line_feed text.now) }
 {
     let mut count = 0;
     for byte in text {

@@ -7,7 +7,8 @@ use Rattle.std.proofs.lemmas.Bool.{eqb-true, and_parts, true≢false}
 use Rattle.mcs_model.specs.declared.op.Op.{Op}
 use Rattle.mcs_model.specs.declared.op.Op.TheVariants.{Jcn, Fim, Jun, Jms, Isz}
 use Rattle.mcs_model.specs.Table.{word_count_of, Row, rows, covers, row_of, instruction_of}
-use Rattle.mcs_source.specs.Spelling.{IsOp, spelling, IsSpelledBy}
+use Rattle.mcs_source.specs.Spelling.{spelling}
+use Rattle.mcs_source.specs.Spelled.{IsOp, IsSpelledBy}
 
 -- the words of an instruction are these two, or the first; where the second is a byte, its operands
 -- are in their ranges

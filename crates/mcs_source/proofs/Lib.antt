@@ -1,3 +1,4 @@
 pub mod Decoding
 pub mod LineByLine
 pub mod Surveys
+pub mod Tokens

@@ -8,7 +8,8 @@ use Rattle.mcs_source.specs.Lines.{SourceLine}
 use Rattle.mcs_model.specs.Images.{from_address}
 use Rattle.mcs_model.specs.TextLines.{lines_of}
 use Rattle.mcs_source.specs.Assembly.{Names, read, address_of, ith_line, all_names, line_bytes, bytes_or_none, line_pairs, pairs_before, unless_fault, first_of_class_one, first_of_class_two, assembly_of, assembly_of_text}
-use Rattle.mcs_source.specs.Survey.{Survey, span, addresses, spans_before, survey_of, survey_of_text}
+use Rattle.mcs_source.specs.Survey.{Survey, span, spans_before, survey_of, survey_of_text}
+use Rattle.mcs_source.specs.SpanAddresses.{addresses}
 
 pub from_length : (at : ℕ) (bytes : List ℕ) → length (from_address at bytes) ≡ length bytes
 from_length at [] = refl

@@ -16,6 +16,7 @@ use Rattle.mcs_source.specs.Spelling.{spelling}
 use Rattle.mcs_model.specs.Numbers.{page_of}
 use Rattle.mcs_model.specs.Table.{word_count_of}
 use Rattle.mcs_model.specs.Options.{◌>>=◌}
+use Rattle.mcs_model.specs.WordTables.{beside}
 
 -- ---- the lines of a text, and what they say
 
@@ -132,8 +133,7 @@ class_one_fault lines i = fault_one (address_of lines i) (names_before lines i) 
 -- the value of a name: the one that the first line that defines it gives it, if there is such a
 -- line
 abbrev pub value_of : List ℕ → Names → Option ℕ
-value_of w [] = None
-value_of w (n ∷ names) = if bytes_eq n.0 w then Some n.1 else value_of w names
+value_of w names = beside (λ name. bytes_eq name w) names
 
 abbrev pub value_in : Names → Operand → Option ℕ
 value_in names (Number n) = Some n

@@ -1,7 +1,8 @@
 -- The tokens of a line of a source text. (Our own choice.)
-use Rattle.std.specs.Prelude.{ℕ, Bool, ◌||◌, List, [], ◌∷◌, ◌++◌, ◌==◌, if◌then◌else◌}
+use Rattle.std.specs.Prelude.{ℕ, Bool, ◌||◌, List, [], ◌∷◌, ◌==◌, map, if◌then◌else◌}
+use Rattle.std.specs.List.{before_first, flat_map}
 use Rattle.std.specs.Char.{is_ascii_digit, is_ascii_uppercase, is_ascii_lowercase}
-use Rattle.mcs_model.specs.TextLines.{is_blank}
+use Rattle.mcs_model.specs.TextLines.{is_blank, words_of}
 
 -- a word is a run of letters, digits and `_`; `Other` is a byte that no form of a line has, as one
 -- that is not ASCII
@@ -20,20 +21,15 @@ is_word_byte b = ((is_ascii_digit b || is_ascii_uppercase b) || is_ascii_lowerca
 abbrev pub symbol : ℕ → Token
 symbol b = if b == 44 then Comma else if b == 58 then Colon else if b == 61 then Equals else Other
 
--- the word that ends here, if there is one
-abbrev pub word_then : List ℕ → List Token → List Token
-word_then [] more = more
-word_then (b ∷ word) more = Word (b ∷ word) ∷ more
+-- a byte of a line; blanks set a symbol apart from what stands beside it
+abbrev pub set_apart : ℕ → List ℕ
+set_apart b = if is_word_byte b || is_blank b then b ∷ [] else 32 ∷ b ∷ 32 ∷ []
 
--- the tokens from within a word on
-unfoldable pub tokens_after : List ℕ → List ℕ → List Token
-tokens_after word [] = word_then word []
-tokens_after word (b ∷ bytes) =
-    if is_word_byte b then tokens_after (word ++ b ∷ []) bytes else
-    word_then word
-    (if is_blank b then tokens_after [] bytes else
-    if b == 59 then [] else symbol b ∷ tokens_after [] bytes)
+-- the token that a piece without blanks is: a word, or a byte that was set apart
+abbrev pub token_of : List ℕ → Token
+token_of [] = Other
+token_of (b ∷ word) = if is_word_byte b then Word (b ∷ word) else symbol b
 
 -- the tokens of a line; a `;` begins a comment
-abbrev pub tokens : List ℕ → List Token
-tokens bytes = tokens_after [] bytes
+unfoldable pub tokens : List ℕ → List Token
+tokens line = map token_of (words_of (flat_map set_apart (before_first (λ b. b == 59) line)))

@@ -1,10 +1,13 @@
 pub mod RefusalNumbers
 pub mod Spelling
+pub mod Spelled
 pub mod Lexical
 pub mod InstructionNames
 pub mod Mnemonics
 pub mod Lines
 pub mod Assembly
 pub mod Survey
+pub mod SpanAddresses
 pub mod MapText
 pub mod Text
+pub mod SourceText

@@ -1,7 +1,7 @@
 -- What the tokens of a line say. A line is an optional label, an optional statement and an optional
 -- comment, or a definition of a name. (Our own choice, with the operands of the MCS-4 Users
 -- Manual.)
-use Rattle.std.specs.Prelude.{ℕ, ◌-◌, Bool, true, false, not, ◌&&◌, ◌||◌, List, [], ◌∷◌, Option, Some, None, is_some, nat_le, ◌==◌, if◌then◌else◌, codes, length}
+use Rattle.std.specs.Prelude.{ℕ, ◌-◌, Bool, false, not, ◌&&◌, ◌||◌, List, [], ◌∷◌, Option, Some, None, is_some, nat_le, ◌==◌, if◌then◌else◌, codes, length}
 use Rattle.std.specs.Str.{str_eq_ignore_ascii_case}
 use Rattle.std.specs.Char.{is_ascii_digit, is_ascii_uppercase, is_ascii_lowercase}
 use Rattle.std.specs.Int.{is_in_range}
@@ -107,17 +107,6 @@ first_register ts = word_first ts >>= λ x. register_named x.0 >>= λ r. Some (r
 abbrev pub first_pair : List Token → Option (ℕ × List Token)
 first_pair ts = word_first ts >>= λ x. pair_named x.0 >>= λ p. Some (p, x.1)
 
--- what follows, where a comma stands before it
-abbrev pub rest_if : Bool → List Token → Option (List Token)
-rest_if true ts = Some ts
-rest_if false ts = None
-
--- the first operand, and what follows its comma
-abbrev pub list_item : List Token → Option (Operand × Option (List Token))
-list_item (Word w ∷ []) = operand_of w >>= λ v. Some (v, None)
-list_item (Word w ∷ Comma ∷ more) = operand_of w >>= λ v. Some (v, Some more)
-list_item ts = None
-
 -- one or more operands with commas between
 unfoldable pub operands_of : List Token → Option (List Operand)
 operands_of (Word w ∷ []) = operand_of w >>= λ v. Some (v ∷ [])
@@ -125,9 +114,9 @@ operands_of (Word w ∷ Comma ∷ more) = operand_of w >>= λ v. operands_of mor
 operands_of ts = None
 
 -- an instruction without operands
-abbrev pub nothing : Op → List Token → Option Statement
-nothing o [] = Some (Whole o)
-nothing o (t ∷ ts) = None
+abbrev pub bare_statement : Op → List Token → Option Statement
+bare_statement o [] = Some (Whole o)
+bare_statement o (t ∷ ts) = None
 
 -- the statement that a mnemonic begins, from what follows it
 abbrev pub after_mnemonic : Mnemonic → List Token → Option Statement
@@ -148,7 +137,7 @@ after_mnemonic m.Ld ts = one_register ts >>= λ r. Some (Whole (op.Ld r))
 after_mnemonic m.Xch ts = one_register ts >>= λ r. Some (Whole (op.Xch r))
 after_mnemonic m.Bbl ts = one_operand ts >>= λ v. Some (Bbl v)
 after_mnemonic m.Ldm ts = one_operand ts >>= λ v. Some (Ldm v)
-after_mnemonic (m.Bare o) ts = nothing o ts
+after_mnemonic (m.Bare o) ts = bare_statement o ts
 
 -- the statement that some tokens are, if they have the form of one
 unfoldable pub statement_of : List Token → Option Statement

@@ -1,18 +1,18 @@
 -- The words that begin a statement: the names of the 45 instructions, `ORG` and `DB`.
 -- (Names: MCS-4 Users Manual, instruction set. `ORG` and `DB`: our own choice.)
-use Rattle.std.specs.Prelude.{ℕ, List, [], ◌∷◌, Option, Some, None, codes, if◌then◌else◌}
+use Rattle.std.specs.Prelude.{ℕ, List, [], ◌∷◌, Option, Some, None, codes}
 use Rattle.std.specs.Str.{str_eq_ignore_ascii_case}
 use Rattle.mcs_model.specs.declared.op.Op.{Op}
 use Rattle.mcs_model.specs.declared.op.Op.TheVariants as op
+use Rattle.mcs_model.specs.WordTables.{beside}
 use Rattle.mcs_source.specs.InstructionNames.{name}
 use Rattle.mcs_source.specs.declared.mnemonic.Mnemonic.{Mnemonic}
 use Rattle.mcs_source.specs.declared.mnemonic.Mnemonic.TheVariants as m
 
--- what stands beside a word in a table, in either case. (An instruction stands in it by its name,
+-- What stands beside a word in a table, in either case. (An instruction stands in it by its name,
 -- whatever its operands.)
 abbrev pub mnemonic_beside : List ℕ → List (List ℕ × Mnemonic) → Option Mnemonic
-mnemonic_beside w [] = None
-mnemonic_beside w (row ∷ rows) = if str_eq_ignore_ascii_case w row.0 then Some row.1 else mnemonic_beside w rows
+mnemonic_beside w rows = beside (str_eq_ignore_ascii_case w) rows
 
 -- an instruction without operands beside its name
 abbrev pub bare : Op → List ℕ × Mnemonic

@@ -13,10 +13,6 @@ use Rattle.mcs_model.specs.TextLines.{lines_of}
 abbrev pub span : List (Option SourceLine) → Names → ℕ → Span
 span lines names i = record { at = address_of lines i; size = length (line_pairs lines names i) }
 
--- the addresses of the bytes that a line with this span spells
-abbrev pub addresses : Span → List ℕ
-addresses s = range_with_len s.at s.size
-
 -- the span of each line before line i
 unfoldable pub spans_before : List (Option SourceLine) → Names → ℕ → List Span
 spans_before lines names i = map (span lines names) (range_with_len 0 i)

@@ -1,15 +1,14 @@
--- The text of an instruction at an address, the listing of a ROM, and the source of a range of it.
+-- The text of an instruction at an address, and the listing of a ROM.
 -- (Names and operands: MCS-4 Users Manual, instruction set. Their spelling: our own choice.)
-use Rattle.std.specs.Prelude.{◌≡◌, ℕ, zero, suc, ◌+◌, ◌-◌, ◌/◌, ◌%◌, List, [], ◌∷◌, ◌++◌, length, take, drop, codes, Option, Some, None, Ok, nat_lt, nat_le, if◌then◌else◌}
-use Rattle.std.specs.Option.{option_to_list}
+use Rattle.std.specs.Prelude.{ℕ, zero, suc, ◌+◌, ◌-◌, ◌/◌, ◌%◌, List, [], ◌∷◌, ◌++◌, length, drop, codes, Option, Some, None, nat_lt, nat_le, if◌then◌else◌}
 use Rattle.std.specs.List.{flat_map}
 use Rattle.std.specs.Fmt.{decimal}
 use Rattle.mcs_model.specs.declared.op.Op.{Op}
 use Rattle.mcs_model.specs.declared.op.Op.TheVariants.{Jcn, Fim, Src, Fin, Jin, Jun, Jms, Inc, Isz, Add, Sub, Ld, Xch, Bbl, Ldm}
-use Rattle.mcs_model.specs.QueryText.{as_line, hex_2, hex_digit}
+use Rattle.mcs_model.specs.QueryText.{hex_2, hex_digit}
+use Rattle.mcs_model.specs.TextLines.{as_line}
 use Rattle.mcs_model.specs.Table.{instruction_of, word_count_of}
-use Rattle.mcs_model.specs.Images.{from_address}
-use Rattle.mcs_source.specs.Assembly.{assembly_of_text, near_page}
+use Rattle.mcs_source.specs.Assembly.{near_page}
 use Rattle.mcs_source.specs.InstructionNames.{name}
 
 -- the three digits of an address, by its page and its word
@@ -70,40 +69,6 @@ abbrev pub piece_size : Option Op → ℕ
 piece_size None = 1
 piece_size (Some o) = word_count_of o
 
--- the text of one instruction: its first word, and its second if there is one before the end
-abbrev pub line_text : ℕ → ℕ → Option ℕ → List ℕ
-line_text at first second = piece_text at first (op_at first (option_to_list second))
-
--- the texts of the pieces of some bytes, whose first stands at an address; at most `most` of them
-unfoldable pub piece_texts : ℕ → ℕ → List ℕ → List (List ℕ)
-piece_texts zero at bytes = []
-piece_texts (suc most) at [] = []
-piece_texts (suc most) at (b ∷ rest) =
-    piece_text at b (op_at b rest)
-    ∷ piece_texts most (at + piece_size (op_at b rest)) (drop (piece_size (op_at b rest) - 1) rest)
-
--- ---- the source of a range
-
-abbrev pub origin_text : ℕ → List ℕ
-origin_text at = codes "ORG " ++ address (at / 256) (at % 256)
-
--- the source of some bytes that stand from an address on: the `ORG` line, and a line for each piece
-abbrev pub source_of : ℕ → List ℕ → List ℕ
-source_of from bytes = flat_map as_line (origin_text from ∷ piece_texts (length bytes) from bytes)
-
-abbrev pub range : List ℕ → ℕ → ℕ → List ℕ
-range rom from to = take (to - from) (drop from rom)
-
--- the source of the addresses `from` to below `to`
-abbrev pub source_text : List ℕ → ℕ → ℕ → List ℕ
-source_text rom from to = source_of from (range rom from to)
-
--- the law: the source of a range has no fault, and spells exactly the bytes of the range, each at
--- its address
-abbrev pub SpellsItself : List ℕ → ℕ → ℕ → Type 0
-SpellsItself rom from to =
-    assembly_of_text (source_text rom from to) ≡ Ok (from_address from (range rom from to))
-
 -- ---- the listing
 
 -- a second word as it is listed: two digits, or two spaces where a piece has none
@@ -125,15 +90,15 @@ abbrev pub columns : ℕ → ℕ → Option ℕ → List ℕ
 columns at first second = address_digits (at / 256) (at % 256) ++ word_columns first second
 
 -- `AAA BB BB TEXT`
-abbrev pub listed_line : ℕ → ℕ → List ℕ → Option Op → List ℕ
-listed_line at b rest piece = columns at b (second_of piece rest) ++ piece_text at b piece
+abbrev pub listing_line : ℕ → ℕ → List ℕ → Option Op → List ℕ
+listing_line at b rest piece = columns at b (second_of piece rest) ++ piece_text at b piece
 
 -- the lines of the pieces of some bytes, whose first stands at an address; at most `most` of them
 unfoldable pub listing_lines : ℕ → ℕ → List ℕ → List (List ℕ)
 listing_lines zero at bytes = []
 listing_lines (suc most) at [] = []
 listing_lines (suc most) at (b ∷ rest) =
-    listed_line at b rest (op_at b rest)
+    listing_line at b rest (op_at b rest)
     ∷ listing_lines most (at + piece_size (op_at b rest))
     (drop (piece_size (op_at b rest) - 1) rest)
 

@@ -1,7 +1,7 @@
 //! The words of an instruction, and the code table.
 ghost use Rattle.std.specs.Prelude.{◌≡◌, ◌<◌, ℕ, Some};
 ghost use Rattle.mcs_model.specs.declared.op.Op.{Op};
-ghost use Rattle.mcs_source.specs.Spelling.{IsSpelledBy};
+ghost use Rattle.mcs_source.specs.Spelled.{IsSpelledBy};
 ghost use Rattle.mcs_model.specs.Table.{instruction_of};
 
 /// The law on the code table: what it reads from two words is spelled by those words. It holds for

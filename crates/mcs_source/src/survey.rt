@@ -2,7 +2,8 @@
 ghost use Rattle.std.specs.Prelude.{◌≡◌, ℕ, List, Ok, map};
 ghost use Rattle.std.specs.List.{flat_map};
 ghost use Rattle.mcs_source.specs.Assembly.{assembly_of_text};
-ghost use Rattle.mcs_source.specs.Survey.{Survey, addresses, survey_of_text};
+ghost use Rattle.mcs_source.specs.Survey.{Survey, survey_of_text};
+ghost use Rattle.mcs_source.specs.SpanAddresses.{addresses};
 
 /// Where the statement of a line stands, or would stand, and how many bytes the line spells.
 #[derive(Clone, Copy, Debug, PartialEq, Eq)]

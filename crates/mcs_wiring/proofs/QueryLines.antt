@@ -2,7 +2,7 @@
 use Rattle.std.proofs.Common.{◌≡◌, ℕ, List, [], ◌∷◌, ◌++◌, codes, sym, ap, ◌∙◌, append_assoc, append-nil}
 use Rattle.std.specs.List.{flat_map, join_with_byte}
 use Rattle.mcs_model.specs.declared.board.BoardParts.{BoardParts}
-use Rattle.mcs_model.specs.QueryText.{as_line}
+use Rattle.mcs_model.specs.TextLines.{as_line}
 use Rattle.mcs_wiring.specs.BoardText.{board_lines, board_text, query_text}
 
 -- lines joined by LF, with one more at the end, are lines that LF ends

@@ -10,7 +10,7 @@ use Rattle.mcs_model.specs.declared.board.KeyMatrix.{KeyMatrix}
 use Rattle.mcs_model.specs.declared.board.Line.{Line}
 use Rattle.mcs_model.specs.declared.limits.TheConstants.{ROMS, BANKS}
 use Rattle.mcs_model.specs.Boards.{masks_on}
-use Rattle.mcs_model.specs.QueryText.{as_line}
+use Rattle.mcs_model.specs.TextLines.{as_line}
 use Rattle.mcs_wiring.specs.LineNames.{line_name, port_name}
 
 -- `key = value`

@@ -1,7 +1,7 @@
 //! Laws of the definitions, proved as the contract of a function that does nothing.
 ghost use Rattle.std.specs.Prelude.{◌≡◌, ◌∷◌, ◌++◌, [], true, Some, codes};
 ghost use Rattle.mcs_model.specs.Boards.{in_range};
-ghost use Rattle.mcs_model.specs.QueryText.{as_line};
+ghost use Rattle.mcs_model.specs.TextLines.{as_line};
 ghost use Rattle.mcs_model.specs.declared.board.BoardParts.{BoardParts};
 ghost use Rattle.mcs_model.specs.declared.board.Line.{Line};
 ghost use Rattle.mcs_nibble.specs.declared.lines.LineMask.{LineMask};

@@ -1,7 +1,7 @@
 use Rattle.std.proofs.Common.{◌≡◌, ◌≤◌, length}
 use Rattle.std.specs.List.{flat_map}
 use Rattle.mcs_model.specs.Command.{machine_of, stops_of}
-use Rattle.mcs_model.specs.QueryText.{as_line}
+use Rattle.mcs_model.specs.TextLines.{as_line}
 use Rattle.mcs_ahead.specs.Ahead.{begun_in}
 use Rattle.mcs_answers.specs.AheadTexts.{addresses, count_line}
 use Rattle.mcs_answers.proofs.counts.put_count.Given as goal

@@ -1,5 +1,6 @@
 use Rattle.std.proofs.Common.{arith}
-use Rattle.mcs_model.specs.QueryText.{as_line, chain_line}
+use Rattle.mcs_model.specs.QueryText.{chain_line}
+use Rattle.mcs_model.specs.TextLines.{as_line}
 use Rattle.mcs_answers.proofs.Growing.{pieced}
 use Rattle.mcs_answers.proofs.ports.put_chains.Goals as goal
 

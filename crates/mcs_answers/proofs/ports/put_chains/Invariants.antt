@@ -1,6 +1,7 @@
 use Rattle.std.proofs.Common.{◌≡◌, ◌+◌, ◌*◌, ◌++◌, ◌≤◌, length}
 use Rattle.std.specs.List.{flat_map, range_with_len}
-use Rattle.mcs_model.specs.QueryText.{as_line, chain_line}
+use Rattle.mcs_model.specs.QueryText.{chain_line}
+use Rattle.mcs_model.specs.TextLines.{as_line}
 use Rattle.mcs_answers.specs.declared.size.TheConstants.{CHAIN_BYTES}
 use Rattle.mcs_answers.proofs.ports.put_chains.Given as goal
 

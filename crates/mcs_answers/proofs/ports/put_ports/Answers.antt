@@ -1,5 +1,5 @@
 use Rattle.std.proofs.Common.{◌++◌, ◌∙◌, ap, codes}
-use Rattle.mcs_model.specs.QueryText.{as_line}
+use Rattle.mcs_model.specs.TextLines.{as_line}
 use Rattle.mcs_answers.proofs.PortTexts.{ports_is}
 use Rattle.mcs_answers.proofs.ports.put_ports.Goals as goal
 

@@ -1,6 +1,7 @@
 use Rattle.std.proofs.Common.{arith}
 use Rattle.std.specs.List.{flat_map}
-use Rattle.mcs_model.specs.QueryText.{as_line, rom_port_lines}
+use Rattle.mcs_answers.specs.PortPieces.{rom_port_lines}
+use Rattle.mcs_model.specs.TextLines.{as_line}
 use Rattle.mcs_answers.proofs.Growing.{pieced}
 use Rattle.mcs_answers.proofs.ports.put_roms.Goals as goal
 

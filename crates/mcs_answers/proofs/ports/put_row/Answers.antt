@@ -1,5 +1,5 @@
 use Rattle.std.proofs.Common.{arith}
-use Rattle.mcs_answers.specs.Keys.{key_text}
+use Rattle.mcs_answers.specs.PortPieces.{key_text}
 use Rattle.mcs_answers.proofs.Growing.{pieced}
 use Rattle.mcs_answers.proofs.ports.put_row.Goals as goal
 

@@ -1,6 +1,6 @@
 use Rattle.std.proofs.Common.{◌≡◌, ◌+◌, ◌*◌, ◌++◌, ◌≤◌, length}
 use Rattle.std.specs.List.{flat_map, range_with_len}
-use Rattle.mcs_answers.specs.Keys.{key_text}
+use Rattle.mcs_answers.specs.PortPieces.{key_text}
 use Rattle.mcs_answers.proofs.ports.put_row.Given as goal
 
 abbrev pub invariant-loop-column : goal.invariant-loop-column

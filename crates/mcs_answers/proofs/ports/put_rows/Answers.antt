@@ -1,5 +1,5 @@
 use Rattle.std.proofs.Common.{arith}
-use Rattle.mcs_model.specs.QueryText.{row_keys}
+use Rattle.mcs_answers.specs.PortPieces.{row_keys}
 use Rattle.mcs_answers.proofs.Growing.{pieced}
 use Rattle.mcs_answers.proofs.ports.put_rows.Goals as goal
 

@@ -1,6 +1,6 @@
 use Rattle.std.proofs.Common.{◌≡◌, ◌+◌, ◌*◌, ◌++◌, ◌≤◌, length}
 use Rattle.std.specs.List.{flat_map, range_with_len}
-use Rattle.mcs_model.specs.QueryText.{row_keys}
+use Rattle.mcs_answers.specs.PortPieces.{row_keys}
 use Rattle.mcs_model.specs.declared.limits.TheConstants.{KEY_COLUMNS}
 use Rattle.mcs_answers.proofs.ports.put_rows.Given as goal
 

@@ -1,5 +1,5 @@
 use Rattle.std.proofs.Common.{arith}
-use Rattle.mcs_model.specs.QueryText.{bank_src_text}
+use Rattle.mcs_answers.specs.PortPieces.{bank_src_text}
 use Rattle.mcs_answers.proofs.Growing.{pieced}
 use Rattle.mcs_answers.proofs.ports.put_src.Goals as goal
 

@@ -1,6 +1,6 @@
 use Rattle.std.proofs.Common.{◌≡◌, ◌+◌, ◌*◌, ◌++◌, ◌≤◌, length}
 use Rattle.std.specs.List.{flat_map, range_with_len}
-use Rattle.mcs_model.specs.QueryText.{bank_src_text}
+use Rattle.mcs_answers.specs.PortPieces.{bank_src_text}
 use Rattle.mcs_answers.proofs.ports.put_src.Given as goal
 
 abbrev pub invariant-loop-bank : goal.invariant-loop-bank

@@ -1,5 +1,5 @@
 use Rattle.std.proofs.Common.{◌≡◌, ◌++◌, codes, ap, ◌∙◌, ℕ, Vec, Global}
-use Rattle.mcs_model.specs.QueryText.{as_line}
+use Rattle.mcs_model.specs.TextLines.{as_line}
 use Rattle.mcs_wiring.specs.BoardText.{board_text}
 use Rattle.mcs_answers.proofs.queries.put_board.Goals as goal
 

@@ -1,6 +1,7 @@
 use Rattle.std.proofs.Common.{◌≡◌, ◌++◌, arith, ap, ◌∙◌}
 use Rattle.std.specs.List.{flat_map, range_with_len}
-use Rattle.mcs_model.specs.QueryText.{as_line, register_line}
+use Rattle.mcs_model.specs.QueryText.{register_line}
+use Rattle.mcs_model.specs.TextLines.{as_line}
 use Rattle.mcs_answers.proofs.Growing.{pieced}
 use Rattle.mcs_answers.proofs.RamTexts.{chip_is}
 use Rattle.mcs_answers.proofs.ram.put_chip.Goals as goal

@@ -1,6 +1,7 @@
 use Rattle.std.proofs.Common.{◌≡◌, ◌+◌, ◌*◌, ◌++◌, length}
 use Rattle.std.specs.List.{flat_map, range_with_len}
-use Rattle.mcs_model.specs.QueryText.{as_line, register_line}
+use Rattle.mcs_model.specs.QueryText.{register_line}
+use Rattle.mcs_model.specs.TextLines.{as_line}
 use Rattle.mcs_answers.proofs.ram.put_chip.Given as goal
 
 abbrev pub invariant-loop-r : goal.invariant-loop-r

@@ -1,7 +1,8 @@
 use Rattle.std.proofs.Common.{◌≡◌, ◌∷◌, [], ◌++◌, codes, arith, ap, ◌∙◌}
 use Rattle.std.specs.List.{flat_map, range_with_len}
 use Rattle.mcs_model.specs.Bus.{chips_of}
-use Rattle.mcs_model.specs.QueryText.{as_line, chip_lines, digit_text}
+use Rattle.mcs_model.specs.QueryText.{chip_lines, digit_text}
+use Rattle.mcs_model.specs.TextLines.{as_line}
 use Rattle.mcs_answers.proofs.Growing.{pieced}
 use Rattle.mcs_answers.proofs.RamTexts.{ram_is}
 use Rattle.mcs_answers.proofs.ram.put_ram.Goals as goal

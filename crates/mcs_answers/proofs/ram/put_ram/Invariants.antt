@@ -1,6 +1,7 @@
 use Rattle.std.proofs.Common.{◌≡◌, ◌+◌, ◌*◌, ◌++◌, length}
 use Rattle.std.specs.List.{flat_map, range_with_len}
-use Rattle.mcs_model.specs.QueryText.{as_line, chip_lines}
+use Rattle.mcs_model.specs.QueryText.{chip_lines}
+use Rattle.mcs_model.specs.TextLines.{as_line}
 use Rattle.mcs_answers.proofs.ram.put_ram.Given as goal
 
 abbrev pub invariant-loop-chip : goal.invariant-loop-chip

@@ -1,7 +1,7 @@
 use Rattle.std.proofs.Common.{◌≡◌, ◌++◌, ap, ◌∙◌, sym, arith}
 use Rattle.std.specs.List.{flat_map, range_with_len}
 use Rattle.mcs_model.specs.Bus.{chips_of}
-use Rattle.mcs_model.specs.QueryText.{ram_item}
+use Rattle.mcs_answers.specs.PortPieces.{ram_item}
 use Rattle.mcs_answers.specs.Commas.{with_comma}
 use Rattle.mcs_answers.proofs.Growing.{pieced}
 use Rattle.mcs_answers.proofs.ListedWords.{commas-map}

@@ -1,6 +1,6 @@
 use Rattle.std.proofs.Common.{◌≡◌, ◌+◌, ◌*◌, ◌++◌, length}
 use Rattle.std.specs.List.{flat_map, range_with_len}
-use Rattle.mcs_model.specs.QueryText.{ram_item}
+use Rattle.mcs_answers.specs.PortPieces.{ram_item}
 use Rattle.mcs_answers.specs.Commas.{with_comma}
 use Rattle.mcs_answers.proofs.state_lists.put_ram_items.Given as goal
 

@@ -1,11 +1,10 @@
-use Rattle.std.proofs.Common.{◌≡◌, sym, subst, ℕ, List, Result, Ok, Err}
+use Rattle.std.proofs.Common.{◌≡◌, ◌∙◌, sym, subst, ℕ, List, Result, Ok, Err}
 use Rattle.std.specs.Prelude.{IsErrAnd}
-use Rattle.mcs_model.specs.Images.{IsImageOf}
 use Rattle.mcs_source.specs.declared.fault.SourceFault.{SourceFault}
 use Rattle.mcs_source.specs.Assembly.{assembly_of_text}
 use Rattle.mcs_asm.specs.declared.fault.AsmFault.{AsmFault}
 use Rattle.mcs_asm.specs.View.{Assembles, FailsAs}
-use Rattle.mcs_asm.proofs.CellPairs.{image_of_kept}
+use Rattle.mcs_asm.proofs.CellPairs.{image_of_kept, one_each}
 use Rattle.mcs_asm.proofs.passes.assemble.Goals as goal
 
 -- a fault that is handed on
@@ -19,4 +18,4 @@ returns-in_err-cells c = handed_on c.from_residual.result c.in_err-cells.field-0
 pub returns : goal.returns
 returns c =
     let r = c.in_ok-cells.ensures.1 in
-    (r.0, r.1, subst (λ (image : List (ℕ × ℕ)). IsImageOf image r.0) (sym c.in_ok-image.ensures) (image_of_kept c.in_ok-cells.cells r.0 r.2))
+    (r.0, r.1, c.in_ok-image.ensures ∙ image_of_kept c.in_ok-cells.cells r.0 r.2, one_each c.in_ok-cells.cells r.0 r.2)

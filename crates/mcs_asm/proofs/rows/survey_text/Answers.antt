@@ -1,6 +1,6 @@
 use Rattle.std.proofs.Common.{◌≡◌, ◌∙◌, ◌++◌, ℕ, List, [], Bor, Vec, Global, length, map, sym, ap}
 use Rattle.std.proofs.lemmas.List.{length-map}
-use Rattle.mcs_model.specs.QueryText.{as_line}
+use Rattle.mcs_model.specs.TextLines.{as_line}
 use Rattle.mcs_source.specs.Survey.{Survey}
 use Rattle.mcs_source.specs.declared.survey.Span.{Span}
 use Rattle.mcs_source.specs.MapText.{head_row, line_rows, name_row, rows_text, survey_text}

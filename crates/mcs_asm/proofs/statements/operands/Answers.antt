@@ -1,6 +1,7 @@
 use Rattle.std.proofs.Common.{◌≡◌, ◌++◌, ◌∷◌, [], Some, None, map}
 use Rattle.std.proofs.lemmas.List.{map_push}
-use Rattle.mcs_source.specs.Lines.{list_item, operands_of}
+use Rattle.mcs_source.specs.Lines.{operands_of}
+use Rattle.mcs_asm.specs.ListItems.{list_item}
 use Rattle.mcs_asm.specs.View.{operand_view}
 use Rattle.mcs_asm.proofs.OperandLists.{stops_there, is_last, goes_on}
 use Rattle.mcs_asm.proofs.statements.operands.Goals as goal

@@ -1,7 +1,7 @@
 use Rattle.std.proofs.Common.{◌≡◌, ◌<◌, ◌≤◌, ◌++◌, List, ℕ, length, eqb, true, false, arith, sym, ap, ◌∙◌, string_bytes}
 use Rattle.std.proofs.lemmas.Bool.{eqb-true, eqb-false}
-use Rattle.mcs_source.specs.Text.{source_text, origin_text}
-use Rattle.mcs_model.specs.QueryText.{as_line}
+use Rattle.mcs_source.specs.SourceText.{source_text, origin_text}
+use Rattle.mcs_model.specs.TextLines.{as_line}
 use Rattle.mcs_dis.proofs.Loops.{next_text, all_written, source_starts}
 use Rattle.mcs_dis.proofs.listings.source.Goals as goal
 

@@ -1,5 +1,5 @@
 use Rattle.std.proofs.Common.{length, string_bytes}
-use Rattle.mcs_source.specs.Text.{source_text}
+use Rattle.mcs_source.specs.SourceText.{source_text}
 use Rattle.mcs_dis.proofs.Loops.{IsWritten}
 use Rattle.mcs_dis.proofs.listings.source.Given as goal
 

@@ -1,5 +1,5 @@
 use Rattle.std.proofs.Common.{length}
-use Rattle.mcs_lines.specs.Words.{words_of}
+use Rattle.mcs_model.specs.TextLines.{words_of}
 use Rattle.mcs_lines.proofs.ProbeLists.{IsRead}
 use Rattle.mcs_lines.proofs.probes.read_probes.Given as goal
 

@@ -1,6 +1,6 @@
 use Rattle.std.proofs.Common.{rules, ◌∷◌, ◌<◌, length, take, ◌∙◌, ap, sym}
-use Rattle.mcs_lines.specs.Words.{words_of}
-use Rattle.mcs_lines.proofs.LineWords.{no_words, words_of-front}
+use Rattle.mcs_model.specs.TextLines.{words_of}
+use Rattle.mcs_model.proofs.LineWords.{no_words, words_of-front}
 use Rattle.mcs_lines.proofs.words.next_word.Goals as goal
 use Rattle.mcs_model.proofs.ListLemmas.{tail_whole}
 

@@ -1,8 +1,8 @@
 use Rattle.std.proofs.Common.{sym, subst, rules}
 use Rattle.std.proofs.lemmas.List.{take_more}
-use Rattle.mcs_lines.specs.Cutting.{HasNone}
+use Rattle.mcs_model.specs.Cutting.{HasNone}
 use Rattle.mcs_lines.specs.Words.{is_dot}
-use Rattle.mcs_lines.proofs.Cutting.{HasNone-snoc}
+use Rattle.mcs_model.proofs.Cutting.{HasNone-snoc}
 use Rattle.mcs_lines.proofs.words.part_at_front.Goals as goal
 
 pub loop-at-preserved : goal.loop-at-preserved

@@ -1,8 +1,8 @@
 use Rattle.std.proofs.Common.{◌∙◌, ap, sym, subst}
 use Rattle.std.proofs.lemmas.List.{drop_all}
-use Rattle.mcs_lines.specs.Words.{words_of}
-use Rattle.mcs_lines.specs.Words.{BeginsWord}
-use Rattle.mcs_lines.proofs.LineWords.{begins_at, words_of-past}
+use Rattle.mcs_model.specs.TextLines.{words_of}
+use Rattle.mcs_model.specs.Cutting.{BeginsWord}
+use Rattle.mcs_model.proofs.LineWords.{begins_at, words_of-past}
 use Rattle.mcs_lines.proofs.words.without_blanks.Goals as goal
 use Rattle.mcs_model.proofs.ListLemmas.{tail_whole}
 

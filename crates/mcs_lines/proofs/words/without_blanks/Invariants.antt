@@ -1,5 +1,5 @@
 use Rattle.std.proofs.Common.{◌≡◌, drop}
-use Rattle.mcs_lines.specs.Words.{words_of}
+use Rattle.mcs_model.specs.TextLines.{words_of}
 use Rattle.mcs_lines.proofs.words.without_blanks.Given as goal
 
 abbrev pub invariant-loop-at : goal.invariant-loop-at

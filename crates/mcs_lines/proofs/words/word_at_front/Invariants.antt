@@ -1,5 +1,5 @@
 use Rattle.std.proofs.Common.{take}
-use Rattle.mcs_lines.specs.Cutting.{HasNone}
+use Rattle.mcs_model.specs.Cutting.{HasNone}
 use Rattle.mcs_model.specs.TextLines.{is_blank}
 use Rattle.mcs_lines.proofs.words.word_at_front.Given as goal
 

@@ -1,10 +1,10 @@
 -- The words of a line, one after the other.
 use Rattle.std.proofs.Common.{◌≡◌, ℕ, zero, suc, ◌+◌, ◌<◌, List, [], ◌∷◌, ◌++◌, Bool, true, false, length, filter, nat_lt, take, drop, get_or, ap, sym, ◌∙◌, refl, subst, arith, rules, take-append-drop}
 use Rattle.std.proofs.lemmas.List.{drop_more, append-nil}
-use Rattle.mcs_lines.specs.Cutting.{HasNone, cut_at}
-use Rattle.mcs_lines.specs.Words.{BeginsWord, EndsAtFront, EndsWord, words_of}
-use Rattle.mcs_model.specs.TextLines.{is_blank}
-use Rattle.mcs_lines.proofs.Cutting.{before, cut_at-append, cut_at-cut, cut_at-nothing}
+use Rattle.std.specs.List.{slice_split}
+use Rattle.mcs_model.specs.TextLines.{is_blank, words_of}
+use Rattle.mcs_model.specs.Cutting.{BeginsWord, EndsAtFront, EndsPiece, HasNone}
+use Rattle.mcs_model.proofs.Cutting.{before, split-append, split-cut, split-nothing}
 
 abbrev pub is_word_piece : List ℕ → Bool
 is_word_piece w = nat_lt 0 (length w)
@@ -15,15 +15,15 @@ no_piece ps = refl
 -- a blank in front changes no word
 pub words_of-blank : (b : ℕ) (bs : List ℕ) → is_blank b ≡ true → words_of (b ∷ bs) ≡ words_of bs
 unfolding words_of
-words_of-blank b bs e = ap (filter is_word_piece) (cut_at-cut is_blank b bs e) ∙ no_piece (cut_at is_blank bs)
+words_of-blank b bs e = ap (filter is_word_piece) (split-cut is_blank b bs e) ∙ no_piece (slice_split is_blank bs)
 
 -- what is empty, or has a blank in front, has an empty first piece
-ends_first : (rest : List ℕ) → EndsAtFront rest → (ps : List (List ℕ)) × (cut_at is_blank rest ≡ [] ∷ ps)
-ends_first [] h = ([], cut_at-nothing is_blank)
-ends_first (b ∷ bs) h = (cut_at is_blank bs, cut_at-cut is_blank b bs h)
+ends_first : (rest : List ℕ) → EndsAtFront is_blank rest → (ps : List (List ℕ)) × (slice_split is_blank rest ≡ [] ∷ ps)
+ends_first [] h = ([], split-nothing is_blank)
+ends_first (b ∷ bs) h = (slice_split is_blank bs, split-cut is_blank b bs h)
 
-cut_at-word : (word rest : List ℕ) (ps : List (List ℕ)) → HasNone is_blank word → cut_at is_blank rest ≡ [] ∷ ps → cut_at is_blank (word ++ rest) ≡ word ∷ ps
-cut_at-word word rest ps h e = cut_at-append is_blank word rest h ∙ ap (before word) e ∙ ap (λ v. v ∷ ps) (append-nil word)
+split-word : (word rest : List ℕ) (ps : List (List ℕ)) → HasNone is_blank word → slice_split is_blank rest ≡ [] ∷ ps → slice_split is_blank (word ++ rest) ≡ word ∷ ps
+split-word word rest ps h e = split-append is_blank word rest h ∙ ap (before word) e ∙ ap (λ v. v ∷ ps) (append-nil word)
 
 filter_first : (b : ℕ) (word : List ℕ) (ps : List (List ℕ)) → nat_lt 0 (length (b ∷ word)) ≡ true → filter is_word_piece ((b ∷ word) ∷ ps) ≡ (b ∷ word) ∷ filter is_word_piece ps
 filter_first b word ps e = rw e refl
@@ -32,11 +32,11 @@ some_bytes : (b : ℕ) (word : List ℕ) → nat_lt 0 (length (b ∷ word)) ≡ 
 some_bytes b word = search rules
 
 -- a word in front is the first
-pub words_of-word : (b : ℕ) (word rest : List ℕ) → EndsWord (b ∷ word) rest → words_of ((b ∷ word) ++ rest) ≡ (b ∷ word) ∷ words_of rest
+pub words_of-word : (b : ℕ) (word rest : List ℕ) → EndsPiece is_blank (b ∷ word) rest → words_of ((b ∷ word) ++ rest) ≡ (b ∷ word) ∷ words_of rest
 unfolding words_of
 words_of-word b word rest h =
     let first = ends_first rest h.1 in
-    ap (filter is_word_piece) (cut_at-word (b ∷ word) rest (first.0) (h.0) (first.1))
+    ap (filter is_word_piece) (split-word (b ∷ word) rest (first.0) (h.0) (first.1))
     ∙ filter_first b word (first.0) (some_bytes b word)
     ∙ ap (λ v. (b ∷ word) ∷ v) (sym (ap (filter is_word_piece) (first.1) ∙ no_piece (first.0)))
 
@@ -44,19 +44,19 @@ no_front : (b : ℕ) → is_blank b ≡ false → is_blank b ≡ true → ⊥
 no_front b h k = cc (h, k)
 
 -- the word of n bytes that a line begins with is its first
-pub words_of-front : (line : List ℕ) (n : ℕ) → 0 < length line → BeginsWord line → EndsWord (take n line) (drop n line) → words_of line ≡ take n line ∷ words_of (drop n line)
+pub words_of-front : (line : List ℕ) (n : ℕ) → 0 < length line → BeginsWord line → EndsPiece is_blank (take n line) (drop n line) → words_of line ≡ take n line ∷ words_of (drop n line)
 words_of-front [] n some begins ends = absurd (omega arith)
 words_of-front (b ∷ bs) zero some begins ends = absurd (no_front b begins (ends.1))
 words_of-front (b ∷ bs) (suc n) some begins ends =
     ap words_of (sym (take-append-drop (suc n) (b ∷ bs))) ∙ words_of-word b (take n bs) (drop n bs) ends
 
 -- what follows where a line is blank
-pub ends_at : (line : List ℕ) (n : ℕ) → n < length line → is_blank (get_or line n 0) ≡ true → EndsAtFront (drop n line)
+pub ends_at : (line : List ℕ) (n : ℕ) → n < length line → is_blank (get_or line n 0) ≡ true → EndsAtFront is_blank (drop n line)
 ends_at [] n inside e = absurd (omega arith)
 ends_at (b ∷ bs) zero inside e = e
 ends_at (b ∷ bs) (suc n) inside e = ends_at bs n (omega arith) e
 
-pub ends_past : (line : List ℕ) → EndsAtFront (drop (length line) line)
+pub ends_past : (line : List ℕ) → EndsAtFront is_blank (drop (length line) line)
 ends_past [] = tt
 ends_past (b ∷ bs) = ends_past bs
 
@@ -68,5 +68,5 @@ begins_at line at inside e = subst BeginsWord (sym (drop_more line at 0 inside))
 
 pub no_words : (line : List ℕ) → length line ≡ 0 → words_of line ≡ []
 unfolding words_of
-no_words [] e = ap (filter is_word_piece) (cut_at-nothing is_blank)
+no_words [] e = ap (filter is_word_piece) (split-nothing is_blank)
 no_words (b ∷ bs) e = absurd (omega (arith, e))

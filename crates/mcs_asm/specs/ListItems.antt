@@ -1,0 +1,16 @@
+-- The operands of a list one by one. It is cited by clauses of private functions alone.
+use Rattle.std.specs.Prelude.{Bool, true, false, List, [], ◌∷◌, Option, Some, None}
+use Rattle.mcs_source.specs.Lexical.{Token, Word, Comma}
+use Rattle.mcs_source.specs.Lines.{Operand, operand_of}
+use Rattle.mcs_model.specs.Options.{◌>>=◌}
+
+-- what follows, where a comma stands before it
+abbrev pub rest_if : Bool → List Token → Option (List Token)
+rest_if true ts = Some ts
+rest_if false ts = None
+
+-- the first operand, and what follows its comma
+abbrev pub list_item : List Token → Option (Operand × Option (List Token))
+list_item (Word w ∷ []) = operand_of w >>= λ v. Some (v, None)
+list_item (Word w ∷ Comma ∷ more) = operand_of w >>= λ v. Some (v, Some more)
+list_item ts = None

@@ -1,0 +1,46 @@
+-- An input alone, and inputs that come in pieces. It is cited by clauses of private functions alone.
+use Rattle.std.specs.Prelude.{◌≡◌, Bool, ℕ, List, ◌++◌, Option, None}
+use Rattle.mcs_session.specs.declared.fault.SessionFault.{SessionFault}
+use Rattle.mcs_session.specs.declared.fault.SessionFault.TheVariants as session_fault
+use Rattle.mcs_session.specs.KeptCommands.{IsIntact}
+use Rattle.mcs_session.specs.SessionState.{SessionState}
+use Rattle.mcs_shell.specs.declared.ends.ShellEnd.{ShellEnd}
+use Rattle.mcs_shell.specs.declared.outcome.Outcome.{Outcome}
+use Rattle.mcs_shell.specs.declared.outcome.Outcome.TheVariants.{Plain, Device, Closed}
+use Rattle.mcs_shell.specs.Inputs.{Input}
+use Rattle.mcs_shell.specs.LineFeeds.{HasNoFeed}
+use Rattle.mcs_shell.specs.Pending.{Pending, inputs_after}
+use Rattle.mcs_shell.specs.Serving.{LeavesSession, ServesSteps}
+use Rattle.mcs_shell.specs.ShellState.{ShellState}
+use Rattle.mcs_shell.specs.Transcript.{IsPossibleOutcome, Step, acknowledged_commands, answer, halt_after, inputs_in, is_device_fault, reached_commands}
+
+-- what comes of an input whose command was not recorded
+abbrev pub outcome_of : SessionFault → Outcome
+outcome_of (session_fault.Refused fault) = Plain
+outcome_of session_fault.Device = Device
+outcome_of session_fault.Closed = Closed
+
+-- an input had this outcome in the session a: its answer is this, and it left the session b
+pub record AnsweredInput
+    (a : SessionState) (i : Input) (o : Outcome) (told : List ℕ)
+    (b : SessionState) : Type 0 where
+  pub may : IsPossibleOutcome a.live a.state i o
+  pub told_is : told ≡ answer a.state i o
+  pub leaves : LeavesSession IsIntact (is_device_fault o) a b
+      (acknowledged_commands a.state i o)
+      (reached_commands a.state i o)
+
+-- From what was unfinished in `p` on, these bytes were read, and the first of the inputs that they
+-- spell were met: all, where nothing halted the shell, and what is unfinished then is `q`.
+pub record ServesBytes
+    (a b : ShellState) (p q : Pending) (bytes : List ℕ) (halted : Option ShellEnd) : Type 0 where
+  pub met : List Step
+  pub serves : ServesSteps IsIntact a met b
+  pub halts : halt_after met ≡ halted
+  -- however the bytes go on
+  pub not_met : List ℕ → Bool → List Input
+  pub spelled : (more : List ℕ) (whole : Bool)
+      → inputs_after p (bytes ++ more) whole ≡ inputs_in met ++ not_met more whole
+  pub all_met : halted ≡ None → (more : List ℕ) (whole : Bool)
+      → not_met more whole ≡ inputs_after q more whole
+  pub no_feed : halted ≡ None → HasNoFeed q.line

@@ -1,0 +1,8 @@
+-- What a law of surveys cites.
+use Rattle.std.specs.Prelude.{ℕ, List}
+use Rattle.std.specs.List.{range_with_len}
+use Rattle.mcs_source.specs.declared.survey.Span.{Span}
+
+-- the addresses of the bytes that a line with this span spells
+abbrev pub addresses : Span → List ℕ
+addresses s = range_with_len s.at s.size
