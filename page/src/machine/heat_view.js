@@ -91,8 +91,11 @@ export class HeatView {
    * @param {{ warmed: PassedHeat | null, cycles: number }} frame
    */
   ran({ warmed, cycles }) {
-    const most = warmed ? countOf(this.cycles.value, MOST_CYCLES) : 0;
-    if (!warmed || most === 0 || this.kind.value === "") return;
+    if (this.kind.value === "") return;
+    // Words of the past are not of time that runs; a board without RAM has no others.
+    if (!warmed) this.tell("");
+    const most = countOf(this.cycles.value, MOST_CYCLES);
+    if (!warmed || most === 0) return;
     this.passing.add(warmed, cycles, most);
     if (performance.now() - this.drawn < DRAWN_TIME) return;
     this.drawn = performance.now();
