@@ -168,6 +168,7 @@ def check_wires(browser):
     comes(browser, "Ctrl Z undoes it, too", SAID, "Undone.")
     verdict("and nothing else", browser.script(LINES), re.compile("open is at rom0.2"))
     check_part_is_dragged(browser)
+    check_chain_keeps_its_place(browser)
 
 
 def check_buzzer(browser):
@@ -215,6 +216,26 @@ def check_part_is_dragged(browser):
     comes(browser, "and stands there after a reload", PLACE_OF_KEYS, there)
     browser.click("#drawing-tidy")
     comes(browser, "until it is tidied", PLACE_OF_KEYS, before)
+
+
+def check_chain_keeps_its_place(browser):
+    """A chain has another number once one before it is deleted; it stays where it was dragged to, as long as the text is so."""
+    choose_example(browser, "calculator")
+    show_text(browser, "wiring")
+    comes(browser, "a board has two chains", LINES, re.compile("Chain 0 .*Chain 1 "))
+    chains = "return [...document.querySelectorAll('#wiring-picture .of-chain rect')].map((box) => Number(box.getAttribute('y')))"
+    first, second = browser.script(chains)
+    browser.script("document.querySelectorAll('#wiring-picture .of-chain')[1].focus()")
+    for _ in range(5):
+        browser.chord(SHIFT, DOWN)
+    comes(browser, "Shift and arrows move the second chain", f"{chains}[1] > {second}", True)
+    _, moved = browser.script(chains)
+    browser.script("document.querySelector('#wiring-picture .of-chain').focus()")
+    browser.keys([DELETE])
+    comes(browser, "the first one is deleted", SAID, re.compile("^Chain 0 was deleted"))
+    comes(browser, "and the second one stays where it is", chains, [moved])
+    browser.click("#drawing-undo")
+    comes(browser, "undone, both stand where they stood", chains, [first, moved])
 
 
 def check_by_keyboard(browser):

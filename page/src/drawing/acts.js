@@ -34,9 +34,9 @@ import { ActRefusal, Sketch } from "./sketch.js";
  * @typedef {"rom" | "inputs" | "ram" | "chain" | "keys" | "lamp" | "digit" | "segments" | "scanned" | "button" | "switch"
  *   | "buzzer"} Shelved
  *
- * What came of it: the edits, one after the other, the part that it is about, and in words what was done; or why nothing was.
- * @typedef {{ edits: TextEdit[], text: string, part: string, words: string, refusal: "" }} Done
- * @typedef {{ edits: TextEdit[], text: string, part: string, words: string, refusal: string }} Result
+ * What came of it: the edits, one after the other, the part that it is about, in words what was done, and the chains that have gone; or
+ * why nothing was.
+ * @typedef {{ edits: TextEdit[], text: string, part: string, words: string, goneChains: number[], refusal: string }} Result
  */
 
 /** @type {Shelved[]} */
@@ -277,7 +277,7 @@ function newFault(before, after) {
  * @returns {Result}
  */
 export function actOn(text, act) {
-  const nothing = { edits: [], text, part: "", words: "" };
+  const nothing = { edits: [], text, part: "", words: "", goneChains: [] };
   const sketch = new Sketch(text);
   if (!sketch.draft.isToml || !sketch.draft.told) return { ...nothing, refusal: "The board's text has faults: see Board." };
   try {
@@ -285,7 +285,7 @@ export function actOn(text, act) {
     const fault = newFault(text, sketch.text);
     if (fault) return { ...nothing, refusal: fault };
     const also = sketch.added.length > 0 ? `, with ${sketch.added.join(", ").replace(/, ([^,]*)$/, " and $1")}` : "";
-    return { edits: sketch.edits, text: sketch.text, part, words: `${words}${also}.`, refusal: "" };
+    return { edits: sketch.edits, text: sketch.text, part, words: `${words}${also}.`, goneChains: sketch.goneChains, refusal: "" };
   } catch (fault) {
     if (!(fault instanceof ActRefusal)) throw fault;
     return { ...nothing, refusal: fault.message };

@@ -86,6 +86,7 @@ function removeAll(sketch, gone) {
   if (gone.keys && matrix) removeKeys(sketch);
   else if (gone.columns.size > 0) takeColumns(sketch, gone.columns);
   for (const chain of descending(gone.chains)) removeChain(sketch, chain);
+  sketch.goneChains.push(...gone.chains);
   for (const rom of gone.roms) removeRom(sketch, rom);
   for (const ram of gone.rams) removeRam(sketch, ram);
 }

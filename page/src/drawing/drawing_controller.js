@@ -33,6 +33,7 @@ export class DrawingController {
     this.editing = 0;
     this.drawing = new Drawing(calls, (shown) => this.show(shown));
     this.view = this.makeView();
+    this.view.moved = this.drawing.places.moved;
     this.input = this.makeInput();
     this.zoom = new PictureZoom(picture.root);
     onClick(button("first-drawing"), calls.putInFront);
@@ -87,6 +88,7 @@ export class DrawingController {
   /** @param {Shown} shown */
   show(shown) {
     this.view.show(shown);
+    if (this.drawing.places.takeNews()) this.keep();
     this.input.take(shown.begun, shown.ends);
   }
 
@@ -104,7 +106,7 @@ export class DrawingController {
   /** The texts of another session are shown. */
   begin() {
     this.drawing.forget();
-    this.view.moved = new Map(this.kept);
+    this.drawing.places.begin(this.kept);
   }
 
   /**

@@ -20,6 +20,8 @@ export class Sketch {
     this.edits = [];
     /** @type {string[]} the parts that were added because others need them, in words */
     this.added = [];
+    /** @type {number[]} the chains that have gone, by the numbers that they had at first */
+    this.goneChains = [];
   }
 
   /**
