@@ -70,5 +70,6 @@ test("an act calls the page, and tells why it cannot", async () => {
 
 test("the story that an address names", () => {
   assert.equal(storyOf("?story=printing%20calculator"), "printing calculator");
+  assert.equal(storyOf("?story=printing_calculator"), "printing calculator");
   assert.equal(storyOf("?other=1"), "");
 });

@@ -13,11 +13,11 @@ function decoded(text) {
 }
 
 /**
- * The example whose story is to be told, "" for none.
+ * The example whose story is to be told, "" for none; by its name, or by that of its folder.
  * @param {string} search
  */
 export function storyOf(search) {
-  return new URLSearchParams(search).get("story") || "";
+  return new URLSearchParams(search).get("story")?.replace(/_/g, " ") || "";
 }
 
 /** The address of this page, without the story. */
