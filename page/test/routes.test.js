@@ -35,6 +35,38 @@ for (const [name, board] of Object.entries({ "a small board": SMALL, "the larges
   });
 }
 
+/** Numbers that look like chance, and are the same in each run. */
+function chances(seed) {
+  let state = seed;
+  return (most) => {
+    state = (Math.imul(state, 1103515245) + 12345) >>> 0;
+    return (state >>> 8) % most;
+  };
+}
+
+test("where parts were dragged to and fro, with room between them, hardly a wire runs below a part", () => {
+  let [below, wouldBe] = [0, 0];
+  for (let seed = 1; seed <= 40; seed++) {
+    const chance = chances(seed);
+    const order = drawBoard(SMALL).parts.map(({ id, height }) => ({ id, height, rank: chance(1000) }))
+      .sort((one, other) => one.rank - other.rank);
+    const moved = new Map();
+    let y = 20;
+    order.forEach(({ id, height }) => {
+      moved.set(id, { x: 20 + 220 * chance(4) + chance(30), y });
+      y += height + 24;
+    });
+    const { parts, wires } = drawBoard(SMALL, undefined, moved);
+    const isHidden = (route) => route.some((curve) => parts.some((part) => isBelow(curve, part)));
+    wires.forEach((wire, at) => {
+      below += Number(isHidden(routeOf(wire, parts, at)));
+      wouldBe += Number(isHidden(routeOf(wire, [], at)));
+    });
+  }
+  // A part may stand where a wire would have to turn twice.
+  assert.ok(below <= 3 && wouldBe > 150, `${below} of ${wouldBe}`);
+});
+
 test("a wire with nothing between is one curve; where there is no room to turn, too", () => {
   const ends = { from: { x: 0, y: 0 }, to: { x: 100, y: 50 } };
   assert.equal(pathText(routeOf(ends, [], 0)), "M0 0C50 0 50 50 100 50");

@@ -1,5 +1,5 @@
 // Where a wire runs in the picture of the wiring: straight to its pin, or, where a part would lie over it, through the gap above or below
-// that part. Nothing here draws.
+// that part, also where parts were dragged, so that it has to go back. Nothing here draws.
 
 /**
  * @typedef {import("./wiring.js").Place} Place
@@ -73,6 +73,18 @@ export function isBelow(curve, box) {
 }
 
 /**
+ * Above and below each part, those first that are the shortest way.
+ * @param {Ends} ends
+ * @param {Box[]} boxes
+ */
+function lanesOf({ from, to }, boxes) {
+  /** @type {(lane: number) => number} */
+  const way = (lane) => Math.abs(lane - from.y) + Math.abs(lane - to.y);
+  return boxes.flatMap(({ y, height }) => [y - LANE, y + height + LANE]).filter((lane) => lane > 0)
+    .sort((one, other) => way(one) - way(other));
+}
+
+/**
  * Where a wire can run along parts that stand between its ends, as near to both as can be.
  * @param {Ends} ends
  * @param {Box[]} between
@@ -86,6 +98,36 @@ function laneBeside({ from, to }, between) {
 }
 
 /**
+ * The curves of a wire that turns at two places, and runs level between them.
+ * @param {Ends} ends
+ * @param {number} y
+ * @param {number} left
+ * @param {number} right
+ * @returns {Curve[]}
+ */
+function turning({ from, to }, y, left, right) {
+  return [level(from, { x: left, y }), level({ x: left, y }, { x: right, y }), level({ x: right, y }, to)];
+}
+
+/**
+ * The curves of a wire that turns beside its pins: it leaves to the right, and comes from the left. Where its end lies before its
+ * beginning, it runs back between them.
+ * @param {Ends} ends
+ * @param {number} y where it runs level
+ * @returns {Curve[]}
+ */
+function detour(ends, y) {
+  const { from, to } = ends;
+  if (to.x - from.x > 2 * ASIDE) return turning(ends, y, from.x + ASIDE, to.x - ASIDE);
+  const [above, below] = [{ x: from.x, y }, { x: to.x, y }];
+  return [
+    [from, { x: from.x + OUT, y: from.y }, { x: from.x + OUT, y }, above],
+    level(above, below),
+    [below, { x: to.x - OUT, y }, { x: to.x - OUT, y: to.y }, to],
+  ];
+}
+
+/**
  * The curves of a wire.
  * @param {Ends} ends
  * @param {Box[]} boxes of the parts
@@ -94,14 +136,20 @@ function laneBeside({ from, to }, between) {
  */
 export function routeOf(ends, boxes, number) {
   const { from, to } = ends;
-  const curve = straight(ends);
-  const between = boxes.filter(({ x, width }) => x > from.x && x + width < to.x);
-  if (!between.some((box) => isBelow(curve, box))) return [curve];
+  // What lies over a pin cannot be gone round.
+  const others = boxes.filter((box) => !isIn(from, box) && !isIn(to, box));
+  /** @type {(route: Curve[]) => boolean} */
+  const isFree = (route) => !route.some((curve) => others.some((box) => isBelow(curve, box)));
+  const direct = [straight(ends)];
+  if (isFree(direct)) return direct;
+  const offset = LANES[number % LANES.length];
+  const between = others.filter(({ x, width }) => x > from.x && x + width < to.x);
   const left = Math.min(...between.map(({ x }) => x)) - ASIDE;
   const right = Math.max(...between.map(({ x, width }) => x + width)) + ASIDE;
-  if (left <= from.x || right >= to.x) return [curve];
-  const y = laneBeside(ends, between) + LANES[number % LANES.length];
-  return [level(from, { x: left, y }), level({ x: left, y }, { x: right, y }), level({ x: right, y }, to)];
+  const hasRoom = between.length > 0 && left > from.x && right < to.x;
+  const around = hasRoom ? [turning(ends, laneBeside(ends, between) + offset, left, right)] : [];
+  const further = lanesOf(ends, others).map((lane) => detour(ends, lane + offset));
+  return [...around, ...further].find(isFree) || direct;
 }
 
 /**
