@@ -10,7 +10,7 @@ fi
 . "$top/tools/lib/start.sh"
 # The page, and what else in its folder is no source of it.
 page=$top/page/fethsaim.html
-page_made='page/(fethsaim\.(html|png)|test/.*|check|package\.json|tsconfig\.json|\.eslintrc\.json)'
+page_made='page/(from_npm/.*|fethsaim\.(html|png)|test/.*|check|package\.json|tsconfig\.json|\.eslintrc\.json)'
 
 # The lines of crates.txt for a crate and the crates of this repository that it stands on, without comments.
 lines_of() {
