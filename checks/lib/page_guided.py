@@ -4,7 +4,7 @@ size; an unknown one; and what is not there any more."""
 import re
 import time
 
-from page_in_browser import DIGITS, ENTER, NOTICE, READY, SPEED, STATUS, WHOLE_STATUS, told_of, until_ready
+from page_in_browser import DIGITS, ENTER, NOTICE, READY, SPEED, STATUS, WHOLE_STATUS, choose_example, told_of, until_ready
 from page_strip import STRIP
 from verdicts import comes, verdict
 
@@ -64,6 +64,8 @@ def check_key(browser):
     comes(browser, "time stands still", STATUS, re.compile("^Stopped"))
     place(browser, "press 5")
     comes(browser, "the key stays down", DOWN, "5")
+    place(browser, "press 5")
+    verdict("also where it is pressed again", browser.script(DOWN), "5")
     place(browser, "Run to where the columns are read")
     comes(browser, "time has come to where the columns are read", WHOLE_STATUS, re.compile(r"look, line"))
     place(browser, "Run to where the key is taken")
@@ -151,6 +153,8 @@ def check_others(browser, page):
     comes(browser, "the list of examples has it, too", TITLE, "1 of 6: A sum")
     wide = "return document.documentElement.scrollWidth <= innerWidth"
     verdict("no line is wider than the window", browser.script(wide), True)
+    choose_example(browser, "traffic light")
+    comes(browser, "another session has no story", TITLE, "-")
 
 
 def check(browser, page, _folder, _mcs4):

@@ -2,7 +2,7 @@
 
 ## A sum
 
-This calculator adds, subtracts and multiplies. Press [1](press 1) [2](press 2) [+](press +) [3](press 3) [0](press 0)
+This calculator adds, subtracts and multiplies. While [time runs](run), press [1](press 1) [2](press 2) [+](press +) [3](press 3) [0](press 0)
 [=](press =), here or on its own keys. The paper strip has what was keyed, and what came.
 
 One 4004 does all of it: it lights the digits, looks at the keys, calculates and sends to the printer. The next steps stop it and look.
@@ -28,7 +28,7 @@ the number of the key. Go back: [here it came into R11](back to r11), and [here 
 [Run to where the digit is entered](run to enter). R15 has its code. [RAM](show memory) has the number that is shown in its first row, the
 lowest digit first; its digits move up, and the new one goes in: [run on to what is shown](run to show).
 
-[Run to the next turn](run to turn). The third row of RAM is now what the nine digits show; F is dark. Let [5](press 5) go up, and [time run](run).
+[Run to the next turn](run to turn). The third row of RAM is now what the nine digits show; F is dark. Let [5](release 5) go up, and [time run](run).
 
 ## A line of paper
 
@@ -40,5 +40,5 @@ The code goes to a port first, then the printer's strobe goes up. [Run on](run t
 
 ## Further
 
-Let [=](press =) go up, and [time run](run). The program stands in [Source](show program) with its comments: change it, and press Assemble and
+Let [=](release =) go up, and [time run](run). The program stands in [Source](show program) with its comments: change it, and press Assemble and
 run. The [tests](show tests) try what it promises. [Waves](show waves) record what its lines do.

@@ -85,26 +85,37 @@ export function sharingOf(page) {
  * @returns {import("./help/story_acts.js").ActCalls}
  */
 function actsOf({ layout, lookView, pressing, running, source, travel }) {
+  /** @param {string} name */
+  const showText = (name) => {
+    layout.tabs.choose(name);
+    block("text-tabs").scrollIntoView({ block: "nearest" });
+  };
   return {
     addressOf: (label) => {
       const name = source.map && source.map.names.get(label);
       return name && name.isLabel ? name.value : undefined;
     },
     keys: () => lookView.front.keys,
-    run: () => running.run(),
+    run: async () => {
+      // Time that runs up to a goal runs on without it.
+      if (running.goal) await running.stand();
+      running.run();
+    },
     stand: () => running.stand(),
     goOn: (goal) => travel.goOn(goal),
     goBack: (goal) => travel.goBack(goal),
     goForward: () => travel.goForward(),
     goTo: (address) => {
-      layout.tabs.choose("program");
+      showText("program");
       lookView.goTo.show(address);
     },
+    isRunning: () => running.clock.movesKeys,
+    isDown: (key) => lookView.front.isDown(key.place),
     press: (key) => {
       pressing.down(key, false);
       pressing.up(key.place);
     },
-    showText: (name) => layout.tabs.choose(name),
+    showText,
     showPanel: (name) => block(name).scrollIntoView({ block: "nearest" }),
   };
 }
@@ -129,6 +140,7 @@ export function guideOf(page, manual) {
     left: forgetStory,
     refuse: (words) => page.notice.show(words, "session"),
   });
+  page.sessionsController.used = () => guide.endStory();
   page.sessionsController.tell = (example) => guide.tell(example.name, [example]);
   page.lookView.watcher = guide.tour;
   page.running.ended = (why) => guide.tour.seeEnd(why);

@@ -37,7 +37,7 @@ for (const name of stories) {
     assert.equal(acts.length, text.split("](").length - 1);
     for (const { name: act, of } of acts) {
       if (act === "go to" || act === "run to") assert.match(program, new RegExp(`^${of}:`, "m"));
-      if (act === "press") assert.ok(keys.includes(of), of);
+      if (act === "press" || act === "release") assert.ok(keys.includes(of), of);
       if (act === "back to") assert.ok(placeOf(of), of);
     }
   });
@@ -49,7 +49,10 @@ test("an act calls the page, and tells why it cannot", async () => {
     done.push([name, ...words]);
   };
   const key = { legend: "7", place: "0 0" };
+  let isDown = false;
+  let isRunning = false;
   const calls = {
+    isDown: () => isDown, isRunning: () => isRunning,
     addressOf: (label) => ({ turn: 2 })[label], keys: () => [key], run: note("run"), stand: note("stand"), goOn: note("goOn"),
     goBack: note("goBack"), goForward: note("goForward"), goTo: note("goTo"), press: note("press"), showText: note("showText"),
     showPanel: note("showPanel"),
@@ -65,7 +68,16 @@ test("an act calls the page, and tells why it cannot", async () => {
   done.length = 0;
   assert.match(await doAct({ name: "run to", of: "nowhere" }, calls), /no label nowhere/);
   assert.match(await doAct({ name: "press", of: "8" }, calls), /no key 8/);
+  assert.match(await doAct({ name: "release", of: "8" }, calls), /no key 8/);
+  // A key that is up is not let go; one that stays down is not pressed again, and is let go.
+  await doAct({ name: "release", of: "7" }, calls);
+  isDown = true;
+  await doAct({ name: "press", of: "7" }, calls);
   assert.deepEqual(done, []);
+  await doAct({ name: "release", of: "7" }, calls);
+  isRunning = true;
+  await doAct({ name: "press", of: "7" }, calls);
+  assert.deepEqual(done, [["press", key], ["press", key]]);
 });
 
 test("the story that an address names", () => {

@@ -31,6 +31,11 @@ export class StripView {
     this.lines = [];
     this.root = block("strip");
     this.paper = block("paper");
+    /** Whether the end of the paper stays in view. */
+    this.follows = true;
+    this.paper.addEventListener("scroll", () => this.scrolled());
+    // Lines may have come while it was hidden.
+    new ResizeObserver(() => this.toEnd()).observe(this.paper);
     onClick(button("tear-paper"), () => this.tear());
   }
 
@@ -49,12 +54,13 @@ export class StripView {
   }
 
   /**
-   * Another face of the same board. A text without any face may be one that is just being written.
+   * Another face of the same board. A text without a face, or without a printer that the board has, may be one that is just being written:
+   * the paper stays until another board, or another face of it, is drawn.
    * @param {Board} board
    * @param {Face} face
    */
   change(board, face) {
-    if (face.told !== "") this.draw(board, face);
+    if (face.told !== "" && (!this.printer || printerOf(board, face))) this.draw(board, face);
   }
 
   /**
@@ -88,10 +94,18 @@ export class StripView {
     while (same < lines.length && lines[same] === this.lines[same]) same += 1;
     if (same === lines.length && same === this.lines.length) return;
     const { paper } = this;
-    const isAtEnd = paper.scrollHeight - paper.scrollTop - paper.clientHeight <= NEAR_END;
     while (paper.children.length > same) paper.children[same].remove();
     paper.append(...lines.slice(same).map((line) => element("div", {}, line)));
     this.lines = lines;
-    if (isAtEnd) paper.scrollTop = paper.scrollHeight;
+    this.toEnd();
+  }
+
+  scrolled() {
+    const { scrollHeight, scrollTop, clientHeight } = this.paper;
+    this.follows = scrollHeight - scrollTop - clientHeight <= NEAR_END;
+  }
+
+  toEnd() {
+    if (this.follows) this.paper.scrollTop = this.paper.scrollHeight;
   }
 }

@@ -74,6 +74,11 @@ export class Guide {
     else this.calls.refuse(`The address names a story, "${shortName(name)}", that this page does not have.`);
   }
 
+  /** Another session is shown: the story is not of it. */
+  endStory() {
+    if (this.tour.isOn && this.tour.isStory) this.tour.close();
+  }
+
   /** @param {string} program */
   put(program) {
     const { calls } = this;

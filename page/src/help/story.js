@@ -4,7 +4,7 @@
 //     run, stop, back, forward                time runs, stands still, goes back a stop or forward again
 //     go to LABEL, run to LABEL               shows a line of the program; time passes up to it
 //     back to PLACE                           goes back to before a place changed last: r11, ram.0.0x12, rom0.2
-//     press KEY                               as a click on it: while time stands still it stays down, or goes up
+//     press KEY, release KEY                  a click on it: while time stands still it stays down; it goes up where it is down
 //     show VIEW                               brings a text or a panel into view
 
 /**
@@ -12,7 +12,7 @@
  * @typedef {import("./tour.js").TourStep} TourStep
  *
  * What a place does, and with what, "" where it needs nothing.
- * @typedef {"run" | "stop" | "back" | "forward" | "go to" | "run to" | "back to" | "press" | "show"} ActName
+ * @typedef {"run" | "stop" | "back" | "forward" | "go to" | "run to" | "back to" | "press" | "release" | "show"} ActName
  * @typedef {{ name: ActName, of: string }} Act
  */
 
@@ -20,7 +20,7 @@
 export const TEXTS = ["program", "board", "tests", "properties", "wiring", "waves"];
 export const PANELS = ["front", "processor", "listing", "memory", "ports"];
 
-const ACT = /^(?:(run|stop|back|forward)|(go to|run to|back to|press|show) ([^ ]+))$/;
+const ACT = /^(?:(run|stop|back|forward)|(go to|run to|back to|press|release|show) ([^ ]+))$/;
 const PLACE = /\[([^\]]+)\]\(([^()]+)\)/g;
 
 /**

@@ -9,11 +9,12 @@ import { TEXTS } from "./story.js";
  * @typedef {import("./story.js").Act} Act
  *
  * What is called: the address of a label of the program in ROM, undefined without one; the keys of the board; time runs, or stands still;
- * it goes on to a goal, back, or forward again; a line of the program is shown; a key is pressed and let go; a text or a panel is shown.
+ * it goes on to a goal, back, or forward again; a line of the program is shown; whether time runs, and a key is down; a key is clicked,
+ * which lets it go where it stayed down; a text or a panel is shown.
  * @typedef {{ addressOf: (label: string) => number | undefined, keys: () => BoardKey[], run: () => void, stand: () => Promise<void>,
  *   goOn: (goal: Goal) => Promise<void>, goBack: (goal: BackGoal) => Promise<void>, goForward: () => Promise<void>,
- *   goTo: (address: number) => void, press: (key: BoardKey) => void, showText: (name: string) => void,
- *   showPanel: (name: string) => void }} ActCalls
+ *   goTo: (address: number) => void, isRunning: () => boolean, isDown: (key: BoardKey) => boolean, press: (key: BoardKey) => void,
+ *   showText: (name: string) => void, showPanel: (name: string) => void }} ActCalls
  */
 
 /**
@@ -29,6 +30,18 @@ async function atLabel(label, calls, act) {
 }
 
 /**
+ * @param {string} legend
+ * @param {ActCalls} calls
+ * @param {(key: BoardKey) => unknown} act
+ */
+function atKey(legend, calls, act) {
+  const key = calls.keys().find((each) => each.legend === legend);
+  if (!key) return `Nothing was done: the board has no key ${legend}.`;
+  act(key);
+  return "";
+}
+
+/**
  * Who does an act; gives why it was not done, "" where it was.
  * @type {Record<import("./story.js").ActName, (of: string, calls: ActCalls) => Promise<string>>}
  */
@@ -40,12 +53,8 @@ const ACTS = {
   "go to": (of, calls) => atLabel(of, calls, (address) => calls.goTo(address)),
   "run to": (of, calls) => atLabel(of, calls, (address) => calls.goOn({ kind: "here", address })),
   "back to": (of, calls) => done(() => calls.goBack({ kind: "change", place: of })),
-  press: async (of, calls) => {
-    const key = calls.keys().find(({ legend }) => legend === of);
-    if (!key) return `Nothing was done: the board has no key ${of}.`;
-    calls.press(key);
-    return "";
-  },
+  press: async (of, calls) => atKey(of, calls, (key) => (calls.isRunning() || !calls.isDown(key)) && calls.press(key)),
+  release: async (of, calls) => atKey(of, calls, (key) => calls.isDown(key) && calls.press(key)),
   show: (of, calls) => done(() => (TEXTS.includes(of) ? calls.showText(of) : calls.showPanel(of))),
 };
 

@@ -55,6 +55,11 @@ export class TourView {
     this.calls.left();
   }
 
+  /** Whether it is the story of an example. */
+  get isStory() {
+    return this.watch.steps !== TOUR;
+  }
+
   get isLast() {
     return this.watch.at === this.watch.steps.length - 1;
   }

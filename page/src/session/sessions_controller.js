@@ -44,6 +44,8 @@ export class SessionsController {
     this.examples = examples;
     /** @type {(example: Example) => void} an example's story is told */
     this.tell = () => {};
+    /** Another session is shown. */
+    this.used = () => {};
     this.persistence = new Persistence();
     this.openings = new Openings();
     addEventListener("pagehide", () => this.openings.leave());
@@ -57,6 +59,7 @@ export class SessionsController {
       use: async (record, release, example) => {
         await this.openings.during(record.id, () => calls.use(record, release, example));
         notice.hide("left");
+        this.used();
         this.lines.offer("");
       },
     });
