@@ -44,6 +44,9 @@ export class TextEditor {
     /** @type {(line: number) => void} the caret has come to a line */
     this.caret = () => {};
     /** Whether Tab leaves the editor: after Escape, and where Tab has come to it. */
+    /** @type {number | null} how far it was scrolled where it is hidden, and the line that is to be in view then, 0 for none */
+    this.hiddenAt = null;
+    this.awaited = 0;
     this.tabLeaves = true;
     /** @type {Map<string, Doc>} the documents by the names that they were opened by */
     this.documents = new Map();
@@ -104,7 +107,24 @@ export class TextEditor {
     });
     editor.on("beforeChange", (_, change) => this.judge(change));
     // It cannot be measured while it is hidden; and an observer must not change sizes itself.
-    new ResizeObserver(() => requestAnimationFrame(() => editor.refresh())).observe(editor.getWrapperElement());
+    new ResizeObserver(() => this.resized()).observe(editor.getWrapperElement());
+  }
+
+  /** What was hidden comes back as it was: a browser scrolls it elsewhere before it can be measured. */
+  resized() {
+    const { editor } = this;
+    if (editor.getWrapperElement().offsetHeight === 0) {
+      this.hiddenAt = /** @type {{ scrollTop: number }} */ (/** @type {unknown} */ (editor.getDoc())).scrollTop;
+      return;
+    }
+    requestAnimationFrame(() => {
+      editor.refresh();
+      if (this.hiddenAt === null) return;
+      editor.scrollTo(null, this.hiddenAt);
+      this.hiddenAt = null;
+      if (this.awaited > 0) this.reveal(this.awaited);
+      this.awaited = 0;
+    });
   }
 
   /**
@@ -209,6 +229,10 @@ export class TextEditor {
    */
   reveal(line) {
     const { editor } = this;
+    if (this.hiddenAt !== null) {
+      this.awaited = line;
+      return;
+    }
     unfold(editor, line - 1);
     const { top, clientHeight } = editor.getScrollInfo();
     const from = editor.heightAtLine(line - 1, "local");
