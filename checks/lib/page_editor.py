@@ -12,6 +12,7 @@ PROGRAM, BOARD = "#program-editor", "#board-editor"
 # A text that could be sent, of 16,381 bytes without its comments and indentation, and of 36,497 with them.
 LONGEST = "; a line of a comment, with words in it, and then some more of them\n" * 240 + "\tNOP\n" * 4035 + ";\n"
 
+SCROLLED = "return document.querySelector('#program-editor .CodeMirror').CodeMirror.getScrollInfo().top"
 EDITOR = "const editor = document.querySelector(`${arguments[0]} .CodeMirror`).CodeMirror; "
 CARET = f"{EDITOR}const at = editor.getCursor(); return [at.line, at.ch, editor.getSelection()]"
 SET_CARET = f"{EDITOR}editor.setCursor(arguments[1], arguments[2]); editor.focus()"
@@ -202,6 +203,15 @@ def check_numbers(browser):
     verdict("at the end of a wide text each number stands beside its line", browser.script(NUMBERS, PROGRAM), ["202", True, True])
 
 
+def check_hidden(browser):
+    browser.script(EDITOR + "editor.scrollTo(null, 2500)", "#program-editor")
+    comes(browser, "the source is scrolled", SCROLLED, 2500)
+    for name in ("board", "program"):
+        show_text(browser, name)
+        time.sleep(0.3)
+    verdict("a text that was hidden comes back where it was", browser.script(SCROLLED), 2500)
+
+
 def check_limits(browser):
     """The longest text: typing stays quick; more is refused in words."""
     put(browser, PROGRAM, LONGEST)
@@ -312,6 +322,7 @@ def check_editor(browser, page, _folder, _mcs4):
     check_names(browser)
     check_folding(browser)
     check_numbers(browser)
+    check_hidden(browser)
     check_limits(browser)
     check_sessions(browser)
     check_running(browser)

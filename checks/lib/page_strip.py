@@ -4,12 +4,14 @@ and tearing off; and printers that cannot be."""
 import re
 import time
 
-from page_in_browser import DIGITS, ENTER, SPEED, STATUS, choose_example, key, told_of, until_ready
+from page_in_browser import DIGITS, ENTER, PUT_INTO_EDITOR, SPEED, STATUS, choose_example, key, told_of, until_ready
 from verdicts import comes, verdict
 
 STRIP = """
 const lines = [...document.querySelectorAll("#paper div")].map((line) => line.textContent);
 return document.getElementById("strip").hidden ? "-" : lines.join(" ")"""
+HEIGHT = "return document.getElementById('strip').offsetHeight"
+BOARD_TEXT = "return document.querySelector('#board-editor .CodeMirror').CodeMirror.getValue()"
 FAULTS = "return [...document.querySelectorAll('#face-faults li')].map((each) => each.textContent).join(' ')"
 AT_END = "const paper = document.getElementById('paper'); return paper.scrollHeight - paper.scrollTop - paper.clientHeight < 4"
 BOARD = """# printer rom0.3: ram0.0 a CE b_c
@@ -44,6 +46,7 @@ def press(browser, legends):
 def check_calculator(browser):
     choose_example(browser, "printing calculator")
     comes(browser, "a board with a printer has a strip without a line", STRIP, "")
+    height = browser.script(HEIGHT)
     press(browser, "12+30=")
     comes(browser, "what is keyed and what comes is printed", STRIP, "12+ 30= 42")
     verdict("and shown", browser.script(DIGITS), "42")
@@ -56,7 +59,18 @@ def check_calculator(browser):
     press(browser, "*3=")
     comes(browser, "at full speed it prints", STRIP, "12+ 30= 42 42- 58= -16 -16* 3= -48")
     verdict("the end of the paper is in view", browser.script(AT_END), True)
+    verdict("the paper takes no more room, so the keys stay where they are", browser.script(HEIGHT), height)
     browser.script(SPEED, "real")
+
+
+def check_editing(browser):
+    """While the board's text is written, without sending it."""
+    text = browser.script(BOARD_TEXT)
+    browser.script(PUT_INTO_EDITOR, "#board-editor", text.replace("printer rom0.2", "printer rom5.2"))
+    comes(browser, "a printer that cannot be is told", FAULTS, re.compile("the board has no output line rom5.2"))
+    browser.script(PUT_INTO_EDITOR, "#board-editor", text)
+    comes(browser, "until it is right again", FAULTS, "")
+    verdict("the paper keeps its lines", browser.script(STRIP), "12+ 30= 42 42- 58= -16 -16* 3= -48")
 
 
 def check_back(browser):
@@ -93,5 +107,6 @@ def check(browser, page, _folder, _mcs4):
     until_ready(browser)
     verdict("a board without a printer has no strip", browser.script(STRIP), "-")
     check_calculator(browser)
+    check_editing(browser)
     check_back(browser)
     check_lines(browser)
