@@ -1,4 +1,5 @@
-# Shows each answer `lamps ..` or `trace ran ..` of the lamps as the display of a board (tools/display). Needs numbers.awk, face.awk, shone.awk.
+# Shows each answer `lamps ..` or `trace ran ..` of the lamps as the display of a board (tools/display). Needs numbers.awk, face.awk,
+# board.awk, shone.awk. The environment has `folder` (`board_text` and `known_board` there) and `board_name`.
 
 function tell(what) {
     print "display: " what | "cat 1>&2"
@@ -7,7 +8,10 @@ function tell(what) {
 }
 
 BEGIN {
+    n = read_lines(ENVIRON["folder"] "/known_board", board)
+    take_board(board, n)
     read_face(ENVIRON["folder"] "/board_text")
+    check_face()
     if (face_fault_count) tell(ENVIRON["board_name"] ": " face_fault[1])
     else if (!display_count) tell(ENVIRON["board_name"] " has no display: a comment `# display 0: 4 digits` makes one")
     needed = 0

@@ -1,6 +1,12 @@
 # tools/display: digits, signs, points, lamps with names, and digits that are lit by turns.
 # shellcheck shell=sh
 
+# A board with so many lamps, whose text has these comments.
+board_of() {
+    printf %b "$2"
+    awk -v count="$1" 'BEGIN { print "[[rom]]\nchip = 0\nport = \"0000\""; while (count-- > 0) print "[[lamp]]\nline = \"rom0.0\"" }'
+}
+
 board=$calculator/board.toml
 refuses 2 "usage: display [-C FOLDER] [BOARD] < ANSWERS" tools/display
 echo "session 0" > "$folder/answers"
@@ -9,12 +15,12 @@ echo "lamps ..*" > "$folder/answers"
 refuses 1 "display: line 1 of the answers has 3 lamps, and the display of $board needs 43" tools/display "$board" < "$folder/answers"
 echo "no 34 line 2" > "$folder/answers"
 refuses 1 "display: line 1 of the answers is a refusal: no 34 line 2; tools/explain says why" tools/display "$board" < "$folder/answers"
-printf '# display 0: 2 digits\n' > "$folder/board.toml"
+board_of 8 '# display 0: 2 digits\n' > "$folder/board.toml"
 printf 'session 3\nlamps ...**..*\nlamps **......\n' > "$folder/answers"
 verdict "$(outcome tools/display "$folder/board.toml" < "$folder/answers")" "19
 ?0
 status 0" "digits without signs"
-printf '# lamp 0: minus overflow\n# display 3: 4 digits with points\n' > "$folder/board.toml"
+board_of 23 '# lamp 0: minus overflow\n# display 3: 4 digits with points\n' > "$folder/board.toml"
 echo "lamps *..........***......*.." > "$folder/answers"
 verdict "$(outcome tools/display "$folder/board.toml" < "$folder/answers")" "-1.82
 status 0" "a display with points"
@@ -43,18 +49,18 @@ printf 'trace ran 2778 end lines 0 .**.\n' > "$folder/answers"
 verdict "$(outcome tools/display examples/clock/board.toml < "$folder/answers")" "display: line 1 of the answers has 4 lamps, and the display of examples/clock/board.toml needs 12
 status 1" "fewer lamps than a display that is scanned has"
 # What no number hangs on refuses nothing.
-printf '# display 0: 2 digits\n# colour 0: pink\n# die 0: 9 lamps\n# title:\n' > "$folder/board.toml"
+board_of 8 '# display 0: 2 digits\n# colour 0: pink\n# die 0: 9 lamps\n# title:\n' > "$folder/board.toml"
 printf 'lamps .*....*.\n' > "$folder/answers"
 verdict "$(outcome tools/display "$folder/board.toml" < "$folder/answers")" "42
 status 0" "a display beside a colour that is none"
 
-printf '# display 0: 2 digits of 7 segments\n# lamp 14: ready go fault\n' > "$folder/board.toml"
+board_of 17 '# display 0: 2 digits of 7 segments\n# lamp 14: ready go fault\n' > "$folder/board.toml"
 
 printf 'lamps .**....**.**.*.*.\nlamps .......***..**...\n' > "$folder/answers"
 verdict "$(outcome tools/display "$folder/board.toml" < "$folder/answers")" "12 go
 9
 status 0" "a display of seven segments, and a lamp with a name"
-printf '# lamp 0: minus overflow\n# display 2: 2 digits\n' > "$folder/board.toml"
+board_of 10 '# lamp 0: minus overflow\n# display 2: 2 digits\n' > "$folder/board.toml"
 printf 'session 3\nlamps *....*..*.\nlamps .***......\nlamps ...*.*.*.*\n' > "$folder/answers"
 verdict "$(outcome tools/display "$folder/board.toml" < "$folder/answers")" "-12
 ?0 overflow
@@ -67,4 +73,19 @@ refuses 1 "display: line 2 of the answers is a refusal: no 44; tools/explain say
 refuses 1 "display: $lock/board.toml has no display: a comment \`# display 0: 4 digits\` makes one" tools/display $lock/board.toml < "$folder/answers"
 printf '# display 0: four digits\n' > "$folder/board.toml"
 refuses 1 "display: $folder/board.toml: line 1: no display: it is written as \`# display 3: 8 digits\`, and then \`of 7 segments\`, \`with points\`, \`scanned by 7\`" \
+    tools/display "$folder/board.toml" < "$folder/answers"
+# What a board lacks that its comments name is refused, as `test` refuses it.
+board_of 8 '# display 0: 2 digits\n# printer rom0.1: ram0.0 0 1 feed\n' > "$folder/board.toml"
+echo "start: JUN start" > "$folder/idle.asm"
+printf 'test: dark\nexpect display 00\n' > "$folder/idle.test"
+echo "lamps ........" > "$folder/answers"
+lacks="$folder/board.toml: line 2: the board has no output line ram0.0.0"
+refuses 1 "display: $lacks" tools/display "$folder/board.toml" < "$folder/answers"
+refuses 1 "test: $lacks" tools/test "$folder/board.toml" "$folder/idle.asm" "$folder/idle.test"
+board_of 7 '# display 0: 2 digits\n' > "$folder/board.toml"
+lacks="$folder/board.toml: line 1: the display needs lamps up to number 7, and the board has 7"
+refuses 1 "display: $lacks" tools/display "$folder/board.toml" < "$folder/answers"
+refuses 1 "test: $lacks" tools/test "$folder/board.toml" "$folder/idle.asm" "$folder/idle.test"
+printf '# display 0: 2 digits\n[[rom]]\nchip = 16\nport = "0000"\n' > "$folder/board.toml"
+refuses 1 "$(outcome tools/test "$folder/board.toml" "$folder/idle.asm" "$folder/idle.test" | sed 's/^test: /display: /; /^status/d')" \
     tools/display "$folder/board.toml" < "$folder/answers"
