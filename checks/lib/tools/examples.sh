@@ -15,8 +15,8 @@ for script in examples/*.txt examples/*/*.txt; do
     fi
 done
 for kind in txt answers; do
-    verdict "$(outcome cmp "examples/calculator/quotient.$kind" "crates/mcs_examples_tests/data/quotient.$kind")" "status 0" \
-        "the calculator whose keys mcs_examples_tests presses, which may hold no link (cp it)"
+    verdict "$(outcome cmp "examples/calculator/quotient.$kind" "crates/test_examples/data/quotient.$kind")" "status 0" \
+        "the calculator whose keys test_examples presses, which may hold no link (cp it)"
 done
 
 board=$calculator/board.toml

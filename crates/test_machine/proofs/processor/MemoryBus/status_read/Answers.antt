@@ -2,7 +2,7 @@
 use Rattle.std.proofs.Common.{◌≡◌, ℕ, ◌<◌, ◌+◌, ◌*◌, ◌/◌, sym, get_or, replicate, arith}
 use Rattle.std.proofs.lemmas.List.{get_or-replicate}
 use Rattle.mcs_model.specs.Bus.{status_of, zero_bus}
-use Rattle.mcs_machine_tests.proofs.processor.MemoryBus.status_read.Goals as goal
+use Rattle.test_machine.proofs.processor.MemoryBus.status_read.Goals as goal
 
 zero_at : (bank k : ℕ) → bank < 8 → k < 4 → get_or {A = ℕ} (replicate 512 0) (bank * 64 + (get_or {A = ℕ} (replicate 8 0) bank 0 / 16 * 4 + k)) 0 ≡ 0
 zero_at bank k h l =

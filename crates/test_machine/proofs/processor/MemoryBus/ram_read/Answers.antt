@@ -2,7 +2,7 @@
 use Rattle.std.proofs.Common.{◌≡◌, ℕ, ◌<◌, ◌+◌, ◌*◌, sym, get_or, replicate, arith}
 use Rattle.std.proofs.lemmas.List.{get_or-replicate}
 use Rattle.mcs_model.specs.Bus.{ram_of, zero_bus}
-use Rattle.mcs_machine_tests.proofs.processor.MemoryBus.ram_read.Goals as goal
+use Rattle.test_machine.proofs.processor.MemoryBus.ram_read.Goals as goal
 
 zero_at : (bank : ℕ) → bank < 8 → get_or {A = ℕ} (replicate 2048 0) (bank * 256 + get_or {A = ℕ} (replicate 8 0) bank 0) 0 ≡ 0
 zero_at bank h =
