@@ -16,28 +16,28 @@ pub enum FileFault {
     #[error("in use by another program; wait until that has ended")]
     InUse,
     /// The host knows no lock for this file, as on some network file systems.
-    #[error("no lock can be had for it; put it on a disk of this machine")]
+    #[error("the host has no lock for it; put it on a disk of this machine")]
     NoLock,
     /// There is no file of this name, or no folder for it.
-    #[error("no such file")]
+    #[error("no such file or folder")]
     NotThere,
     /// It may not be read and written.
     #[error("no permission to read and write it")]
     Denied,
     /// It is a folder.
-    #[error("it is a folder")]
+    #[error("it is a folder; name a file in it")]
     Folder,
     /// It is no regular file, but a device, say.
-    #[error("it is no regular file")]
+    #[error("it is no regular file; name another")]
     NotAFile,
     /// There is no space for it on the device.
     #[error("no space for it on the device; make room and try again")]
     NoSpace,
     /// These standard streams of the program are this very file.
-    #[error("a standard stream of the program is this very file")]
+    #[error("standard input or output is this very file; send that elsewhere")]
     Stream(Streams),
     /// The host refused it for another reason.
-    #[error("the host refused it, or its device failed; try again")]
+    #[error("the host refused it, or its device failed")]
     Device,
     /// There was no memory for the bytes of the file.
     #[error("out of memory")]

@@ -9,13 +9,13 @@ use thiserror::Error;
 #[derive(Clone, Copy, Debug, PartialEq, Eq, Error)]
 pub enum OpenFault {
     /// The size or the name is not that of a session file (50).
-    #[error("the disk holds no session file")]
+    #[error("no session file; begin a session in another file")]
     NotASession,
     /// Size and name are right, and the bytes hold no contents: no snapshot with its records (51).
-    #[error("the session file is damaged")]
+    #[error("damaged; go on with a copy of it, if there is one")]
     Damaged,
     /// A call on the disk failed (53).
-    #[error("the device refused a call")]
+    #[error("the device failed; open it again")]
     Device,
     /// A buffer, the snapshot or a record found no memory (90).
     #[error("out of memory")]
@@ -26,10 +26,10 @@ pub enum OpenFault {
 #[derive(Clone, Copy, Debug, PartialEq, Eq, Error)]
 pub enum CreateFault {
     /// The size is not that of a session file, or one of the first 16 bytes is not 0 (55).
-    #[error("the disk is not blank")]
+    #[error("not blank")]
     NotBlank,
     /// A call on the disk failed (53).
-    #[error("the device refused a call")]
+    #[error("the device failed; remove it and begin again")]
     Device,
     /// The buffer found no memory (90).
     #[error("out of memory")]

@@ -5,15 +5,19 @@ ghost use Rattle.mcs_shell.specs.RefusalNumbers.{refusal_number, streams_of};
 use crate::faults::{create_number, file_number, open_number};
 use mcs_host::{FileFault, Streams};
 use mcs_journal::{CreateFault, OpenFault};
+use thiserror::Error;
 
 /// Why there is no session.
-#[derive(Clone, Copy)]
+#[derive(Clone, Copy, Debug, Error)]
 pub enum Refusal {
     /// Its file was not opened.
+    #[error("{0}")]
     File(FileFault),
     /// It was not made.
+    #[error("{0}")]
     Create(CreateFault),
     /// It was not opened.
+    #[error("{0}")]
     Open(OpenFault),
 }
 

@@ -4,7 +4,7 @@
 use crate::ends::ShellEnd;
 use crate::refusal::Refusal;
 use mcs_host::{Choice, FileDisk, FileFault, Streams};
-use mcs_journal::{CreateFault, OpenFault};
+use mcs_journal::CreateFault;
 use std::io;
 use std::path::Path;
 
@@ -58,7 +58,10 @@ pub fn tell_refusal(rt: &HostRuntime, choice: &Choice, refusal: Refusal) {
         (_, Refusal::Create(CreateFault::NotBlank)) => eprintln!(rt;
             "mcs4: {file}: not blank, so no session is made in it; remove it, or go on with: mcs4 open {file}"
         ),
-        (_, refusal) => eprintln!(rt; "mcs4: {file}: {}", reason_of(refusal)),
+        (_, Refusal::File(FileFault::NotThere)) => {
+            eprintln!(rt; "mcs4: {file}: no such folder; make it first")
+        }
+        (_, refusal) => eprintln!(rt; "mcs4: {file}: {refusal}"),
     };
 }
 
@@ -86,32 +89,4 @@ pub fn tell_end(rt: &HostRuntime, file: &str, end: ShellEnd) {
 /// A line on arguments that there was no memory for.
 pub fn tell_no_memory(rt: &HostRuntime) {
     let _ = eprintln!(rt; "mcs4: out of memory");
-}
-
-fn reason_of(refusal: Refusal) -> &'static str {
-    match refusal {
-        Refusal::File(FileFault::InUse) => "in use by another program; wait until that has ended",
-        Refusal::File(FileFault::NoLock) => {
-            "the host has no lock for it; put it on a disk of this machine"
-        }
-        Refusal::File(FileFault::NotThere) => "no such folder; make it first",
-        Refusal::File(FileFault::Denied) => "no permission to read and write it",
-        Refusal::File(FileFault::Folder) => "it is a folder; name a file in it",
-        Refusal::File(FileFault::NotAFile) => "it is no regular file; name another",
-        Refusal::File(FileFault::Stream(_)) => {
-            "standard input or output is this very file; send that elsewhere"
-        }
-        Refusal::File(FileFault::NoSpace) => {
-            "no space for it on the device; make room and try again"
-        }
-        Refusal::File(FileFault::Device) => "the host refused it, or its device failed",
-        Refusal::Create(CreateFault::NotBlank) => "not blank",
-        Refusal::Open(OpenFault::NotASession) => "no session file; begin a session in another file",
-        Refusal::Open(OpenFault::Damaged) => "damaged; go on with a copy of it, if there is one",
-        Refusal::Create(CreateFault::Device) => "the device failed; remove it and begin again",
-        Refusal::Open(OpenFault::Device) => "the device failed; open it again",
-        Refusal::File(FileFault::NoMemory)
-        | Refusal::Create(CreateFault::NoMemory)
-        | Refusal::Open(OpenFault::NoMemory) => "out of memory",
-    }
 }
