@@ -127,6 +127,10 @@ def check_calculator(browser):
     comes(browser, "7 - 9 by the keyboard", DIGITS, "-2")
     browser.keys([ESCAPE, "6", "*", "9", ENTER], 1, 1)
     comes(browser, "6 * 9, typed faster than a hand can", DIGITS, "54")
+    # Again before its release is told, which comes 43 ms after the press and is shown with the next frame.
+    for down, up in ((20, 50), (50, 20), (90, 25)):
+        browser.keys([ESCAPE, *"11111111"], down, up)
+        comes(browser, f"one key eight times, {down} ms down and {up} ms up", DIGITS, "11111111")
 
 
 def check_two_keys(browser):

@@ -59,7 +59,7 @@ export function pressingOf(page) {
   const { running } = page;
   return new Pressing({
     isRunning: () => running.clock.movesKeys,
-    isDown: (place) => page.lookView.front.isDown(place),
+    isDown: (place) => running.willBeDown(place, page.lookView.front.isDown(place)),
     press: (place) => running.queue("press", place),
     release: (place) => running.queue("release", place),
     change: (word, place) => {

@@ -143,10 +143,11 @@ export class Page {
    * @param {boolean} [isPassing] whether time has come here and goes on
    * @param {import("./worker/shining.js").Shone | null} [shone] what was lit in that time
    */
-  show({ look, file, board, total, reset, future, past, waves, printed }, isPassing = false, shone = null) {
+  show({ look, file, board, total, reset, future, past, waves, printed, waiting }, isPassing = false, shone = null) {
     const { session } = this.current;
     if (!session) return;
     this.bench.giveBack(session.take(file));
+    this.running.asked.waiting = waiting;
     this.past.take(past, { file: session.record.file, total, reset });
     this.cycles.take({ total, reset }, this.running.clock.isRunning);
     session.record.cycles = this.cycles.cycles.kept;

@@ -110,7 +110,7 @@ function actsOf({ layout, lookView, pressing, running, source, travel }) {
       lookView.goTo.show(address);
     },
     isRunning: () => running.clock.movesKeys,
-    isDown: (key) => lookView.front.isDown(key.place),
+    isDown: ({ place }) => running.willBeDown(place, lookView.front.isDown(place)),
     press: (key) => {
       pressing.down(key, false);
       pressing.up(key.place);

@@ -8,10 +8,11 @@
  *
  * What a session is now: the answers of a look, the bytes of its file (transferred), the answer to `board` where it may be new, the
  * cycles that were counted, in all and up to the last reset, how many times forward is possible, what has come to the past since it was
- * told last, what was recorded since then, null where nothing is recorded, and what was sent to the printer, null where it is the same.
+ * told last, what was recorded since then, null where nothing is recorded, what was sent to the printer, null where it is the same, and
+ * the changes of keys that wait for their time.
  * @typedef {{ look: string[], file: ArrayBuffer, board: string[] | null, total: number, reset: number, future: number,
  *   past: import("../worker/timeline.js").News, waves: import("../worker/live_recorder.js").LivePart | null,
- *   printed: import("../worker/printing.js").Printed | null }} Shown
+ *   printed: import("../worker/printing.js").Printed | null, waiting: import("../worker/key_queue.js").Change[] }} Shown
  *
  * What time has done: the lines, the cycles, the answer that ended the run early ("" where none did), whether a key was changed; why time
  * stopped, if it did, and what breakpoints did; what was lit and heard, and which characters changed, null where nobody asks.

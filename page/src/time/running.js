@@ -4,6 +4,7 @@ import { isStop, readRun, refusalOf } from "../bench/answers.js";
 import { wordsOfHalt, wordsOfMove, wordsOfStop, wordsOfWhen } from "../debug/stop_words.js";
 import { Cell, block, button } from "../ui/dom.js";
 import { wordsOfTime } from "../bench/words.js";
+import { AskedKeys } from "../board/asked_keys.js";
 import { Sound } from "../board/sound.js";
 import { Clock } from "./clock.js";
 import { Rate } from "./rate.js";
@@ -49,6 +50,7 @@ export class Running {
     this.begun = 0;
     this.rate = new Rate(0);
     this.clock = this.makeClock();
+    this.asked = new AskedKeys();
     this.sound = new Sound({
       listen: (line) => {
         bench.call("listenTo", [line]).catch(calls.failed);
@@ -63,7 +65,7 @@ export class Running {
   makeClock() {
     const { bench, calls } = this;
     return new Clock({
-      advance: async (cycles, key) => this.ran(await bench.call("advance", [cycles, key])),
+      advance: (cycles, key) => this.advance(cycles, key),
       instruct: () => this.instruct(),
       runFull: () => bench.call("run", [document.hidden]),
       stoodStill: (time, wasHidden) => this.stoodStill(time, wasHidden),
@@ -139,6 +141,16 @@ export class Running {
     this.beginRate();
     bench.isRunning = speed.isFull && this.clock.isRunning;
     this.calls.drawListing();
+  }
+
+  /**
+   * @param {number} cycles
+   * @param {string} key goes down before them, "" for none
+   */
+  async advance(cycles, key) {
+    const arrived = key === "" ? () => {} : this.asked.send({ word: "press", place: key });
+    const frame = await this.bench.call("advance", [cycles, key]).finally(arrived);
+    this.ran(frame);
   }
 
   /** One instruction of the time that runs: breakpoints and watches stop it, as any run. */
@@ -271,6 +283,18 @@ export class Running {
     const { bench, current, calls } = this;
     current.touch();
     if (word === "press" && this.clock.pressNow(place)) return;
-    bench.call(word, [place]).catch(calls.failed);
+    const arrived = this.asked.send({ word, place });
+    bench.call(word, [place]).finally(arrived).then((waiting) => {
+      this.asked.waiting = waiting;
+    }, calls.failed);
+  }
+
+  /**
+   * Whether a key will be down once all is done that was asked for; while keys are as fingers put them, whether it is.
+   * @param {string} place
+   * @param {boolean} isDown whether the bench tells that it is
+   */
+  willBeDown(place, isDown) {
+    return this.clock.movesKeys ? this.asked.willBeDown(place, isDown) : isDown;
   }
 }

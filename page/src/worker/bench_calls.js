@@ -93,14 +93,15 @@ export class BenchCalls {
    * @returns {Shown}
    */
   shown(look, tellsBoard) {
-    const { file, lookQuestions, count, timeline, printing } = this.session;
+    const { file, lookQuestions, count, timeline, printing, queue } = this.session;
     const buffer = this.spare.pop() || new ArrayBuffer(file.length);
     new Uint8Array(buffer).set(file);
     const board = tellsBoard ? lookQuestions.board : null;
     const waves = this.recordedPart();
     const past = timeline.takeNews();
     const printed = printing && printing.takeNews(count.total);
-    return { look, file: buffer, board, total: count.total, reset: count.reset, future: timeline.future.length, past, waves, printed };
+    const { total, reset } = count;
+    return { look, file: buffer, board, total, reset, future: timeline.future.length, past, waves, printed, waiting: queue.changes };
   }
 
   /** What was recorded since it was told last; null where nothing is recorded. */
@@ -549,19 +550,25 @@ export class BenchCalls {
     if (this.session.printing) this.session.printing.tear();
   }
 
-  /** @param {string} place a key, which goes down while time runs */
+  /**
+   * A key goes down while time runs; gives the changes that wait, as do the next two.
+   * @param {string} place
+   */
   press(place) {
     this.session.queue.press(place);
+    return this.session.queue.changes;
   }
 
   /** @param {string} place */
   release(place) {
     this.session.queue.release(place);
+    return this.session.queue.changes;
   }
 
   /** @param {string} place a key whose changes that wait are forgotten */
   forget(place) {
     this.session.queue.forget(place);
+    return this.session.queue.changes;
   }
 
   /**
