@@ -1,9 +1,9 @@
-"""The tables of docs/MANUAL.md that the page shows, so that they stand once."""
+"""The tables that the page shows: of docs/MANUAL.md, so that they stand once, and of page/help.md, which tells of the page alone."""
 
 import pathlib
 import re
 
-MANUAL = pathlib.Path(__file__).resolve().parent.parent / "docs/MANUAL.md"
+PAGE = pathlib.Path(__file__).resolve().parent
 # The sections whose tables the page shows, in the order of its help.
 SECTIONS = ("The 45 instructions", "The form of a program", "The sixteen conditions of JCN", "The keys of the text", "The names of lines",
             "The face of a board", "Commands", "Places", "Queries", "The keyboard", "What the cells show",
@@ -14,7 +14,7 @@ def section_of(manual, title):
     """The text below a heading, up to the next one."""
     found = re.search(rf"^#+ {re.escape(title)}\n(.*?)(?=^#|\Z)", manual, re.M | re.S)
     if found is None:
-        raise ValueError(f"docs/MANUAL.md has no section '{title}'")
+        raise ValueError(f"neither docs/MANUAL.md nor page/help.md has a section '{title}'")
     return found.group(1)
 
 
@@ -42,5 +42,5 @@ def tables_of(section):
 
 def manual_tables():
     """The sections, each with its tables."""
-    manual = MANUAL.read_text()
+    manual = (PAGE.parent / "docs/MANUAL.md").read_text() + (PAGE / "help.md").read_text()
     return [{"title": title, "tables": tables_of(section_of(manual, title))} for title in SECTIONS]

@@ -1,4 +1,4 @@
-// What the page shows of the manual: its tables, which page/build takes out of docs/MANUAL.md.
+// What the page shows of the manual: its tables, which page/build takes out of docs/MANUAL.md and page/help.md.
 
 /**
  * A table: the line in bold type before it ("" for none), its head and its rows. In a cell, code stands between backticks.
@@ -68,7 +68,9 @@ export function searched(manual, wanted) {
  */
 export function instructionsOf(manual) {
   const found = new Map();
-  for (const [forms, code, words, cycles, does] of rowsOf(manual, INSTRUCTIONS)) {
+  for (const row of rowsOf(manual, INSTRUCTIONS)) {
+    // A table without these two columns has instructions of one word and one cycle.
+    const [forms, code, words, cycles, does] = row.length === 3 ? [row[0], row[1], "1", "1", row[2]] : row;
     for (const [, form] of forms.matchAll(/`([^`]+)`/g)) found.set(form.split(" ")[0], { form, code, words, cycles, does: plain(does) });
   }
   return found;
