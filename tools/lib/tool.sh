@@ -26,14 +26,53 @@ fail() {
     exit 1
 }
 
+# Wrong arguments: what is wrong with them, and the use.
 refuse_words() {
     usage_told=1
+    if [ $# -gt 0 ]; then echo "$tool: $1" >&2; fi
     if [ -n "${called_as_mcs4:-}" ]; then
         echo "usage: $usage" | sed "s/^usage: /&mcs4 /; s/, $tool /, mcs4 $tool /g" >&2
     else
         echo "usage: $usage" >&2
     fi
     exit 2
+}
+
+# A word that begins as an option, and is none here.
+refuse_option() {
+    case "$usage " in
+    *[[\ ]"$1"[]\ ]*) refuse_words "$1 is an option: it stands before all other arguments" ;;
+    *) refuse_words "there is no option $1" ;;
+    esac
+}
+
+# The value that an option needs: its name, then all arguments from the option on.
+need_value() {
+    if [ $# -lt 3 ]; then refuse_words "$1 is missing after $2"; fi
+}
+
+# The arguments behind the options: how many there are at least and at most (`-`: any number), the names of those that there have to be,
+# and then they.
+need_words() {
+    fewest=$1 ceiling=$2 wanted_names=$3
+    shift 3
+    case ${1-} in -?*) refuse_option "$1" ;; esac
+    if [ "$ceiling" = - ]; then for word in "$@"; do case $word in --?*) refuse_option "$word" ;; esac; done; fi
+    if [ $# -ge "$fewest" ] && { [ "$ceiling" = - ] || [ $# -le "$ceiling" ]; }; then return; fi
+    for word in "$@"; do case $word in -?*) refuse_option "$word" ;; esac; done
+    if [ $# -lt "$fewest" ]; then refuse_words "$(missing "$wanted_names" $#)"; fi
+    shift "$ceiling"
+    refuse_words "'$1' is one argument too many"
+}
+
+# Names that no argument has, of which there are so many: `BOARD and KEYS are missing`.
+missing() {
+    # shellcheck disable=SC2086
+    echo $1 | awk -v given="$2" '
+        { for (i = given + 1; i <= NF; i++) told = told (told == "" ? "" : i == NF ? " and " : ", ") $i }
+        { printf "%s %s missing", told, NF - given == 1 ? "is" : "are" }'
+    if [ "$2" -gt 0 ] || [ -n "$project" ] || [ -e mcs4.toml ]; then return; fi
+    case "$usage:$1" in *"[-C FOLDER]"*:BOARD* | *"[-C FOLDER]"*:PROGRAM) printf ', and there is no mcs4.toml here' ;; esac
 }
 
 # What a tool in JavaScript runs by.
@@ -387,15 +426,15 @@ need_tests() {
 counted() {
     cycles=
     if [ "${1-}" = --session ]; then
-        if [ $# -ne 4 ]; then refuse_words; fi
-        need_count CYCLES "$3" 100000000
-        cycles=$3
-        copy_session "$2" start.mcs
-        need_session "$2"
-        map_program "$4"
+        shift
+        need_words 3 3 "SESSION CYCLES PROGRAM" "$@"
+        need_count CYCLES "$2" 100000000
+        cycles=$2
+        copy_session "$1" start.mcs
+        need_session "$1"
+        map_program "$3"
     else
-        if [ $# -lt 3 ]; then refuse_words; fi
-        case $1 in -?*) refuse_words ;; esac
+        need_words 3 - "BOARD PROGRAM TEST" "$@"
         prepare "$1" "$2"
         shift 2
         need_tests "$@"
@@ -570,7 +609,7 @@ project=
 case $usage in
 *"[-C FOLDER]"*)
     if [ "${1-}" = -C ]; then
-        if [ -z "${2-}" ]; then refuse_words; fi
+        if [ -z "${2-}" ]; then refuse_words "FOLDER is missing after -C"; fi
         project=$2
         shift 2
     fi

@@ -78,7 +78,8 @@ refuses 1 "cover: the session has another program than $lock/lock.asm: at 001 st
     tools/cover --session "$folder/calc.mcs" 100 $lock/lock.asm
 refuses 1 "cover: cannot write $folder/none/x.info: its folder is not there, or cannot be written" tools/cover --lcov "$folder/none/x.info" --session "$folder/calc.mcs" 10 $calculator/calculator.asm
 refuses 1 "cover: CYCLES is a decimal number, 1 to 100000000" tools/cover --session "$folder/calc.mcs" 0 $calculator/calculator.asm
-refuses 2 "usage: cover [-C FOLDER] [--lcov FILE] [BOARD PROGRAM] [TEST ..], cover [--lcov FILE] --session SESSION CYCLES PROGRAM" \
+refuses 2 "cover: PROGRAM is missing
+usage: cover [-C FOLDER] [--lcov FILE] [BOARD PROGRAM] [TEST ..], cover [--lcov FILE] --session SESSION CYCLES PROGRAM" \
     tools/cover --session "$folder/calc.mcs" 100
 if command -v genhtml > /dev/null; then
     genhtml -q --branch-coverage -o "$folder/html" "$folder/count.info" > "$folder/words" 2>&1 || cat "$folder/words" >&2
@@ -102,7 +103,8 @@ stays() {
 cp $three/board.toml "$folder/mine.toml"
 cp "$folder/count.asm" "$folder/mine.asm"
 cover_usage="usage: cover [-C FOLDER] [--lcov FILE] [BOARD PROGRAM] [TEST ..], cover [--lcov FILE] --session SESSION CYCLES PROGRAM"
-stays "$folder/mine.toml" 2 "$cover_usage" tools/cover --lcov "$folder/mine.toml" "$folder/count.asm" "$folder/count.test"
+stays "$folder/mine.toml" 2 "cover: TEST is missing
+$cover_usage" tools/cover --lcov "$folder/mine.toml" "$folder/count.asm" "$folder/count.test"
 stays "$folder/mine.toml" 1 "cover: $folder/mine.toml is there, and does not begin as a file of LCOV's format does (TN:); name another file, or move it away" \
     tools/cover --lcov "$folder/mine.toml" $three/board.toml "$folder/count.asm" "$folder/count.test"
 stays "$folder/mine.asm" 1 "cover: $folder/mine.asm is read here, so it is not written; name another file" \

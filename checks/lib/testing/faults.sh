@@ -137,7 +137,8 @@ refuses 1 "test: $folder/no.test:1: a byte that is neither a tab nor a printing 
 refuses 1 "test: $folder/empty is empty" tools/test $lock/board.toml $lock/lock.asm "$folder/empty"
 refuses 1 "test: cannot read none" tools/test $lock/board.toml $lock/lock.asm none
 refuses 1 "test: cannot read none" tools/test none $lock/lock.asm "$folder/one.test"
-refuses 2 "usage: test [-C FOLDER] [BOARD PROGRAM] [TEST ..]" tools/test $lock/board.toml $lock/lock.asm
+refuses 2 "test: TEST is missing
+usage: test [-C FOLDER] [BOARD PROGRAM] [TEST ..]" tools/test $lock/board.toml $lock/lock.asm
 sed 's/JMS key/JMS kez/' < $lock/lock.asm > "$folder/faulty.asm"
 refuses 1 "test: $folder/faulty.asm: line 31: no 32: a name that no line defines
 test:     digit:  JMS kez" tools/test $lock/board.toml "$folder/faulty.asm" "$folder/one.test"

@@ -18,7 +18,8 @@ for each in tools/[a-z]*; do
     verdict "$(apart ./mcs4 help "$each" | sed 's/^[0-9]*/some/')" "some 0 0" "mcs4 help $each"
     verdict "$(head -n 1 "$folder/output" | cut -d ' ' -f 1-3); $(grep -c '^Status' "$folder/output")" "usage: mcs4 $each; 1" "what mcs4 help $each tells"
     verdict "$(sed 's/mcs4 \([a-z]\)/\1/g; s/  */ /g' "$folder/output" | tr '\n' ' ')" "$(outcome "tools/$each" --help | sed '$d; s/tools\///g; s/\.\/mcs4/mcs4/g; s/mcs4 \([a-z]\)/\1/g; s/  */ /g' | tr '\n' ' ')" "tools/$each --help"
-    verdict "$(apart ./mcs4 "$each" --none --none --none --none --none --none --none | sed 's/^0 [0-9]* /0 some /'): $(cut -c 1-12 < "$folder/errors" | sed 1q)" "0 some 2: usage: mcs4 " "mcs4 $each with words that are none"
+    verdict "$(apart ./mcs4 "$each" --none --none --none --none --none --none --none | sed 's/^0 [0-9]* /0 some /'): $(sed 's/^\(usage: mcs4 \).*/\1/; 2q' "$folder/errors")" "0 some 2: $each: there is no option --none
+usage: mcs4 " "mcs4 $each with words that are none"
     verdict "$(./mcs4 help | grep -c "^    $each ")" 1 "$each in mcs4 help"
     if command -v man > /dev/null; then
         awk -v by=mcs4 -v form=man -v commands=tools/lib/commands.txt -f tools/lib/help.awk < "tools/$each" > "$folder/page.1"
@@ -53,8 +54,13 @@ for each in back cover cycles display explain import keys listing names panel pr
     ln -s "$top/tools/$each" "$folder/more/$each"
     ln -s "../linked/$each" "$folder/links/$each"
     for name in "$folder/more/$each" "$folder/links/$each"; do
-        verdict "$(outcome "$name" --none | sed 's/^usage: [a-z]*.*/usage/')" "usage
+        verdict "$(outcome "$name" --none | sed 's/^usage: [a-z]*.*/usage/')" "${name##*/}: there is no option --none
+usage
 status 2" "$name"
     done
 done
 verdict "$(cd "$folder" && outcome links/listing --names program.asm)" "$(outcome tools/listing --names "$folder/program.asm")" "a listing by a link"
+refuses 2 "mcs4: there is too much behind version
+$(./mcs4 2>&1 || :)" ./mcs4 version 4
+refuses 2 "mcs4: there is too much behind help
+$(./mcs4 2>&1 || :)" ./mcs4 help listing rom

@@ -24,7 +24,8 @@ status 0" "where some runs stopped"
 refuses_sources "cycles --source PROGRAM $folder/ran.mcs"
 refuses 1 "cycles: the session $folder/source.txt was refused: no 50: not a session file: its size or the name inside it is another" \
     tools/cycles --source "$folder/source.asm" "$folder/source.txt"
-refuses 2 "usage: cycles [--source PROGRAM SESSION] [FIRST LAST] < ANSWERS" tools/cycles --source "$folder/source.asm"
+refuses 2 "cycles: SESSION is missing
+usage: cycles [--source PROGRAM SESSION] [FIRST LAST] < ANSWERS" tools/cycles --source "$folder/source.asm"
 
 # Times: 1 + 4000 + 12 cycles of 10.8 microseconds are 43,340.4; the first two are 43,210.8.
 printf 'session 0\nok 1 ran 1 end\nok 2\nok 3 ran 4000 break\r\nlamps *\nok 4 ran 12 code\n' > "$folder/answers"
@@ -35,6 +36,7 @@ status 0" "cycles of some lines"
 refuses 1 "cycles: there are only 6 lines of answers" tools/cycles 2 7 < "$folder/answers"
 refuses 1 "cycles: none of these lines shows a run, as \`ok 5 ran 100 end\` does" tools/cycles 3 3 < "$folder/answers"
 refuses 1 "cycles: FIRST is from 1 on, and LAST is not before it" tools/cycles 3 2 < "$folder/answers"
-refuses 2 "usage: cycles [--source PROGRAM SESSION] [FIRST LAST] < ANSWERS" tools/cycles 3
+refuses 2 "cycles: LAST is missing
+usage: cycles [--source PROGRAM SESSION] [FIRST LAST] < ANSWERS" tools/cycles 3
 printf 'session 0\nno 44\n' > "$folder/answers"
 refuses 1 "cycles: line 2 is a refusal: no 44; tools/explain says why" tools/cycles < "$folder/answers"

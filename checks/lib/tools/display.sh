@@ -8,7 +8,8 @@ board_of() {
 }
 
 board=$calculator/board.toml
-refuses 2 "usage: display [-C FOLDER] [BOARD] < ANSWERS" tools/display
+refuses 2 "display: BOARD is missing, and there is no mcs4.toml here
+usage: display [-C FOLDER] [BOARD] < ANSWERS" tools/display
 echo "session 0" > "$folder/answers"
 refuses 1 "display: no answer shows the lamps" tools/display "$board" < "$folder/answers"
 echo "lamps ..*" > "$folder/answers"

@@ -24,7 +24,8 @@ line 7: no 10: not a command: an unknown first word, a wrong number of words, or
     break
 status 1" "addresses of refused lines, by the source"
 refuses_sources "explain --source PROGRAM $folder/ran.mcs $folder/wrong.txt"
-refuses 2 "usage: explain [--source PROGRAM SESSION] SCRIPT < ANSWERS" tools/explain --source "$folder/source.asm" "$folder/ran.mcs"
+refuses 2 "explain: SCRIPT is missing
+usage: explain [--source PROGRAM SESSION] SCRIPT < ANSWERS" tools/explain --source "$folder/source.asm" "$folder/ran.mcs"
 
 # What was refused: lines, lines of programs, and the part of a board at fault among others that depend on it or on which it does.
 cat > "$folder/explain.txt" <<'script'
@@ -129,7 +130,8 @@ refuses 1 "explain: these are not the answers to this script: line 3 of the answ
 printf 'session 0\nok 1\nseq 1\nok 2\n' > "$folder/answers"
 refuses 1 "explain: these are not the answers to this script: line 4 of the answers, \`ok 2\`, comes after the answer to the last line of the script" \
     tools/explain "$folder/two.txt" < "$folder/answers"
-refuses 2 "usage: explain [--source PROGRAM SESSION] SCRIPT < ANSWERS" tools/explain
+refuses 2 "explain: SCRIPT is missing
+usage: explain [--source PROGRAM SESSION] SCRIPT < ANSWERS" tools/explain
 
 # Answers that do not fit, or are none.
 explains() {

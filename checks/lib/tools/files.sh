@@ -55,7 +55,8 @@ refuses 1 "rom: no answers on standard input; it reads what mcs4 has answered, a
 refuses 1 "cycles: no answers on standard input; it reads what mcs4 has answered, as in: cycles .. < ANSWERS" tools/cycles
 refuses 1 "explain: no answers on standard input; it reads what mcs4 has answered, as in: explain .. < ANSWERS" tools/explain "$folder/two.txt"
 refuses 1 "panel: standard input and output have to be a terminal" tools/panel $lock/board.toml "$folder/session.mcs"
-refuses 2 "usage: panel [-C FOLDER] [--stopped] [--source PROGRAM] [BOARD] SESSION" tools/panel $lock/board.toml
+refuses 2 "panel: SESSION is missing
+usage: panel [-C FOLDER] [--stopped] [--source PROGRAM] [BOARD] SESSION" tools/panel $lock/board.toml
 refuses 1 "rom: more than 67,108,864 bytes on standard input; are these answers of mcs4?" tools/rom save 0 1 < "$folder/huge"
 refuses 1 "cycles: more than 67,108,864 bytes on standard input; are these answers of mcs4?" tools/cycles < "$folder/huge"
 printf '#!/bin/sh\necho "no 53"\necho "mcs4: s.mcs: in use by another program" >&2\nexit 3\n' > "$folder/refusing"

@@ -2,7 +2,8 @@
 # shellcheck shell=sh
 
 refuses 1 "keys: cannot read none.toml" tools/keys none.toml "1"
-refuses 2 "usage: keys [-C FOLDER] [--down CYCLES] [--up CYCLES] [--until-stop SESSION] [BOARD] KEYS" tools/keys $calculator/board.toml
+refuses 2 "keys: KEYS is missing
+usage: keys [-C FOLDER] [--down CYCLES] [--up CYCLES] [--until-stop SESSION] [BOARD] KEYS" tools/keys $calculator/board.toml
 
 # A board with CRLF: the last key of a row, too.
 printf '# row 0: a b\r\n# row 1: c\r\nrom = [{ chip = 0, port = "00ii" }]\r\nchain = [{ clock = "rom0.2", data = "rom0.3", chips = 1 }]\r\nkeys = { chain = 0, first = 0, rows = 2, columns = ["rom0.0", "rom0.1"] }\r\n' > "$folder/crlf.toml"
@@ -25,7 +26,8 @@ refuses 1 "keys: $folder/board.toml: line 9: row 0 has its names in line 8" tool
 grep -v '^# row' < $lock/board.toml > "$folder/board.toml"
 refuses 1 "keys: $folder/board.toml has no comments \`# row R: NAME ..\` that name its keys" tools/keys "$folder/board.toml" 1
 refuses 1 "keys: down is a decimal number, 1 to 100000" tools/keys --down 0 $lock/board.toml 1
-refuses 2 "usage: keys [-C FOLDER] [--down CYCLES] [--up CYCLES] [--until-stop SESSION] [BOARD] KEYS" tools/keys $lock/board.toml
+refuses 2 "keys: KEYS is missing
+usage: keys [-C FOLDER] [--down CYCLES] [--up CYCLES] [--until-stop SESSION] [BOARD] KEYS" tools/keys $lock/board.toml
 # A breakpoint where a digit is taken: the key is still down then, and nothing is done after it.
 {
     tools/script $lock/board.toml $lock/lock.asm | sed '$d'

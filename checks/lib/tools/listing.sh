@@ -51,4 +51,5 @@ verdict "$(tools/listing --labels "$folder/program.asm")" "add_it 103
 alone 003
 start 000
 table 0FE" "labels"
-refuses 2 "usage: listing [-C FOLDER] [--names | --labels] [PROGRAM]" tools/listing --name "$folder/bad.asm"
+refuses 2 "listing: there is no option --name
+usage: listing [-C FOLDER] [--names | --labels] [PROGRAM]" tools/listing --name "$folder/bad.asm"

@@ -18,4 +18,5 @@ poke r1 0x004
 status 0" "names in lines"
 printf 'reset\nbreak @nowhere\n' > "$folder/named.txt"
 refuses 1 "names: line 2: the program has no name nowhere" tools/names $three/three_lamps.asm < "$folder/named.txt"
-refuses 2 "usage: names [-C FOLDER] [PROGRAM] < LINES" tools/names
+refuses 2 "names: PROGRAM is missing, and there is no mcs4.toml here
+usage: names [-C FOLDER] [PROGRAM] < LINES" tools/names

@@ -48,7 +48,8 @@ verdict "$(outcome tools/resume "$folder/resume.txt" "$folder/cut.mcs" | sed '2,
     "resume: $folder/cut.mcs has not begun with $folder/resume.txt: after 1 commands some answers differ (< $folder/cut.mcs, > what $folder/resume.txt leads to)" \
     "a session of another script"
 verdict_of_files "$folder/cut.mcs" "$folder/copy.mcs" "a session that was not resumed"
-refuses 2 "usage: resume SCRIPT SESSION" tools/resume "$folder/resume.txt"
+refuses 2 "resume: SESSION is missing
+usage: resume SCRIPT SESSION" tools/resume "$folder/resume.txt"
 rm "$folder/cut.mcs"
 awk 'BEGIN { for (i = 0; i < 400; i++) print "poke r" i % 16 " " int(i / 16) % 16 "\nrun 100000"; print "regs" }' > "$folder/long.txt"
 # Emptied here, since the program's own shell may empty it later than it is looked at.

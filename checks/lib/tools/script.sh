@@ -9,7 +9,8 @@ refuses 1 "script: cannot read none.toml" tools/script none.toml "$program" "1"
 refuses 1 "script: cannot read none.asm" tools/script "$board" none.asm "1"
 printf 'NOP\n.\n' > "$folder/dotted"
 refuses 1 "script: $folder/dotted has a line '.', which would end its text" tools/script "$board" "$folder/dotted" "1"
-refuses 2 "usage: script BOARD PROGRAM [KEYS], script [-C FOLDER] [KEYS]" tools/script "$board"
+refuses 2 "script: PROGRAM is missing
+usage: script BOARD PROGRAM [KEYS], script [-C FOLDER] [KEYS]" tools/script "$board"
 printf 'NOP\n\tJCN 4, far\n ORG 0x300\nfar: NOP\n' > "$folder/bad.asm"
 refuses 1 "script: $folder/bad.asm: line 2: no 34: an address on another page; JCN and ISZ reach the page of the address after their two words
 script:     	JCN 4, far" tools/script "$board" "$folder/bad.asm"

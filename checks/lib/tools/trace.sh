@@ -84,12 +84,28 @@ verdict "$(outcome tools/trace --source "$folder/source_crlf.asm" "$folder/sourc
 verdict_of_files "$folder/source.mcs" "$folder/copy.mcs" "a session that was traced with its source"
 refuses_sources "trace --source PROGRAM $folder/source.mcs 1"
 
-refuses 2 "usage: trace [-C FOLDER] [--names PROGRAM | --source PROGRAM] [--last N] SESSION CYCLES" \
+# What is wrong with arguments stands before the use.
+usage="usage: trace [-C FOLDER] [--names PROGRAM | --source PROGRAM] [--last N] SESSION CYCLES"
+refuses 2 "trace: --names and --source: one of them, and once
+$usage" \
     tools/trace --names "$folder/source.asm" --source "$folder/source.asm" "$folder/source.mcs" 1
 
 refuses 1 "trace: CYCLES is a decimal number, 1 to 100000" tools/trace "$folder/trace.mcs" 100001
 refuses 1 "trace: N is a decimal number, 1 to 10000" tools/trace --last 0 "$folder/trace.mcs" 10
-refuses 2 "usage: trace [-C FOLDER] [--names PROGRAM | --source PROGRAM] [--last N] SESSION CYCLES" tools/trace "$folder/trace.mcs"
+refuses 2 "trace: CYCLES is missing
+$usage" tools/trace "$folder/trace.mcs"
+refuses 2 "trace: SESSION and CYCLES are missing
+$usage" tools/trace
+refuses 2 "trace: --source is an option: it stands before all other arguments
+$usage" tools/trace "$folder/source.mcs" 40 --source "$folder/source.asm"
+refuses 2 "trace: CYCLES is missing
+$usage" tools/trace --last 3 "$folder/trace.mcs"
+refuses 2 "trace: N is missing after --last
+$usage" tools/trace --last
+refuses 2 "trace: there is no option --first
+$usage" tools/trace --first 3 "$folder/trace.mcs" 40
+refuses 2 "trace: '50' is one argument too many
+$usage" tools/trace "$folder/trace.mcs" 40 50
 refuses 1 "trace: the session $folder/trace.txt was refused: no 50: not a session file: its size or the name inside it is another" tools/trace "$folder/trace.txt" 1
 
 cat > "$folder/trace.txt" <<'script'
