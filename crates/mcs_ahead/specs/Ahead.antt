@@ -1,5 +1,6 @@
--- What would happen in a run: the instructions that it would begin, each with the machine before it and after it. (Our own
--- choice: an instruction of two cycles does all its work in the first, so the machine after that one is told.)
+-- What would happen in a run: the instructions that it would begin, each with the machine before it
+-- and after it. (Our own choice: an instruction of two cycles does all its work in the first, so
+-- the machine after that one is told.)
 use Rattle.std.specs.Prelude.{◌≡◌, ℕ, ◌+◌, ◌%◌, ◌++◌, Bool, true, false, not, ◌&&◌, ◌==◌, List, map, Option, Some}
 use Rattle.std.specs.List.{count_by, filter, range_with_len}
 use Rattle.mcs_model.specs.declared.op.Op.{Op}
@@ -8,7 +9,8 @@ use Rattle.mcs_model.specs.declared.stop.Stop.{Stop}
 use Rattle.mcs_model.specs.Effect.{instruction_at}
 use Rattle.mcs_model.specs.Running.{Machine, Stops, after_cycles, after_run, run_length, stop_at}
 
--- an instruction that is begun: how many cycles of the run were done before it, and the machine before and after its work
+-- an instruction that is begun: how many cycles of the run were done before it, and the machine
+-- before and after its work
 pub record Begun : Type 0 where
   pub cycles : ℕ
   pub before : Machine
@@ -36,7 +38,8 @@ begun_in stops n s = begun_within (run_length stops n s) s
 abbrev pub is_at : ℕ → Begun → Bool
 is_at at b = b.before.0.pc == at
 
--- whether the counter goes on elsewhere than behind two words: a JCN or an ISZ that would jump there is no jump
+-- whether the counter goes on elsewhere than behind two words: a JCN or an ISZ that would jump
+-- there is no jump
 abbrev pub jumps : Begun → Bool
 jumps b = not (b.after.0.pc == (b.before.0.pc + 2) % 4096)
 
@@ -70,8 +73,8 @@ early_stop stops s t = stop_at stops 0 1 s t
 abbrev pub later : ℕ → Begun → Begun
 later k b = record b { cycles = k + b.cycles }
 
--- Where nothing stops a run of m + n cycles before its end, it begins what a run of m cycles begins, and then what a run of
--- n cycles from there begins.
+-- Where nothing stops a run of m + n cycles before its end, it begins what a run of m cycles
+-- begins, and then what a run of n cycles from there begins.
 abbrev pub BegunAddUp : Type 0
 BegunAddUp =
     (stops : Stops) (m n : ℕ) (s : Machine) → run_length stops (m + n) s ≡ m + n →

@@ -11,7 +11,8 @@ use Rattle.mcs_model.specs.BenchState.{BenchState}
 use Rattle.mcs_model.specs.Command.{machine_of, stops_of}
 use Rattle.mcs_model.specs.QueryText.{address_text}
 use Rattle.mcs_model.specs.TextLines.{as_line}
-use Rattle.mcs_model.specs.Running.{Machine, InstructionRan, after_cycles}
+use Rattle.mcs_model.specs.Running.{Machine, after_cycles}
+use Rattle.mcs_cpu4004.specs.InstructionRan.{InstructionRan}
 use Rattle.mcs_model.proofs.ListLemmas.{range_more}
 use Rattle.mcs_ahead.specs.Ahead.{Begun, begins, cycle_at, is_branch, jumps_at, runs_at}
 use Rattle.mcs_answers.specs.AnswerTexts.{stop_name}

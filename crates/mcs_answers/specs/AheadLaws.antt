@@ -25,7 +25,8 @@ abbrev pub later_lines : List Probe → ℕ → BenchState → ℕ → List (Lis
 later_lines probes m b n =
     flat_map (λ x. trace_line probes (later m x)) (begun_in (stops_of b) n (machine_of b))
 
--- where nothing stops a run of m + n cycles before its end, its trace is that of m cycles, and then that of n cycles after `run m`
+-- where nothing stops a run of m + n cycles before its end, its trace is that of m cycles, and then
+-- that of n cycles after `run m`
 abbrev pub TracesAddUp : Type 0
 TracesAddUp =
     (probes : List Probe) (b : BenchState) (m n : ℕ) →
@@ -33,7 +34,8 @@ TracesAddUp =
     trace_lines probes b (m + n)
     ≡ trace_lines probes b m ++ later_lines probes m (after b (Run m)) n
 
--- whether a line of a trace without places is of an instruction at an address: it ends with the address
+-- whether a line of a trace without places is of an instruction at an address: it ends with the
+-- address
 abbrev pub is_line_at : ℕ → List ℕ → Bool
 is_line_at at line = bytes_eq (drop (length line - 3) line) (address_text at)
 

@@ -1,4 +1,5 @@
--- The answers to `count` and `trace`: what would happen in a run that is not done. (Our own choice.)
+-- The answers to `count` and `trace`: what would happen in a run that is not done. (Our own
+-- choice.)
 use Rattle.std.specs.Prelude.{ℕ, Bool, true, not, List, [], ◌∷◌, ◌++◌, codes, length, nat_lt, if◌then◌else◌}
 use Rattle.std.specs.Fmt.{decimal}
 use Rattle.std.specs.List.{flat_map, range_with_len}
@@ -20,7 +21,8 @@ ahead_head word b n lines =
     ++ codes " " ++ stop_name (run_stop (stops_of b) n (machine_of b))
     ++ codes " lines " ++ decimal (length lines)
 
--- `count`: an address at which instructions are begun, and how often; at JCN and ISZ also how often the jump is taken
+-- `count`: an address at which instructions are begun, and how often; at JCN and ISZ also how often
+-- the jump is taken
 abbrev pub count_line : List Begun → Machine → ℕ → List (List ℕ)
 count_line begun s at =
     if nat_lt 0 (runs_at begun at)
@@ -41,12 +43,14 @@ abbrev pub count_answer : ℕ → BenchState → List ℕ
 count_answer n b =
     as_line (ahead_head (codes "count") b n (count_lines b n)) ++ flat_map as_line (count_lines b n)
 
--- whether a row after an instruction is told: each one where no place is named, else those that are another than before
+-- whether a row after an instruction is told: each one where no place is named, else those that are
+-- another than before
 abbrev pub is_told : List Probe → List ℕ → List ℕ → Bool
 is_told [] before after = true
 is_told probes before after = not (bytes_eq after before)
 
--- `trace`: an instruction that is told: how many cycles were done before it, its address, and the row after it
+-- `trace`: an instruction that is told: how many cycles were done before it, its address, and the
+-- row after it
 abbrev pub trace_line : List Probe → Begun → List (List ℕ)
 trace_line probes b =
     if is_told probes (row probes b.before) (row probes b.after)

@@ -15,7 +15,8 @@ WritesPort op = (op ≡ Wmp) ⊎ (op ≡ Wrr)
 abbrev pub WritesStatus : Op → Type 0
 WritesStatus op = (op ≡ Wr0) ⊎ ((op ≡ Wr1) ⊎ ((op ≡ Wr2) ⊎ (op ≡ Wr3)))
 
--- whether a place tells the same before an instruction that led from some registers to others, and after it
+-- whether a place tells the same before an instruction that led from some registers to others, and
+-- after it
 abbrev pub Rests : Op → Regs → Regs → Probe → Type 0
 Rests op before after probe =
     (m : BusState) → probe_text (after, bus_after op before m) probe ≡ probe_text (before, m) probe
@@ -26,7 +27,8 @@ RowRests None before after probes = ⊥
 RowRests (Some op) before after probes =
     (m : BusState) → row probes (after, bus_after op before m) ≡ row probes (before, m)
 
--- whether a place tells the same before an instruction and after it, whatever stood in registers and on the bus
+-- whether a place tells the same before an instruction and after it, whatever stood in registers
+-- and on the bus
 abbrev pub Keeps : Op → Probe → Type 0
 Keeps op probe =
     (regs : Regs) (m : BusState) → probe_text (effect op regs m) probe ≡ probe_text (regs, m) probe

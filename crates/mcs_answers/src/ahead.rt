@@ -1,7 +1,6 @@
 //! What the answers to `count` and `trace` have in common.
 ghost use Rattle.std.specs.Prelude.{◌≡◌, ◌+◌, ◌++◌, ◌≤◌, [], codes, length};
 ghost use Rattle.std.specs.Fmt.{decimal};
-ghost use Rattle.arrayvec.specs.ArrayVec.{array_vec_len};
 ghost use Rattle.mcs_answers.specs.AnswerTexts.{stop_name};
 
 use crate::digits::put;

@@ -1,5 +1,5 @@
 //! Whether a row that was told still stands, without making its text.
-ghost use Rattle.std.specs.Prelude.{◌≡◌, ◌<◌, ◌∷◌, ◌++◌, IfSome, codes, length, map, true};
+ghost use Rattle.std.specs.Prelude.{◌≡◌, ◌<◌, ◌∷◌, ◌++◌, IfSome, codes, map, true};
 ghost use Rattle.mcs_model.specs.Command.{machine_of};
 ghost use Rattle.mcs_model.specs.Levels.{level};
 ghost use Rattle.mcs_model.specs.QueryText.{address_text, digit_text, lamp_mark, one_word, or_dash};

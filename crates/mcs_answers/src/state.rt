@@ -1,5 +1,5 @@
 //! The answer to `state`.
-ghost use Rattle.std.specs.Prelude.{◌≡◌, ◌++◌, []};
+ghost use Rattle.std.specs.Prelude.{◌≡◌, []};
 ghost use Rattle.mcs_model.specs.QueryText.{state_text};
 ghost use Rattle.mcs_model.specs.TextLines.{as_line};
 

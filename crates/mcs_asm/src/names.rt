@@ -1,5 +1,5 @@
 //! The names of a text, and the addresses of its statements.
-ghost use Rattle.std.specs.Prelude.{◌≡◌, ◌<◌, ◌≤◌, ◌^◌, ◌&&◌, ◌++◌, ◌∷◌, length, map, option_map, is_some, IfSome, OnOk, OnErr, [], None, Some, false, nat_le, ◌+◌};
+ghost use Rattle.std.specs.Prelude.{◌≡◌, ◌<◌, ◌≤◌, ◌&&◌, ◌++◌, ◌∷◌, length, map, option_map, is_some, OnOk, OnErr, [], None, Some, false, nat_le, ◌+◌};
 ghost use Rattle.std.specs.Option.{option_copied};
 ghost use Rattle.std.specs.List.{list_any};
 ghost use Rattle.std.specs.Str.{bytes_eq};

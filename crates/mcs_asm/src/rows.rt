@@ -1,5 +1,5 @@
 //! The text of a survey, as the shell answers it to `map`.
-ghost use Rattle.std.specs.Prelude.{◌≡◌, ◌≤◌, ◌<◌, ◌++◌, string_bytes, length, map, OnOk, IfOk};
+ghost use Rattle.std.specs.Prelude.{◌≡◌, ◌<◌, ◌++◌, string_bytes, map, OnOk, IfOk};
 ghost use Rattle.mcs_model.specs.QueryText.{address_text, hex_digit};
 ghost use Rattle.mcs_model.specs.TextLines.{as_line};
 ghost use Rattle.mcs_source.specs.MapText.{head_row, line_row, line_rows, name_row, place_text, rows_text, survey_text};

@@ -1,8 +1,8 @@
 //! What a line of a source text says.
-ghost use Rattle.std.specs.Prelude.{◌≡◌, ◌&&◌, map, option_map, IfOk, MatchOption, ◌∷◌, Some, None};
+ghost use Rattle.std.specs.Prelude.{◌≡◌, map, option_map, IfOk, MatchOption, ◌∷◌, Some, None};
 ghost use Rattle.std.specs.Option.{option_copied};
 ghost use Rattle.mcs_source.specs.Lexical.{Word, Colon, Equals, tokens, Token};
-ghost use Rattle.mcs_source.specs.Lines.{Whole, after_mnemonic, bare_statement, first_operand, first_pair, first_register, line_of, name_of, one_number, one_operand, one_pair, one_register, operand_of, operands_of, rest_of, statement_of, unlabelled, word_first, word_only};
+ghost use Rattle.mcs_source.specs.Lines.{Whole, after_mnemonic, bare_statement, first_operand, first_pair, first_register, line_of, one_number, one_operand, one_pair, one_register, operand_of, operands_of, rest_of, statement_of, unlabelled, word_first, word_only};
 ghost use Rattle.mcs_asm.specs.ListItems.{rest_if, list_item};
 ghost use Rattle.mcs_source.specs.declared.mnemonic.Mnemonic.TheVariants.{Org, Jcn, Fim, Isz};
 ghost use Rattle.mcs_asm.specs.View.{operand_view, statement_view, line_view, NoLabel, NoDefinition, IsNotDb};

@@ -1,5 +1,5 @@
 //! The lines of a source text.
-ghost use Rattle.std.specs.Prelude.{◌≡◌, ◌≤◌, ◌<◌, map, length, IfOk, MatchOption, ◌∷◌, ◌++◌, [], take, drop};
+ghost use Rattle.std.specs.Prelude.{◌≡◌, ◌≤◌, ◌<◌, map, length, IfOk, MatchOption, ◌∷◌, []};
 ghost use Rattle.std.specs.List.{position_or_len};
 ghost use Rattle.mcs_model.specs.TextLines.{is_line_feed, lines_of};
 

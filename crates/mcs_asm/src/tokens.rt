@@ -1,5 +1,5 @@
 //! The tokens of a line.
-ghost use Rattle.std.specs.Prelude.{◌≡◌, ◌≤◌, ◌∷◌, [], length, drop, IsTrue, ◌↔◌, MatchOption};
+ghost use Rattle.std.specs.Prelude.{◌≡◌, ◌≤◌, ◌∷◌, [], length, IsTrue, ◌↔◌, MatchOption};
 ghost use Rattle.std.specs.List.{prefix_len};
 ghost use Rattle.mcs_source.specs.Lexical.{is_word_byte, symbol, tokens};
 ghost use Rattle.mcs_model.specs.TextLines.{is_blank};

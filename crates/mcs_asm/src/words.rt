@@ -1,5 +1,5 @@
 //! The words of a source text.
-ghost use Rattle.std.specs.Prelude.{◌≡◌, ◌<◌, IfSome, ◌↔◌, IsSome, ◌≤◌, ℕ, length};
+ghost use Rattle.std.specs.Prelude.{◌≡◌, ◌<◌, IfSome};
 ghost use Rattle.std.specs.Str.{str_eq_ignore_ascii_case};
 ghost use Rattle.mcs_source.specs.Mnemonics.{on_addresses, on_registers, on_ports, on_memory, on_accumulator, on_carry, mnemonic_of};
 ghost use Rattle.mcs_source.specs.Lines.{begins_name, up_to_15, register_named, pair_named, is_reserved, is_name};

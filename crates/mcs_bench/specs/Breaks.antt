@@ -1,4 +1,5 @@
--- What a bench keeps beside its breakpoints, so that a run asks for one in constant time. (Our own choice.)
+-- What a bench keeps beside its breakpoints, so that a run asks for one in constant time. (Our own
+-- choice.)
 use Rattle.mcs_model.specs.declared.limits.TheConstants.{WATCHES}
 use Rattle.std.specs.Prelude.{◌≡◌, ℕ, ◌<◌, ◌≤◌, All, Bool, false, List, length, slice_index_or}
 use Rattle.std.specs.List.Sorted.{IsStrictlyIncreasing}

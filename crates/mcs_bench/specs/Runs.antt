@@ -10,7 +10,8 @@ use Rattle.mcs_model.specs.Listed.{is_listed}
 use Rattle.mcs_model.specs.Bus.{src_of, ram_place, after_ram}
 use Rattle.mcs_model.specs.Effect.{instruction_at}
 use Rattle.mcs_bench.specs.declared.running.Went.{Went}
-use Rattle.mcs_model.specs.Running.{Machine, Stops, is_outside, after_cycles, InstructionRan, at_break, has_changed, stop_after, run_length, after_run, run_stop, step_length, after_step, step_stop}
+use Rattle.mcs_model.specs.Running.{Machine, Stops, is_outside, after_cycles, at_break, has_changed, stop_after, run_length, after_run, run_stop, step_length, after_step, step_stop}
+use Rattle.mcs_cpu4004.specs.InstructionRan.{InstructionRan}
 
 -- why a run stops after a cycle, except for a code outside and its end
 abbrev pub mark_of : Bool → Bool → Option Stop
@@ -20,8 +21,9 @@ mark_of broken altered = if broken then Some Breakpoint else if altered then Som
 abbrev pub mark_at : Stops → ℕ → Machine → Machine → Option Stop
 mark_at stops k s t = mark_of (at_break stops.breaks k t) (has_changed stops.watches s t)
 
--- a run of at most n cycles from s, which did k of them and came to t: no reason to stop was passed, and it stopped at a
--- breakpoint, after a change of a watched character, at its end, or where no cycle can follow
+-- a run of at most n cycles from s, which did k of them and came to t: no reason to stop was
+-- passed, and it stopped at a breakpoint, after a change of a watched character, at its end, or
+-- where no cycle can follow
 pub record RanOn (stops : Stops) (n : ℕ) (s t : Machine) (k : ℕ) (mark : Option Stop) : Type 0 where
   pub machine : t ≡ after_cycles k s
   pub within : k ≤ n
@@ -29,15 +31,16 @@ pub record RanOn (stops : Stops) (n : ℕ) (s t : Machine) (k : ℕ) (mark : Opt
   pub found : mark_at stops k (after_cycles (k - 1) s) t ≡ mark
   pub unmarked : mark ≡ None → is_outside t ≡ false → k ≡ n
 
--- a run of at most n cycles from s, which did k of them and came to t: no reason to stop was passed, and neither a breakpoint
--- nor a change of a watched character stops it
+-- a run of at most n cycles from s, which did k of them and came to t: no reason to stop was
+-- passed, and neither a breakpoint nor a change of a watched character stops it
 pub record GoesOn (stops : Stops) (n k : ℕ) (s t : Machine) : Type 0 where
   pub at : t ≡ after_cycles k s
   pub within : k ≤ n
   pub before : (j : ℕ) → j < k → stop_after stops n s j ≡ None
   pub unmarked : mark_at stops k (after_cycles (k - 1) s) t ≡ None
 
--- what a run of at most n cycles from s has come to, which did k of them and came to t: it goes on there, or is stopped
+-- what a run of at most n cycles from s has come to, which did k of them and came to t: it goes on
+-- there, or is stopped
 abbrev pub CameTo : Stops → ℕ → Machine → Machine → ℕ → Option Stop → Type 0
 CameTo stops n s t k mark = MatchOption mark (GoesOn stops n k s t) (λ why. RanOn stops n s t k (Some why))
 
@@ -51,14 +54,16 @@ alters_selected t =
     not (slice_index t.1.ram (selected_place t)
     == slice_index (after_ram t.1 t.0.dcl t.0.acc).ram (selected_place t))
 
--- whether the instruction at the counter gives the selected character another value, where that is watched
+-- whether the instruction at the counter gives the selected character another value, where that is
+-- watched
 abbrev pub WillChange : List ℕ → Machine → Bool → Type 0
 WillChange watches t b =
     (((watches ≡ []) ⊎ (instruction_at t.0 t.1 ≢ Some Wrm)) × (b ≡ false))
     ⊎ ((instruction_at t.0 t.1 ≡ Some Wrm) ×
     (b ≡ (is_listed watches (selected_place t) && alters_selected t)))
 
--- whether a watched character changed in the last of the d cycles of an instruction from t on; none did before
+-- whether a watched character changed in the last of the d cycles of an instruction from t on; none
+-- did before
 pub record Seen (watches : List ℕ) (t : Machine) (d : ℕ) (altered : Bool) : Type 0 where
   pub before : (j : ℕ) → 0 < j → j < d → has_changed watches (after_cycles (j - 1) t) (after_cycles j t) ≡ false
   pub last : 0 < d → has_changed watches (after_cycles (d - 1) t) (after_cycles d t) ≡ altered
@@ -73,7 +78,8 @@ pub record RanTo (stops : Stops) (n : ℕ) (s t : Machine) (k : ℕ) (why : Stop
 abbrev pub stop_by : Machine → Option Stop → Stop
 stop_by t mark = if is_outside t then Outside else unwrap_or mark Ended
 
--- an instruction of a run that is at the machine s with `left` cycles to go, or the second cycle of one: it comes to t
+-- an instruction of a run that is at the machine s with `left` cycles to go, or the second cycle of
+-- one: it comes to t
 pub record WentTo (stops : Stops) (left : ℕ) (s t : Machine) (w : Went) : Type 0 where
   -- the cycles that it did
   pub ran : InstructionRan left s t w.cycles
@@ -90,7 +96,8 @@ pub record SteppedTo (s t : Machine) (k : ℕ) (why : Stop) : Type 0 where
   pub machine : t ≡ after_step s
   pub stop : why ≡ step_stop s
 
--- where no breakpoint is set and nothing is watched, two runs come to the state that one run of all their cycles comes to
+-- where no breakpoint is set and nothing is watched, two runs come to the state that one run of all
+-- their cycles comes to
 abbrev pub RunsAddUp : Type 0
 RunsAddUp =
     (s : BenchState) (a b : ℕ) → s.breakpoints ≡ [] → s.watches ≡ [] →

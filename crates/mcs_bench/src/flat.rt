@@ -1,5 +1,5 @@
 //! The state of a bench as plain numbers.
-ghost use Rattle.std.specs.Prelude.{◌≡◌, ◌<◌, ◌↔◌, ℕ, IfOk, IsTrue, length, replicate, slice_index, slice_set};
+ghost use Rattle.std.specs.Prelude.{◌≡◌, ◌<◌, ℕ, IfOk, length, replicate, slice_index, slice_set};
 ghost use Rattle.mcs_model.specs.BenchState.{new_bench_state};
 ghost use Rattle.mcs_bench.specs.States.{state_of};
 

@@ -1,5 +1,5 @@
 //! Laws of a bench, each proved as the contract of a function that changes nothing.
-ghost use Rattle.std.specs.Prelude.{◌≡◌, ◌<◌, All};
+ghost use Rattle.std.specs.Prelude.{◌<◌, All};
 ghost use Rattle.mcs_model.specs.Validity.{IsValid, IsValidRegs};
 ghost use Rattle.mcs_bench.specs.Runs.{RunsAddUp};
 

@@ -3,7 +3,7 @@ ghost use Rattle.std.specs.Prelude.{◌≡◌, ◌+◌, ◌*◌, ◌<◌, ◌≤
 ghost use Rattle.std.specs.List.Sorted.{IsStrictlyIncreasing};
 ghost use Rattle.mcs_model.specs.Boards.{exists_on, has_key, key_place};
 ghost use Rattle.mcs_model.specs.Levels.{chain_bit, level, port_at};
-ghost use Rattle.mcs_model.specs.Bus.{status_place};
+ghost use Rattle.mcs_model.specs.Bus.{ram_place, ram_port_place, status_place};
 ghost use Rattle.mcs_model.specs.Validity.{AreWatches};
 ghost use Rattle.mcs_bench.specs.ChipLists.{count_of, list_of};
 
@@ -82,7 +82,7 @@ impl Bench {
     /// The RAM character of a bank, 0 to 7, and an SRC byte; 0 where the chip is absent.
     pub fn ram(&self, bank: u8, src: u8) -> Nibble
         requires { bank < 8 }
-        ensures { result ≡ slice_index self.now.bus.ram (bank * 256 + src) }
+        ensures { result ≡ slice_index self.now.bus.ram (ram_place bank src) }
     {
         self.rig.ram(bank, src)
     }
@@ -101,7 +101,7 @@ impl Bench {
     pub fn ram_port(&self, bank: u8, chip: u8) -> Nibble
         requires bank { bank < 8 }
         requires chip { chip < 4 }
-        ensures { result ≡ slice_index self.now.bus.ram_ports (bank * 4 + chip) }
+        ensures { result ≡ slice_index self.now.bus.ram_ports (ram_port_place bank chip) }
     {
         self.rig.ram_latch(bank, chip)
     }

@@ -1,8 +1,7 @@
 //! Runs and steps of a processor over a rig of the bench's size.
-ghost use Rattle.std.specs.Prelude.{◌≡◌, ◌≢◌, ◌<◌, ◌*◌, ◌+◌, ◌&&◌, ◌==◌, not, unwrap_or, true, false, [], Some, None, MatchOption, slice_index, ◌↔◌};
-ghost use Rattle.mcs_model.specs.Bus.{src_of};
+ghost use Rattle.std.specs.Prelude.{◌≡◌, ◌<◌, ◌*◌, ◌+◌, ◌&&◌, ◌==◌, not, unwrap_or, true, false, [], Some, None, MatchOption, ◌↔◌};
 ghost use Rattle.mcs_model.specs.Effect.{cycle_of, instruction_at};
-ghost use Rattle.mcs_model.specs.Running.{InstructionRan, is_outside};
+ghost use Rattle.mcs_model.specs.Running.{is_outside};
 ghost use Rattle.mcs_model.specs.declared.op.Op.TheVariants.{Wrm};
 ghost use Rattle.mcs_model.specs.Listed.{is_listed};
 ghost use Rattle.mcs_bench.specs.Runs.{CameTo, RanTo, SteppedTo, WentTo, WillChange, mark_of, stop_by};

@@ -1,5 +1,6 @@
 -- The chips of a rig as the bus's part of the flat state.
--- Source: our own choice. A ROM's page is its number, and a bank's number is the command register's value.
+-- Source: our own choice. A ROM's page is its number, and a bank's number is the command register's
+-- value.
 use Rattle.std.specs.Prelude.{◌≡◌, ℕ, ◌<◌, ◌≤◌, List, [], Option, Some, None, slice_index, slice_index_or, length}
 use Rattle.mcs_nibble.specs.Tables.{table_of, column, flat_rows}
 use Rattle.mcs_nibble.specs.declared.lines.LineMask.{LineMask}
@@ -66,9 +67,9 @@ rig_of p = record {
   test = p.test;
 }
 
--- the chips are those of the board: that many places for each kind of chip, the board's ROMs with their masks, that many
--- chips in each bank, each of the board's chains with its bits, and a place for each key; the program is what the ROMs
--- hold
+-- the chips are those of the board: that many places for each kind of chip, the board's ROMs with
+-- their masks, that many chips in each bank, each of the board's chains with its bits, and a place
+-- for each key; the program is what the ROMs hold
 pub record Fitted (p : RigParts) (rom_places bank_places chain_places : ℕ) : Type 0 where
   pub roms_len : length p.roms ≡ rom_places
   pub banks_len : length p.banks ≡ bank_places

@@ -2,7 +2,7 @@
 //! place alone and clocks nothing.
 ghost use Rattle.std.specs.Prelude.{◌≡◌, ℕ, ◌+◌, ◌*◌, ◌<◌, ◌≤◌, ◌↔◌, IsTrue, length, replicate, IfOk, slice_index, slice_index_or};
 ghost use Rattle.mcs_ram4002.specs.RamBank.{IsInBank, IsValidBank, blank_bank};
-ghost use Rattle.mcs_model.specs.Bus.{status_place, with_ram, with_status};
+ghost use Rattle.mcs_model.specs.Bus.{ram_place, ram_port_place, status_place, with_ram, with_status};
 ghost use Rattle.mcs_model.specs.Places.{with_ram_latch, with_ram_src};
 ghost use Rattle.mcs_board.specs.RigState.{after_bank_write, no_bank};
 
@@ -115,7 +115,7 @@ impl<const ROMS: usize, const BANKS: usize, const CHAINS: usize, const MAX: usiz
     /// The RAM character of a bank, 0 to 7, and an SRC byte; 0 where the chip is absent.
     pub fn ram(&self, bank: u8, src: u8) -> Nibble
         requires { bank < 8 }
-        ensures { result ≡ slice_index self.now.ram (bank * 256 + src) }
+        ensures { result ≡ slice_index self.now.ram (ram_place bank src) }
     {
         let at = usize::from(bank);
         if at < self.banks.len() {
@@ -162,7 +162,7 @@ impl<const ROMS: usize, const BANKS: usize, const CHAINS: usize, const MAX: usiz
     pub fn ram_latch(&self, bank: u8, chip: u8) -> Nibble
         requires bank { bank < 8 }
         requires chip { chip < 4 }
-        ensures { result ≡ slice_index self.now.ram_ports (bank * 4 + chip) }
+        ensures { result ≡ slice_index self.now.ram_ports (ram_port_place bank chip) }
     {
         let at = usize::from(bank);
         if at < self.banks.len() {

@@ -1,7 +1,7 @@
 //! The bench's rig, which every board fits, and the processor over it.
 ghost use Rattle.std.specs.Prelude.{◌≡◌, ◌≢◌, ◌<◌, ◌↔◌, IsNone, Some, unwrap_or};
 ghost use Rattle.mcs_model.specs.Effect.{cycle_of, instruction_at};
-ghost use Rattle.mcs_model.specs.Running.{InstructionRan};
+ghost use Rattle.mcs_cpu4004.specs.InstructionRan.{InstructionRan};
 ghost use Rattle.mcs_board.specs.Fitting.{FitsCounts};
 
 use crate::rig::Rig;

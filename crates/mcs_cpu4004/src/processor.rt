@@ -3,7 +3,7 @@ ghost use Rattle.std.specs.Prelude.{◌≡◌, ◌≢◌, ℕ, ◌<◌, ◌↔�
 ghost use Rattle.mcs_model.specs.BenchState.{new_regs};
 ghost use Rattle.mcs_model.specs.Registers.{with_register};
 ghost use Rattle.mcs_model.specs.Effect.{cycle_of, instruction_at};
-ghost use Rattle.mcs_model.specs.Running.{InstructionRan};
+ghost use Rattle.mcs_cpu4004.specs.InstructionRan.{InstructionRan};
 
 use crate::bus::Bus;
 use crate::execute::execute;

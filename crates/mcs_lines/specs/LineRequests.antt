@@ -31,8 +31,8 @@ request_of_words [] = Nothing
 request_of_words (word ∷ words) =
     if bytes_eq word (codes "trace") then trace_request words else request_of_word word words
 
--- What a line asks for. Too long (12) is judged first, then a byte that no command line may have (14);
--- only then is it read.
+-- What a line asks for. Too long (12) is judged first, then a byte that no command line may have
+-- (14); only then is it read.
 unfoldable pub request_of : List ℕ → Request
 request_of line =
     if nat_lt LINE_BYTES (length line) then Refused LineTooLong

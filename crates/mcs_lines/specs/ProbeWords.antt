@@ -1,6 +1,5 @@
 -- The places that `trace` names. (Our own choice.)
 use Rattle.std.specs.Prelude.{ℕ, zero, suc, ◌==◌, Bool, true, false, List, [], ◌∷◌, codes, Option, Some, None, Result, Ok, Err, if◌then◌else◌}
-use Rattle.std.specs.Str.{bytes_eq}
 use Rattle.mcs_model.specs.Numerals.{number_up_to}
 use Rattle.mcs_model.specs.declared.command.Command.{Command}
 use Rattle.mcs_model.specs.declared.command.Command.TheVariants.{Poke}
@@ -13,7 +12,7 @@ use Rattle.mcs_lines.specs.declared.requests.Request.{Request}
 use Rattle.mcs_lines.specs.declared.requests.Request.TheVariants.{Change, Refused}
 use Rattle.mcs_lines.specs.declared.requests.LineFault.{LineFault}
 use Rattle.mcs_lines.specs.declared.requests.LineFault.TheVariants.{NotACommand, BadNumber}
-use Rattle.mcs_lines.specs.Requests.{is_number, poke_of}
+use Rattle.mcs_lines.specs.Requests.{asked, is_number, poke_of}
 use Rattle.mcs_lines.specs.Words.{parts_of_word}
 
 -- the place alone
@@ -120,13 +119,13 @@ probe_named word = elim (number_after (codes "rom") word) [
   ]
 ]
 
+-- the places with a name of their own
+abbrev pub probe_names : List (List ℕ × Probe)
+probe_names = (codes "lamps", Lamps) ∷ (codes "ret", Returns) ∷ (codes "src", Src) ∷ []
+
 -- of one part, or of more than three
 abbrev pub probe_whole : List ℕ → Result Probe LineFault
-probe_whole word =
-    if bytes_eq word (codes "lamps") then Ok Lamps
-    else if bytes_eq word (codes "ret") then Ok Returns
-    else if bytes_eq word (codes "src") then Ok Src
-    else probe_named word
+probe_whole word = elim (asked word probe_names) [ None ↦ probe_named word | Some p ↦ Ok p ]
 
 -- `ramB.C`, and the places of `poke`
 abbrev pub probe_in_bank : List ℕ → List ℕ → List ℕ → Result Probe LineFault
@@ -178,7 +177,8 @@ with_probe (Ok p) (Err fault) = Err fault
 with_probe (Err fault) (Ok ps) = Err fault
 with_probe (Err fault) (Err other) = Err (first_fault fault other)
 
--- The places that words name, at most so many. Words that name none, or are too many, are refused before bad numbers.
+-- The places that words name, at most so many. Words that name none, or are too many, are refused
+-- before bad numbers.
 abbrev pub probes_within : ℕ → List (List ℕ) → Result (List Probe) LineFault
 probes_within room [] = Ok []
 probes_within zero (word ∷ words) = Err NotACommand

@@ -14,6 +14,10 @@ use Rattle.mcs_lines.specs.declared.requests.TextKind.TheVariants.{Wire, Asm, Ma
 use Rattle.mcs_lines.specs.declared.requests.LineFault.TheVariants.{NotACommand, BadNumber}
 use Rattle.mcs_lines.specs.Words.{parts_of_word}
 
+-- what stands beside a word in one of the tables below
+abbrev pub asked : {A : Type 0} → List ℕ → List (List ℕ × A) → Option A
+asked word table = beside (bytes_eq word) table
+
 abbrev pub is_number : List ℕ → Bool
 is_number word = is_some (number_written word)
 
@@ -54,18 +58,23 @@ poke_numbered [] value = Refused NotACommand
 poke_numbered (b ∷ k) value =
     if (b == 114) && is_number k then poke_register k value else Refused NotACommand
 
+-- what `poke` asks for of the value that is put into a place with a name of its own
+abbrev pub poke_names : List (List ℕ × (List ℕ → Request))
+poke_names =
+    (codes "acc", λ value. poke_value 15 value (λ n. Acc n))
+    ∷ (codes "cy", λ value. poke_value 1 value (λ bit. Cy bit))
+    ∷ (codes "pc", λ value. poke_value 4095 value (λ at. Pc at))
+    ∷ (codes "dcl", λ value. poke_value 7 value (λ bank. Dcl bank))
+    ∷ []
+
 -- a place without dots
-abbrev pub poke_plain : List ℕ → List ℕ → Request
-poke_plain name value =
-    if bytes_eq name (codes "acc") then poke_value 15 value (λ n. Acc n)
-    else if bytes_eq name (codes "cy") then poke_value 1 value (λ bit. Cy bit)
-    else if bytes_eq name (codes "pc") then poke_value 4095 value (λ at. Pc at)
-    else if bytes_eq name (codes "dcl") then poke_value 7 value (λ bank. Dcl bank)
-    else poke_numbered name value
+abbrev pub poke_named : List ℕ → List ℕ → Request
+poke_named name value =
+    elim (asked name poke_names) [ None ↦ poke_numbered name value | Some poke ↦ poke value ]
 
 -- by the number of parts between dots: the form of the place (10) is judged before any range (11)
 abbrev pub poke_parts : List (List ℕ) → List ℕ → Request
-poke_parts (name ∷ []) value = poke_plain name value
+poke_parts (name ∷ []) value = poke_named name value
 poke_parts (name ∷ a ∷ []) value =
     if bytes_eq name (codes "rom") && is_number a then poke_rom a value else Refused NotACommand
 poke_parts (name ∷ b ∷ s ∷ []) value =
@@ -139,10 +148,6 @@ with_two =
     ∷ (codes "unwatch", λ a b. with_numbers 7 a 255 b (λ bank src. Change (Unwatch bank src)))
     ∷ (codes "list", λ a b. with_numbers 4095 a LISTING_LINES b listing)
     ∷ []
-
--- what stands beside a word in one of these tables
-abbrev pub asked : {A : Type 0} → List ℕ → List (List ℕ × A) → Option A
-asked word table = beside (bytes_eq word) table
 
 -- a word and those after it, by their number; but for `trace`
 abbrev pub request_of_word : List ℕ → List (List ℕ) → Request

@@ -2,7 +2,7 @@
 ghost use Rattle.std.specs.Prelude.{◌≡◌, ◌∷◌, [], Some};
 ghost use Rattle.mcs_model.specs.declared.command.Command.TheVariants.{Poke};
 ghost use Rattle.mcs_lines.specs.declared.requests.Request.TheVariants.{Change};
-ghost use Rattle.mcs_lines.specs.Requests.{poke_numbered, poke_of, poke_parts, poke_plain, poke_ram, poke_register, poke_rom, poke_status};
+ghost use Rattle.mcs_lines.specs.Requests.{poke_named, poke_numbered, poke_of, poke_parts, poke_ram, poke_register, poke_rom, poke_status};
 ghost use Rattle.mcs_lines.specs.ReadNumbers.{or_bad_number};
 
 use crate::numbers::{address, bank, bit, byte, is_number, nibble, register, status};
@@ -48,7 +48,7 @@ fn read_status(b: &[u8], h: &[u8], k: &[u8], value: &[u8]) -> Option<Request>
     poke(Place::Status(bank(b)?, nibble(h)?, status(k)?, nibble(value)?))
 }
 
-/// What `poke` with a place of one part asks for that is none of the plain names.
+/// What `poke` asks for with a place of one part that has no name of its own.
 fn read_numbered(name: &[u8], value: &[u8]) -> Request
     ensures { result ≡ poke_numbered name.now value.now }
 {
@@ -60,8 +60,8 @@ fn read_numbered(name: &[u8], value: &[u8]) -> Request
 
 /// What `poke` with a place of one part asks for; none where its value is no number, or out of its
 /// range.
-fn read_plain(name: &[u8], value: &[u8]) -> Option<Request>
-    ensures { or_bad_number result ≡ poke_plain name.now value.now }
+fn read_named(name: &[u8], value: &[u8]) -> Option<Request>
+    ensures { or_bad_number result ≡ poke_named name.now value.now }
 {
     if equals(name, b"acc") {
         poke(Place::Acc(nibble(value)?))
@@ -115,7 +115,7 @@ pub fn read_poke(place: &[u8], value: &[u8]) -> Request
 {
     let (name, after) = next_part(place);
     let Some(rest) = after else {
-        return or_bad_number(read_plain(name, value));
+        return or_bad_number(read_named(name, value));
     };
     let (first, after) = next_part(rest);
     let Some(rest) = after else {

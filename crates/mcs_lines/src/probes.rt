@@ -1,5 +1,5 @@
 //! The places that `trace` names.
-ghost use Rattle.std.specs.Prelude.{◌≡◌, ◌∷◌, [], Ok, Err, None, Some, MatchOption, MatchResult};
+ghost use Rattle.std.specs.Prelude.{◌≡◌, Ok, Err, None, Some, MatchOption, MatchResult};
 ghost use Rattle.mcs_lines.specs.ProbeWords.{after_word, chain_bits, chain_line, is_bad_number, number_after, number_before, or_bad_probe, probe_at, probe_in_bank, probe_named, probe_of, probe_of_command, probe_of_poke, probe_three, probe_two, probe_whole, probes_within, ram_line, ram_port, rom_line, rom_port};
 ghost use Rattle.mcs_model.specs.TextLines.{words_of};
 

@@ -12,7 +12,8 @@ use Rattle.mcs_model.specs.declared.board.Line.{Line}
 use Rattle.mcs_model.specs.declared.board.Line.TheVariants.{Rom, Ram, Chain}
 use Rattle.mcs_model.specs.declared.limits.TheConstants.{ROMS, BANKS, BANK_CHIPS, CHAINS, CHAIN_CHIPS, CHAIN_BITS, KEY_COLUMNS, KEY_ROWS, LAMPS}
 
--- what the port lines of a ROM are, if the board has that ROM (input or output by the mask: 4001 data sheet)
+-- what the port lines of a ROM are, if the board has that ROM (input or output by the mask: 4001
+-- data sheet)
 abbrev pub masks_on : BoardParts → ℕ → Option (List LineMask)
 masks_on b chip = slice_index_or b.roms chip None
 
@@ -30,7 +31,8 @@ chain_part b i = slice_index_or b.chains.items i no_chain
 abbrev pub chain_count : BoardParts → ℕ
 chain_count b = length b.chains.items
 
--- how many bits chain i has: ten for each of its chips (4003 data sheet; that the chips are one row is our own choice)
+-- how many bits chain i has: ten for each of its chips (4003 data sheet; that the chips are one row
+-- is our own choice)
 abbrev pub chain_bits : BoardParts → ℕ → ℕ
 chain_bits b i = 10 * (chain_part b i).chips
 

@@ -1,7 +1,7 @@
 -- What the processor reaches outside itself: the board, and what its chips hold.
--- (MCS-4 Users Manual and data sheets, as each definition says. Our own choice: positive logic, so that a level of 1 is the
--- bit 1; a bank is named by its DCL code, 0 to 7; each bank keeps an SRC byte of its own; what is absent holds 0, reads as 0
--- and loses what is written to it.)
+-- (MCS-4 Users Manual and data sheets, as each definition says. Our own choice: positive logic, so
+-- that a level of 1 is the bit 1; a bank is named by its DCL code, 0 to 7; each bank keeps an SRC
+-- byte of its own; what is absent holds 0, reads as 0 and loses what is written to it.)
 use Rattle.std.specs.Prelude.{ℕ, ◌+◌, ◌*◌, ◌/◌, List, [], replicate, Bool, slice_index, slice_set, if◌then◌else◌, nat_lt}
 use Rattle.mcs_model.specs.declared.board.BoardParts.{BoardParts}
 use Rattle.mcs_model.specs.Boards.{empty_parts}
@@ -14,7 +14,7 @@ pub record BusState : Type 0 where
   pub ram : List ℕ
   -- the status characters, each where `status_place` says: 512, absent ones 0
   pub status : List ℕ
-  -- the port latches of the RAM chips, at bank * 4 + chip: 32, absent ones 0
+  -- the port latches of the RAM chips, each where `ram_port_place` says: 32, absent ones 0
   pub ram_ports : List ℕ
   -- the port latches of the ROMs: 16, absent ones and the bits of input lines 0
   pub rom_ports : List ℕ
@@ -53,8 +53,8 @@ fetch_of s at = slice_index s.rom at
 abbrev pub chips_of : BusState → ℕ → ℕ
 chips_of s bank = slice_index s.board.banks bank
 
--- the SRC byte that a bank keeps: its upper two bits select the chip, the next two the register, the
--- lower nibble the character (4002 data sheet)
+-- the SRC byte that a bank keeps: its upper two bits select the chip, the next two the register,
+-- the lower nibble the character (4002 data sheet)
 abbrev pub src_of : BusState → ℕ → ℕ
 src_of s bank = slice_index s.ram_src bank
 
@@ -78,7 +78,8 @@ ram_place bank src = bank * 256 + src
 unfoldable pub ram_of : BusState → ℕ → ℕ
 ram_of s bank = slice_index s.ram (ram_place bank (src_of s bank))
 
--- a RAM character is written, by its bank and its SRC byte (4002 data sheet); lost where the chip is absent (our own choice)
+-- a RAM character is written, by its bank and its SRC byte (4002 data sheet); lost where the chip
+-- is absent (our own choice)
 unfoldable pub with_ram : BusState → ℕ → ℕ → ℕ → BusState
 with_ram s bank src n =
     if has_chip s bank src
@@ -93,12 +94,17 @@ after_ram s bank n = with_ram s bank (src_of s bank) n
 abbrev pub status_place : ℕ → ℕ → ℕ → ℕ
 status_place bank high k = bank * 64 + (high * 4 + k)
 
--- status character k of the selected register of a bank (4002 data sheet); an absent one reads 0 (our own choice)
+-- status character k of the selected register of a bank (4002 data sheet); an absent one reads 0
+-- (our own choice)
 unfoldable pub status_of : BusState → ℕ → ℕ → ℕ
 status_of s bank k = slice_index s.status (status_place bank (src_of s bank / 16) k)
 
--- a status character is written, by its bank, the upper nibble of its SRC byte and k (4002 data sheet); lost where the chip
--- is absent (our own choice)
+-- where the port latch of a RAM chip stands, by its bank and its number
+abbrev pub ram_port_place : ℕ → ℕ → ℕ
+ram_port_place bank chip = bank * 4 + chip
+
+-- a status character is written, by its bank, the upper nibble of its SRC byte and k (4002 data
+-- sheet); lost where the chip is absent (our own choice)
 unfoldable pub with_status : BusState → ℕ → ℕ → ℕ → ℕ → BusState
 with_status s bank high k n =
     if nat_lt (high / 4) (chips_of s bank)

@@ -56,8 +56,8 @@ own_refusal s (Watch bank src) =
     else Some WatchesFull
 own_refusal s _ = None
 
--- why a state refuses a command, if it does: a worn session, which has accepted all commands that it can
--- count, refuses every one
+-- why a state refuses a command, if it does: a worn session, which has accepted all commands that
+-- it can count, refuses every one
 abbrev pub refusal : BenchState → Command → Option BenchFault
 refusal s c = if s.seq == ACCEPTED_COMMANDS then Some Worn else own_refusal s c
 
@@ -108,7 +108,8 @@ after_change s (Watch bank src) = record s { watches = with_listed s.watches (ra
 after_change s (Unwatch bank src) =
     record s { watches = without_listed s.watches (ram_place bank src) }
 
--- the state after an accepted command: each raises the count by one, also where nothing else changes
+-- the state after an accepted command: each raises the count by one, also where nothing else
+-- changes
 abbrev pub after : BenchState → Command → BenchState
 after s c = record (after_change s c) { seq = s.seq + 1 }
 

@@ -1,8 +1,8 @@
 -- The effect of each instruction, and one instruction cycle.
--- (Intel MCS-4 Users Manual, instruction set: each rule is the description of the instruction that it
--- names, in the manual's three groups. Our own choices are: codes outside the table, one list of return
--- addresses, the bank that the DCL code names, an SRC byte for each bank, and that an instruction of two
--- cycles does all its work in the first.)
+-- (Intel MCS-4 Users Manual, instruction set: each rule is the description of the instruction that
+-- it names, in the manual's three groups. Our own choices are: codes outside the table, one list of
+-- return addresses, the bank that the DCL code names, an SRC byte for each bank, and that an
+-- instruction of two cycles does all its work in the first.)
 use Rattle.std.specs.Prelude.{ℕ, ◌+◌, ◌-◌, ◌*◌, ◌/◌, ◌%◌, Bool, ◌&&◌, ◌||◌, not, [], ◌∷◌, Option, Some, None, slice_index, if◌then◌else◌, nat_lt, ◌==◌}
 use Rattle.mcs_model.specs.declared.regs.Regs.{Regs}
 use Rattle.mcs_model.specs.declared.op.Op.{Op}
@@ -25,13 +25,13 @@ with_sum s x = record s { acc = x % 16; cy = x / 16 }
 abbrev pub address_beside : ℕ → ℕ → ℕ
 address_beside address w = word_on_page (page_of address) w
 
--- the counter set to a word on its own page: after an instruction's words that is the page of the next
--- instruction (Manual, JCN, ISZ, FIN and JIN at the end of a page)
+-- the counter set to a word on its own page: after an instruction's words that is the page of the
+-- next instruction (Manual, JCN, ISZ, FIN and JIN at the end of a page)
 abbrev pub with_word : Regs → ℕ → Regs
 with_word s w = record s { pc = address_beside s.pc w }
 
--- JCN: whether the jump is taken. Condition bit 2 asks for an accumulator of 0, bit 1 for a carry of 1,
--- bit 0 for a TEST of 0, and bit 3 inverts the answer.
+-- JCN: whether the jump is taken. Condition bit 2 asks for an accumulator of 0, bit 1 for a carry
+-- of 1, bit 0 for a TEST of 0, and bit 3 inverts the answer.
 abbrev pub is_taken : ℕ → Regs → ℕ → Bool
 is_taken condition s test =
     let holds =
@@ -50,8 +50,8 @@ after_isz r w s =
     let n = (register_of s r + 1) % 16 in
     if n == 0 then with_register s r n else with_word (with_register s r n) w
 
--- JMS: the counter goes in front of the return addresses, and the last of them is lost (one list: our own
--- choice)
+-- JMS: the counter goes in front of the return addresses, and the last of them is lost (one list:
+-- our own choice)
 abbrev pub after_jms : ℕ → Regs → Regs
 after_jms target s =
     record s { pc = target; ret = s.pc ∷ slice_index s.ret 0 ∷ slice_index s.ret 1 ∷ [] }
@@ -65,7 +65,8 @@ after_bbl s =
 abbrev pub after_rar : Regs → Regs
 after_rar s = record s { acc = 8 * s.cy + s.acc / 2; cy = s.acc % 2 }
 
--- DAA: 6 is added where the carry is 1 or the accumulator is above 9; the carry is set and never cleared
+-- DAA: 6 is added where the carry is 1 or the accumulator is above 9; the carry is set and never
+-- cleared
 abbrev pub after_daa : Regs → Regs
 after_daa s =
     if s.cy == 1 || nat_lt 9 s.acc
@@ -82,10 +83,10 @@ key_of n =
     else if n == 8 then 4
     else 15
 
--- The registers after an instruction on a bus, where the counter already stands after its words: first
--- the machine instructions (NOP to LDM), then those for RAM and ports (WRM to RD3), then the
--- accumulator group (CLB to DCL). SUB, SBM: a carry of 1 going in is a borrow; coming out, 1 says that
--- nothing was borrowed.
+-- The registers after an instruction on a bus, where the counter already stands after its words:
+-- first the machine instructions (NOP to LDM), then those for RAM and ports (WRM to RD3), then the
+-- accumulator group (CLB to DCL). SUB, SBM: a carry of 1 going in is a borrow; coming out, 1 says
+-- that nothing was borrowed.
 abbrev pub registers_after : Op → Regs → BusState → Regs
 registers_after Nop s _ = s
 registers_after (Jcn c b) s m = after_jcn c b s m.test
@@ -133,8 +134,8 @@ registers_after Daa s _ = after_daa s
 registers_after Kbp s _ = with_acc s (key_of s.acc)
 registers_after Dcl s _ = record s { dcl = s.acc % 8 }
 
--- The bus after an instruction: SRC and those that write RAM, status or a port change it (Manual, SRC and
--- the input, output and RAM instructions).
+-- The bus after an instruction: SRC and those that write RAM, status or a port change it (Manual,
+-- SRC and the input, output and RAM instructions).
 abbrev pub bus_after : Op → Regs → BusState → BusState
 bus_after (Src k) s m = after_src m s.dcl (pair_of s k)
 bus_after Wrm s m = after_ram m s.dcl s.acc
@@ -146,7 +147,8 @@ bus_after Wr2 s m = after_status m s.dcl 2 s.acc
 bus_after Wr3 s m = after_status m s.dcl 3 s.acc
 bus_after _ _ m = m
 
--- the counter moved after an instruction's words, with the cycles that it still takes after this one
+-- the counter moved after an instruction's words, with the cycles that it still takes after this
+-- one
 abbrev pub after_words : Op → Regs → Regs
 after_words op s = record s { pc = (s.pc + word_count_of op) % 4096; owed = cycles_of op - 1 }
 

@@ -1,5 +1,5 @@
--- The levels of lines, and what reading and writing a port does. (4001, 4002 and 4003 data sheets, as each
--- definition says. Our own choice: positive logic, so that a line at 1 carries the bit 1.)
+-- The levels of lines, and what reading and writing a port does. (4001, 4002 and 4003 data sheets,
+-- as each definition says. Our own choice: positive logic, so that a line at 1 carries the bit 1.)
 use Rattle.std.specs.Prelude.{ℕ, ◌+◌, ◌*◌, ◌/◌, Bool, false, ◌&&◌, ◌==◌, List, [], Some, None, length, slice_index, slice_index_or, slice_set, if◌then◌else◌}
 use Rattle.std.specs.List.{list_any, range_with_len}
 use Rattle.mcs_nibble.specs.Bits.{bit_of}
@@ -10,7 +10,7 @@ use Rattle.mcs_model.specs.declared.board.KeyMatrix.{KeyMatrix}
 use Rattle.mcs_model.specs.declared.board.Line.{Line}
 use Rattle.mcs_model.specs.declared.board.Line.TheVariants.{Rom, Ram, Chain}
 use Rattle.mcs_model.specs.Boards.{masks_on, input_on, chain_part, chain_count}
-use Rattle.mcs_model.specs.Bus.{BusState, src_of, has_chip}
+use Rattle.mcs_model.specs.Bus.{BusState, src_of, has_chip, ram_port_place}
 
 abbrev pub bit_when : Bool → ℕ
 bit_when b = if b then 1 else 0
@@ -24,7 +24,8 @@ abbrev pub is_rom_line : ℕ → ℕ → Line → Bool
 is_rom_line chip k (Rom c j) = c == chip && j == k
 is_rom_line chip k _ = false
 
--- whether row r drives column j: the row's chain bit is 1, and the key of that row and column is down
+-- whether row r drives column j: the row's chain bit is 1, and the key of that row and column is
+-- down
 abbrev pub drives : List ℕ → List ℕ → KeyMatrix → ℕ → ℕ → Bool
 drives bits keys m j r =
     slice_index bits (m.first + r) == 1 && slice_index keys (r * length m.columns.items + j) == 1
@@ -48,7 +49,7 @@ is_pulled s chip k =
 -- the bit that the latch of a port line holds
 unfoldable pub latch_of : BusState → Line → ℕ
 latch_of s (Rom c k) = bit_of (slice_index s.rom_ports c) k
-latch_of s (Ram b c k) = bit_of (slice_index s.ram_ports (b * 4 + c)) k
+latch_of s (Ram b c k) = bit_of (slice_index s.ram_ports (ram_port_place b c)) k
 latch_of s _ = 0
 
 -- the level of a line: the latch bit of an output line, the bit of a chain, and at an input line
@@ -62,9 +63,10 @@ level s (Chain n i) = chain_bit s n i
 unfoldable pub clock_levels : BusState → List ℕ
 clock_levels s = table_of (chain_count s.board) (λ i. level s (chain_part s.board i).clock)
 
--- the bits of chain i after a port write: s is the bus as the write leaves it, `was` the level of the
--- chain's clock line before it. Where that rose, each bit moves one place up, the data line's level becomes bit 0, and the last bit is lost
--- (4003 data sheet: a shift register with a serial input; edge, order and data level are our own choice)
+-- the bits of chain i after a port write: s is the bus as the write leaves it, `was` the level of
+-- the chain's clock line before it. Where that rose, each bit moves one place up, the data line's
+-- level becomes bit 0, and the last bit is lost (4003 data sheet: a shift register with a serial
+-- input; edge, order and data level are our own choice)
 unfoldable pub chain_clocked : BusState → ℕ → ℕ → List ℕ → List ℕ
 chain_clocked s i was bits =
     if was == 0 && level s (chain_part s.board i).clock == 1
@@ -83,15 +85,16 @@ with_rom_ports_at s c n = record s { rom_ports = slice_set s.rom_ports c n }
 abbrev pub with_ram_ports_at : BusState → ℕ → ℕ → BusState
 with_ram_ports_at s i n = record s { ram_ports = slice_set s.ram_ports i n }
 
--- a write to the port of the selected RAM chip of a bank (4002 data sheet, WMP); one to an absent chip is lost (our own choice)
+-- a write to the port of the selected RAM chip of a bank (4002 data sheet, WMP); one to an absent
+-- chip is lost (our own choice)
 unfoldable pub after_ram_port : BusState → ℕ → ℕ → BusState
 after_ram_port s bank n =
     if has_chip s bank (src_of s bank)
-    then chains_clocked (clock_levels s) (with_ram_ports_at s (bank * 4 + src_of s bank / 64) n)
+    then chains_clocked (clock_levels s) (with_ram_ports_at s (ram_port_place bank (src_of s bank / 64)) n)
     else s
 
--- a write to the port of the selected ROM (4001 data sheet, WRR); its latch keeps 0 at input lines, and a write to an absent
--- ROM is lost (our own choice)
+-- a write to the port of the selected ROM (4001 data sheet, WRR); its latch keeps 0 at input lines,
+-- and a write to an absent ROM is lost (our own choice)
 unfoldable pub after_rom_port : BusState → ℕ → BusState
 after_rom_port s n =
     elim (masks_on s.board (s.rom_src / 16)) [

@@ -20,3 +20,4 @@ pub mod Running
 pub mod Command
 pub mod Fold
 pub mod QueryText
+pub mod Laws

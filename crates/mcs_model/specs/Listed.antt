@@ -1,4 +1,5 @@
--- Lists of places that rise, none twice: the breakpoints of a bench, and its watches. (Our own choice.)
+-- Lists of places that rise, none twice: the breakpoints of a bench, and its watches. (Our own
+-- choice.)
 use Rattle.std.specs.Prelude.{ℕ, Bool, not, ◌==◌, nat_lt, List, [], ◌∷◌, if◌then◌else◌}
 use Rattle.std.specs.List.{list_any, filter}
 

@@ -1,7 +1,8 @@
 -- The numbers of the machine: nibbles are 0 to 15, bytes 0 to 255, addresses 0 to 4095.
 use Rattle.std.specs.Prelude.{ℕ, ◌+◌, ◌*◌, ◌/◌, ◌%◌}
 
--- the page of an address: its upper four bits, which select the ROM (MCS-4 Users Manual, 4001 section)
+-- the page of an address: its upper four bits, which select the ROM (MCS-4 Users Manual, 4001
+-- section)
 abbrev pub page_of : ℕ → ℕ
 page_of address = address % 4096 / 256
 

@@ -6,7 +6,8 @@ use Rattle.std.specs.Char.{digit_value}
 use Rattle.std.specs.Str.Parse.{digits_value}
 use Rattle.mcs_model.specs.declared.numeral.TheConstants.{LARGE}
 
--- the number that some digits write in a base; none where one of them is no digit of it, or where there are none
+-- the number that some digits write in a base; none where one of them is no digit of it, or where
+-- there are none
 abbrev pub digits_in : ℕ → List ℕ → Option ℕ
 digits_in base [] = None
 digits_in base (d ∷ ds) =
@@ -14,7 +15,8 @@ digits_in base (d ∷ ds) =
     then Some (digits_value base (d ∷ ds))
     else None
 
--- the number that a word writes: decimal digits, or `0x` and hexadecimal digits of either case; leading zeros are allowed
+-- the number that a word writes: decimal digits, or `0x` and hexadecimal digits of either case;
+-- leading zeros are allowed
 abbrev pub number_written : List ℕ → Option ℕ
 number_written (z ∷ x ∷ ds) =
     if z == 48 && x == 120
@@ -29,6 +31,7 @@ up_to most n = if nat_le n most then Some n else None
 abbrev pub number_up_to : ℕ → List ℕ → Option ℕ
 number_up_to most word = option_and_then (up_to most) (number_written word)
 
--- a number of 2^32 or more counts as 2^32, which is in no range: a word may write numbers of any length
+-- a number of 2^32 or more counts as 2^32, which is in no range: a word may write numbers of any
+-- length
 abbrev pub capped_number : ℕ → ℕ
 capped_number n = min n LARGE

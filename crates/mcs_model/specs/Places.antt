@@ -1,13 +1,13 @@
 -- What a board's chips hold, changed at one place, by a reset, and by a new board.
--- (Our own choice: that writes to absent chips are lost, that latch bits of input lines stay 0, and what a reset and a new
--- board clear.)
-use Rattle.std.specs.Prelude.{ℕ, ◌+◌, ◌*◌, ◌/◌, List, [], ◌∷◌, Some, None, is_some, map, replicate, slice_index, slice_index_or, slice_set, if◌then◌else◌, nat_lt}
+-- (Our own choice: that writes to absent chips are lost, that latch bits of input lines stay 0, and
+-- what a reset and a new board clear.)
+use Rattle.std.specs.Prelude.{ℕ, ◌*◌, ◌/◌, List, [], ◌∷◌, Some, None, is_some, map, replicate, slice_index, slice_index_or, slice_set, if◌then◌else◌, nat_lt}
 use Rattle.mcs_nibble.specs.Tables.{table_of}
 use Rattle.mcs_nibble.specs.Ports.{latch_value}
 use Rattle.mcs_model.specs.declared.board.BoardParts.{BoardParts}
 use Rattle.mcs_model.specs.declared.board.ChainPart.{ChainPart}
 use Rattle.mcs_model.specs.Boards.{masks_on, key_count, key_place}
-use Rattle.mcs_model.specs.Bus.{BusState, chips_of, zero_bus}
+use Rattle.mcs_model.specs.Bus.{BusState, chips_of, ram_port_place, zero_bus}
 use Rattle.mcs_model.specs.Levels.{with_rom_ports_at, with_ram_ports_at}
 
 -- the ROM byte at an address; lost where the ROM is absent
@@ -26,11 +26,11 @@ with_rom_bytes s (p ∷ image) = with_rom_bytes (with_rom_byte s p.0 p.1) image
 unfoldable pub with_ram_latch : BusState → ℕ → ℕ → ℕ → BusState
 with_ram_latch s bank chip n =
     if nat_lt chip (chips_of s bank)
-    then with_ram_ports_at s (bank * 4 + chip) n
+    then with_ram_ports_at s (ram_port_place bank chip) n
     else s
 
--- the port latch of a ROM, nothing being clocked: n on its output lines, 0 on its input lines; lost where the ROM is
--- absent
+-- the port latch of a ROM, nothing being clocked: n on its output lines, 0 on its input lines; lost
+-- where the ROM is absent
 unfoldable pub with_rom_latch : BusState → ℕ → ℕ → BusState
 with_rom_latch s chip n =
     elim (masks_on s.board chip) [
@@ -58,8 +58,8 @@ with_key s row column bit = record s { keys = slice_set s.keys (key_place s.boar
 abbrev pub blank_chains : BoardParts → List (List ℕ)
 blank_chains b = map (λ (c : ChainPart). replicate (10 * c.chips) 0) b.chains.items
 
--- a power cycle: the board, ROM, keys and TEST stay; all else (RAM, port latches, SRC bytes, chains) becomes 0, and nothing
--- is shifted
+-- a power cycle: the board, ROM, keys and TEST stay; all else (RAM, port latches, SRC bytes,
+-- chains) becomes 0, and nothing is shifted
 abbrev pub after_reset : BusState → BusState
 after_reset s = record zero_bus {
   board = s.board;
@@ -74,7 +74,8 @@ unfoldable pub kept_rom : BoardParts → List ℕ → List ℕ
 kept_rom b rom =
     table_of 4096 (λ at. if is_some (masks_on b (at / 256)) then slice_index rom at else 0)
 
--- another board: all keys are up, all that a reset clears is cleared, the bytes of ROMs that it lacks become 0
+-- another board: all keys are up, all that a reset clears is cleared, the bytes of ROMs that it
+-- lacks become 0
 abbrev pub after_wire : BusState → BoardParts → BusState
 after_wire s b = record (after_reset (record s { board = b })) {
   rom = kept_rom b s.rom;

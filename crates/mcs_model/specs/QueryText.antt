@@ -1,4 +1,5 @@
--- What a bench tells of its state: one text for each query and state, without the last line feed (our own choice).
+-- What a bench tells of its state: one text for each query and state, without the last line feed
+-- (our own choice).
 use Rattle.std.specs.Prelude.{ℕ, ◌+◌, ◌*◌, ◌/◌, ◌%◌, ◌==◌, List, [], ◌∷◌, ◌++◌, map, take, drop, length, codes, nat_lt, if◌then◌else◌, slice_index, Some, None}
 use Rattle.std.specs.Fmt.{decimal}
 use Rattle.std.specs.List.{flat_map, join_by, join_with_byte, range_with_len}
@@ -7,7 +8,7 @@ use Rattle.mcs_model.specs.declared.query.Query.TheVariants as query
 use Rattle.mcs_model.specs.declared.regs.Regs.{Regs}
 use Rattle.mcs_model.specs.declared.limits.TheConstants.{BANKS, ROMS}
 use Rattle.mcs_model.specs.Boards.{chain_bits, chain_count, key_place, masks_on}
-use Rattle.mcs_model.specs.Bus.{BusState, chips_of}
+use Rattle.mcs_model.specs.Bus.{BusState, chips_of, ram_port_place}
 use Rattle.mcs_model.specs.TextLines.{line_feed}
 use Rattle.mcs_model.specs.BenchState.{BenchState}
 use Rattle.mcs_model.specs.Levels.{chain_bit, level, port_at}
@@ -61,7 +62,8 @@ abbrev pub lamps_text : BusState → List ℕ
 lamps_text s =
     codes "lamps " ++ or_dash (map (λ line. lamp_mark (level s line)) s.board.lamps.items)
 
--- register r of a RAM chip, named by bank, chip and register: its 16 characters, and its four status characters
+-- register r of a RAM chip, named by bank, chip and register: its 16 characters, and its four
+-- status characters
 abbrev pub register_line : BusState → ℕ → ℕ → ℕ → List ℕ
 register_line s bank chip r =
     digit_text bank ++ codes "." ++ digit_text chip ++ codes "." ++ digit_text r
@@ -72,7 +74,7 @@ register_line s bank chip r =
 abbrev pub ram_port_text : List ℕ → BusState → ℕ → ℕ → List ℕ
 ram_port_text out s bank chip =
     digit_text bank ++ codes "." ++ digit_text chip ++ out
-    ++ digit_text (slice_index s.ram_ports (bank * 4 + chip))
+    ++ digit_text (slice_index s.ram_ports (ram_port_place bank chip))
 
 -- a RAM chip: its four registers, and its port
 abbrev pub chip_lines : BusState → ℕ → ℕ → List (List ℕ)
@@ -111,8 +113,8 @@ bank_items s bank =
     then (digit_text bank ++ codes "." ++ hex_2 (slice_index s.ram_src bank)) ∷ []
     else []
 
--- the port of a ROM that is there: its number, and after some words what its latch holds and what is
--- read there
+-- the port of a ROM that is there: its number, and after some words what its latch holds and what
+-- is read there
 abbrev pub rom_port_texts : List ℕ → List ℕ → List ℕ → BusState → ℕ → List (List ℕ)
 rom_port_texts rom out read s chip =
     elim (masks_on s.board chip) [

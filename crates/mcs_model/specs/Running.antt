@@ -1,5 +1,5 @@
 -- A run and a step: the cycle repeated up to the first reason to stop. (Our own choice.)
-use Rattle.std.specs.Prelude.{◌≡◌, ℕ, ◌+◌, ◌<◌, ◌≤◌, zero, suc, Bool, true, false, ◌&&◌, List, [], Option, Some, None, is_none, is_some, not, slice_index, ◌-◌, if◌then◌else◌, nat_lt, ◌==◌, unwrap_or, find}
+use Rattle.std.specs.Prelude.{ℕ, ◌+◌, zero, suc, Bool, ◌&&◌, List, Option, Some, None, is_none, is_some, not, slice_index, ◌-◌, if◌then◌else◌, nat_lt, ◌==◌, unwrap_or, find}
 use Rattle.std.specs.List.{range_with_len, list_any}
 use Rattle.mcs_model.specs.declared.regs.Regs.{Regs}
 use Rattle.mcs_model.specs.declared.stop.Stop.{Stop}
@@ -20,16 +20,8 @@ abbrev pub after_cycles : ℕ → Machine → Machine
 after_cycles zero s = s
 after_cycles (suc k) s = unwrap_or (cycle_of (after_cycles k s).0 (after_cycles k s).1) (after_cycles k s)
 
--- the cycles of one instruction, k of them from s to t, of at most that many as are left: none where no cycle can follow
-pub record InstructionRan (left : ℕ) (s t : Machine) (k : ℕ) : Type 0 where
-  pub within : k ≤ left
-  pub machine : t ≡ after_cycles k s
-  pub none : k ≡ 0 → is_outside s ≡ true
-  pub inside : (j : ℕ) → j < k → is_outside (after_cycles j s) ≡ false
-  pub between : (j : ℕ) → 0 < j → j < k → (after_cycles j s).0.owed ≡ 1
-
--- whether a run is at a breakpoint after k cycles: none at its start counts, and none between the two
--- cycles of an instruction
+-- whether a run is at a breakpoint after k cycles: none at its start counts, and none between the
+-- two cycles of an instruction
 abbrev pub at_break : List ℕ → ℕ → Machine → Bool
 at_break breaks k s = nat_lt 0 k && s.0.owed == 0 && list_any (λ a. a == s.0.pc) breaks
 
@@ -43,7 +35,8 @@ pub record Stops : Type 0 where
   pub breaks : List ℕ
   pub watches : List ℕ
 
--- whether a run of n cycles stops after k of them, which led to the machine t, the last one from the machine s, and why
+-- whether a run of n cycles stops after k of them, which led to the machine t, the last one from
+-- the machine s, and why
 abbrev pub stop_at : Stops → ℕ → ℕ → Machine → Machine → Option Stop
 stop_at stops n k s t =
     if is_outside t then Some Outside
@@ -52,7 +45,8 @@ stop_at stops n k s t =
     else if k == n then Some Ended
     else None
 
--- whether a run of n cycles from s stops after k of them; at k = 0 no cycle was done, so no character has changed
+-- whether a run of n cycles from s stops after k of them; at k = 0 no cycle was done, so no
+-- character has changed
 abbrev pub stop_after : Stops → ℕ → Machine → ℕ → Option Stop
 stop_after stops n s k = stop_at stops n k (after_cycles (k - 1) s) (after_cycles k s)
 
@@ -68,10 +62,6 @@ after_run stops n s = after_cycles (run_length stops n s) s
 -- why a run of n cycles stops
 abbrev pub run_stop : Stops → ℕ → Machine → Stop
 run_stop stops n s = unwrap_or (stop_after stops n s (run_length stops n s)) Ended
-
--- nothing but its end and a code outside stops a run
-abbrev pub no_stops : Stops
-no_stops = record { breaks = []; watches = [] }
 
 -- whether a step stops after k cycles, at the machine s, and why: at its start where no cycle can
 -- follow, else after the instruction
@@ -90,9 +80,3 @@ after_step s = after_cycles (step_length s) s
 -- why a step stops
 abbrev pub step_stop : Machine → Stop
 step_stop s = unwrap_or (step_at (step_length s) (after_step s)) Ended
-
--- where no breakpoint is set and nothing is watched, two runs come to where one run of all their cycles does
-abbrev pub RunsCompose : Type 0
-RunsCompose =
-    (s : Machine) (a b : ℕ) →
-    after_run no_stops b (after_run no_stops a s) ≡ after_run no_stops (a + b) s

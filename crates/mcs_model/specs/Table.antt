@@ -1,8 +1,7 @@
 -- The code table: which codes spell which instruction, and how many words and cycles it takes.
 -- (MCS-4 Users Manual, instruction set. The codes 01 to 0F, E3, FE and FF are in no row; that they
 -- are outside the table, and stop a run, is our own choice.)
-use Rattle.std.specs.Prelude.{◌≡◌, ℕ, ◌/◌, ◌%◌, Bool, true, ◌&&◌, List, [], ◌∷◌, Option, is_none, find, filter, count_by, nat_le, ◌==◌}
-use Rattle.std.specs.List.{range_with_len, list_all}
+use Rattle.std.specs.Prelude.{ℕ, ◌/◌, ◌%◌, Bool, true, ◌&&◌, List, [], ◌∷◌, Option, find, ◌==◌}
 use Rattle.std.specs.Option.{option_map}
 use Rattle.mcs_model.specs.declared.op.Op.{Op}
 use Rattle.mcs_model.specs.declared.op.Op.TheVariants.{Nop, Jcn, Fim, Src, Fin, Jin, Jun, Jms, Inc, Isz, Add, Sub, Ld, Xch, Bbl, Ldm, Wrm, Wmp, Wrr, Wr0, Wr1, Wr2, Wr3, Sbm, Rdm, Rdr, Adm, Rd0, Rd1, Rd2, Rd3, Clb, Clc, Iac, Cmc, Cma, Ral, Rar, Tcc, Dac, Tcs, Stc, Daa, Kbp, Dcl}
@@ -24,9 +23,9 @@ pub record Row : Type 0 where
 abbrev pub row : ℕ → Lower → (ℕ → ℕ → Op) → Row
 row upper lower op = record { upper = upper; lower = lower; op = op }
 
--- a row of one code, with no operand
-abbrev pub plain : ℕ → ℕ → Op → Row
-plain upper lower op = row upper (Only lower) (λ _ _. op)
+-- a row of one code: an instruction without operands
+abbrev pub bare : ℕ → ℕ → Op → Row
+bare upper lower op = row upper (Only lower) (λ _ _. op)
 
 -- the operand in the lower nibble of a code: a value, a register or a page; or a pair
 abbrev pub nibble_in : ℕ → ℕ
@@ -37,7 +36,7 @@ pair_in code = code % 16 / 2
 
 abbrev pub rows : List Row
 rows =
-    plain 0x0 0x0 Nop
+    bare 0x0 0x0 Nop
     ∷ row 0x1 Any (λ a b. Jcn (nibble_in a) b)
     ∷ row 0x2 Even (λ a b. Fim (pair_in a) b)
     ∷ row 0x2 Odd (λ a _. Src (pair_in a))
@@ -53,35 +52,35 @@ rows =
     ∷ row 0xB Any (λ a _. Xch (nibble_in a))
     ∷ row 0xC Any (λ a _. Bbl (nibble_in a))
     ∷ row 0xD Any (λ a _. Ldm (nibble_in a))
-    ∷ plain 0xE 0x0 Wrm
-    ∷ plain 0xE 0x1 Wmp
-    ∷ plain 0xE 0x2 Wrr
-    ∷ plain 0xE 0x4 Wr0
-    ∷ plain 0xE 0x5 Wr1
-    ∷ plain 0xE 0x6 Wr2
-    ∷ plain 0xE 0x7 Wr3
-    ∷ plain 0xE 0x8 Sbm
-    ∷ plain 0xE 0x9 Rdm
-    ∷ plain 0xE 0xA Rdr
-    ∷ plain 0xE 0xB Adm
-    ∷ plain 0xE 0xC Rd0
-    ∷ plain 0xE 0xD Rd1
-    ∷ plain 0xE 0xE Rd2
-    ∷ plain 0xE 0xF Rd3
-    ∷ plain 0xF 0x0 Clb
-    ∷ plain 0xF 0x1 Clc
-    ∷ plain 0xF 0x2 Iac
-    ∷ plain 0xF 0x3 Cmc
-    ∷ plain 0xF 0x4 Cma
-    ∷ plain 0xF 0x5 Ral
-    ∷ plain 0xF 0x6 Rar
-    ∷ plain 0xF 0x7 Tcc
-    ∷ plain 0xF 0x8 Dac
-    ∷ plain 0xF 0x9 Tcs
-    ∷ plain 0xF 0xA Stc
-    ∷ plain 0xF 0xB Daa
-    ∷ plain 0xF 0xC Kbp
-    ∷ plain 0xF 0xD Dcl
+    ∷ bare 0xE 0x0 Wrm
+    ∷ bare 0xE 0x1 Wmp
+    ∷ bare 0xE 0x2 Wrr
+    ∷ bare 0xE 0x4 Wr0
+    ∷ bare 0xE 0x5 Wr1
+    ∷ bare 0xE 0x6 Wr2
+    ∷ bare 0xE 0x7 Wr3
+    ∷ bare 0xE 0x8 Sbm
+    ∷ bare 0xE 0x9 Rdm
+    ∷ bare 0xE 0xA Rdr
+    ∷ bare 0xE 0xB Adm
+    ∷ bare 0xE 0xC Rd0
+    ∷ bare 0xE 0xD Rd1
+    ∷ bare 0xE 0xE Rd2
+    ∷ bare 0xE 0xF Rd3
+    ∷ bare 0xF 0x0 Clb
+    ∷ bare 0xF 0x1 Clc
+    ∷ bare 0xF 0x2 Iac
+    ∷ bare 0xF 0x3 Cmc
+    ∷ bare 0xF 0x4 Cma
+    ∷ bare 0xF 0x5 Ral
+    ∷ bare 0xF 0x6 Rar
+    ∷ bare 0xF 0x7 Tcc
+    ∷ bare 0xF 0x8 Dac
+    ∷ bare 0xF 0x9 Tcs
+    ∷ bare 0xF 0xA Stc
+    ∷ bare 0xF 0xB Daa
+    ∷ bare 0xF 0xC Kbp
+    ∷ bare 0xF 0xD Dcl
     ∷ []
 
 abbrev pub fits : Lower → ℕ → Bool
@@ -115,18 +114,3 @@ word_count_of _ = 1
 abbrev pub cycles_of : Op → ℕ
 cycles_of (Fin _) = 2
 cycles_of op = word_count_of op
-
--- the codes that are in no row
-abbrev pub outside_codes : List ℕ
-outside_codes =
-    0x01 ∷ 0x02 ∷ 0x03 ∷ 0x04 ∷ 0x05 ∷ 0x06 ∷ 0x07 ∷ 0x08 ∷ 0x09 ∷ 0x0A ∷ 0x0B ∷ 0x0C ∷ 0x0D ∷ 0x0E ∷ 0x0F
-    ∷ 0xE3 ∷ 0xFE ∷ 0xFF ∷ []
-
--- of the 256 codes, exactly these are in no row
-abbrev pub LeavesOut : List ℕ → Type 0
-LeavesOut codes = filter (λ code. is_none (row_of code)) (range_with_len 0 256) ≡ codes
-
--- no code is in two rows of a table
-abbrev pub is_unambiguous : List Row → Bool
-is_unambiguous table =
-    list_all (λ code. nat_le (count_by (covers (code / 16) (code % 16)) table) 1) (range_with_len 0 256)

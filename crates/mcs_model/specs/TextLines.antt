@@ -15,8 +15,8 @@ is_line_feed b = b == line_feed
 abbrev pub as_line : List ℕ → List ℕ
 as_line bytes = bytes ++ line_feed ∷ []
 
--- what follows the last line feed: a line where the text ends there (`whole`) and it has bytes; else
--- none
+-- what follows the last line feed: a line where the text ends there (`whole`) and it has bytes;
+-- else none
 abbrev pub last_line : Bool → List ℕ → List (List ℕ)
 last_line false line = []
 last_line true [] = []
@@ -28,8 +28,8 @@ lines_in whole [] = []
 lines_in whole (last ∷ []) = last_line whole last
 lines_in whole (line ∷ next ∷ pieces) = strip_carriage_return line ∷ lines_in whole (next ∷ pieces)
 
--- The lines of a text, each without its line feed and without one CR that ends it; `whole` says that
--- the text ends there, else it was cut.
+-- The lines of a text, each without its line feed and without one CR that ends it; `whole` says
+-- that the text ends there, else it was cut.
 unfoldable pub lines : List ℕ → Bool → List (List ℕ)
 lines text whole = lines_in whole (slice_split is_line_feed text)
 

@@ -1,12 +1,13 @@
--- Which flat states are valid: the states that a bench can be in. (Our own choice, after what the chips keep.)
-use Rattle.std.specs.Prelude.{◌≡◌, ◌<◌, ◌≤◌, ◌+◌, ◌*◌, ◌/◌, ℕ, List, [], All, MatchOption, length, slice_index, slice_index_or, None}
+-- Which flat states are valid: the states that a bench can be in. (Our own choice, after what the
+-- chips keep.)
+use Rattle.std.specs.Prelude.{◌≡◌, ◌<◌, ◌≤◌, ◌/◌, ℕ, List, [], All, MatchOption, length, slice_index, slice_index_or, None}
 use Rattle.std.specs.List.Sorted.{IsStrictlyIncreasing}
 use Rattle.mcs_nibble.specs.Ports.{latch_value}
 use Rattle.mcs_model.specs.declared.board.BoardParts.{BoardParts}
 use Rattle.mcs_model.specs.declared.limits.TheConstants.{ACCEPTED_COMMANDS, BREAKPOINTS, WATCHES}
 use Rattle.mcs_model.specs.declared.regs.Regs.{Regs}
 use Rattle.mcs_model.specs.Boards.{IsSized, board_fault_of, masks_on, chain_bits, chain_count, key_count}
-use Rattle.mcs_model.specs.Bus.{BusState, ram_place, status_place, chips_of}
+use Rattle.mcs_model.specs.Bus.{BusState, ram_place, ram_port_place, status_place, chips_of}
 use Rattle.mcs_model.specs.BenchState.{BenchState}
 
 -- that many numbers, each below a limit
@@ -38,7 +39,8 @@ pub record IsInRange (s : BusState) : Type 0 where
   pub keys : AreBelow (key_count s.board) 2 s.keys
   pub test : s.test < 2
 
--- what is absent holds 0: ROMs, RAM chips, the SRC byte of a bank without chips, and the latch bits of input lines
+-- what is absent holds 0: ROMs, RAM chips, the SRC byte of a bank without chips, and the latch bits
+-- of input lines
 pub record IsAbsentZero (s : BusState) : Type 0 where
   pub rom : (at : ℕ) → masks_on s.board (at / 256) ≡ None → slice_index s.rom at ≡ 0
   pub ram : (bank src : ℕ) → src < 256 → chips_of s bank ≤ src / 64 →
@@ -46,7 +48,7 @@ pub record IsAbsentZero (s : BusState) : Type 0 where
   pub status : (bank high k : ℕ) → high < 16 → k < 4 → chips_of s bank ≤ high / 4 →
       slice_index s.status (status_place bank high k) ≡ 0
   pub ram_ports : (bank chip : ℕ) → chip < 4 → chips_of s bank ≤ chip →
-      slice_index s.ram_ports (bank * 4 + chip) ≡ 0
+      slice_index s.ram_ports (ram_port_place bank chip) ≡ 0
   pub rom_ports : (chip : ℕ) → MatchOption (masks_on s.board chip) (slice_index s.rom_ports chip ≡ 0)
       (λ mask. latch_value mask (slice_index s.rom_ports chip) ≡ slice_index s.rom_ports chip)
   pub ram_src : (bank : ℕ) → chips_of s bank ≡ 0 → slice_index s.ram_src bank ≡ 0

@@ -1,6 +1,7 @@
 -- The port of a 4001: what its latch holds and what the processor reads, line by line.
--- (4001 data sheet: by its mask a line is an input or an output; WRR writes the latch, RDR reads the input lines. Our own
--- choice: positive logic, a latch bit of 0 at each input line, and that an output line reads the constant of its mask.)
+-- (4001 data sheet: by its mask a line is an input or an output; WRR writes the latch, RDR reads
+-- the input lines. Our own choice: positive logic, a latch bit of 0 at each input line, and that an
+-- output line reads the constant of its mask.)
 use Rattle.std.specs.Prelude.{ℕ, Bool, true, false, ◌==◌, List, Option, Some, None, slice_index_or, if◌then◌else◌}
 use Rattle.mcs_nibble.specs.Bits.{bit_of, nibble_of}
 use Rattle.mcs_nibble.specs.declared.lines.LineMask.{LineMask}
@@ -12,8 +13,8 @@ is_input Input = true
 is_input Zero = false
 is_input One = false
 
--- the character of a port line in a board text and in a session file: `i` for an input line, `0` and `1` for an output line
--- that is read as 0 and as 1 (our own choice)
+-- the character of a port line in a board text and in a session file: `i` for an input line, `0`
+-- and `1` for an output line that is read as 0 and as 1 (our own choice)
 abbrev pub mask_character : LineMask → ℕ
 mask_character Input = 105
 mask_character Zero = 48

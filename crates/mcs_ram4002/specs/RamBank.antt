@@ -1,6 +1,7 @@
 -- A bank of 4002s as flat lists.
--- Source: MCS-4 Users Manual, 4002: four registers of 16 main and 4 status characters and an output port a chip; SRC
--- selects chip, register and character. That an absent chip reads 0 is our own choice.
+-- Source: MCS-4 Users Manual, 4002: four registers of 16 main and 4 status characters and an output
+-- port a chip; SRC selects chip, register and character. That an absent chip reads 0 is our own
+-- choice.
 use Rattle.std.specs.Prelude.{◌≡◌, ℕ, ◌+◌, ◌*◌, ◌/◌, ◌%◌, ◌^◌, ◌<◌, ◌≤◌, List, [], All, replicate, slice_index, slice_set, length, take, if◌then◌else◌, nat_lt}
 use Rattle.mcs_nibble.specs.Tables.{table_of, flat_rows, column}
 use Rattle.mcs_ram4002.specs.declared.BankWrite.{BankWrite}

@@ -1,5 +1,5 @@
--- The text of a survey, as `map` answers it: a head, a row for each line of the source, and a row for
--- each name. (Our own choice.)
+-- The text of a survey, as `map` answers it: a head, a row for each line of the source, and a row
+-- for each name. (Our own choice.)
 use Rattle.std.specs.Prelude.{ℕ, ◌+◌, List, [], ◌∷◌, ◌++◌, length, map, codes, nat_lt, if◌then◌else◌}
 use Rattle.std.specs.Fmt.{decimal}
 use Rattle.std.specs.List.{flat_map}

@@ -3,7 +3,8 @@ use Rattle.std.proofs.Common.{◌≡◌, ℕ, ◌+◌, ◌%◌, ◌<◌, ◌≤�
 use Rattle.std.specs.List.{count_by}
 use Rattle.std.proofs.lemmas.List.{length-replicate, get_or-replicate}
 use Rattle.mcs_model.specs.declared.regs.Regs.{Regs}
-use Rattle.mcs_model.specs.Running.{Machine, Stops, InstructionRan, after_cycles}
+use Rattle.mcs_model.specs.Running.{Machine, Stops, after_cycles}
+use Rattle.mcs_cpu4004.specs.InstructionRan.{InstructionRan}
 use Rattle.mcs_bench.specs.Runs.{GoesOn, RanTo}
 use Rattle.mcs_ahead.specs.Ahead.{Begun, begins, begun_within, cycle_at, is_at, jumps, jumps_at, runs_at}
 use Rattle.mcs_trace.specs.declared.counting.Counts.{Counts}

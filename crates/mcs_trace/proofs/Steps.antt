@@ -2,7 +2,8 @@
 use Rattle.std.proofs.Common.{◌≡◌, ℕ, suc, zero, ◌+◌, ◌<◌, ◌≤◌, [], ◌++◌, refl, sym, ap, ◌∙◌, arith}
 use Rattle.std.proofs.lemmas.List.{append-nil}
 use Rattle.mcs_model.specs.Effect.{cycle_of}
-use Rattle.mcs_model.specs.Running.{Machine, InstructionRan, after_cycles}
+use Rattle.mcs_model.specs.Running.{Machine, after_cycles}
+use Rattle.mcs_cpu4004.specs.InstructionRan.{InstructionRan}
 use Rattle.mcs_model.proofs.RunLemmas.{cycled-add}
 use Rattle.mcs_ahead.specs.Ahead.{begun_within}
 use Rattle.mcs_trace.proofs.Tallies.{begun-more, begun_at}

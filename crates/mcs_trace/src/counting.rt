@@ -1,5 +1,5 @@
 //! How often each address is begun at.
-ghost use Rattle.std.specs.Prelude.{◌≡◌, ◌<◌, ◌+◌, ◌%◌, ◌==◌, ◌&&◌, not, ℕ, IfOk, length, slice_index, slice_set, replicate};
+ghost use Rattle.std.specs.Prelude.{◌≡◌, ◌<◌, ◌+◌, ◌%◌, ◌==◌, ◌&&◌, not, IfOk, length, slice_index, slice_set, replicate};
 ghost use Rattle.mcs_model.specs.Command.{machine_of, stops_of};
 ghost use Rattle.mcs_trace.specs.Counted.{IsCounted, with_one};
 

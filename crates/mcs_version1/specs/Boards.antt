@@ -1,4 +1,5 @@
--- Version 1 of which parts make a board: fewer and shorter chains. What the lines of a board are did not change.
+-- Version 1 of which parts make a board: fewer and shorter chains. What the lines of a board are
+-- did not change.
 use Rattle.std.specs.Prelude.{◌≡◌, ◌≤◌, ◌↔◌, Bool, true, false, ◌&&◌, ◌||◌, not, Option, Some, None, length, nat_lt, nat_le, if◌then◌else◌}
 use Rattle.std.specs.List.{list_any}
 use Rattle.mcs_model.specs.declared.board.BoardFault.{BoardFault}
@@ -59,6 +60,7 @@ is_small b =
     nat_le (length b.chains.items) 2
     && not (list_any (λ chain. nat_lt 4 chain.chips) b.chains.items)
 
--- the boards of version 1 are those of today that are so small: all its other ranges follow, since lines and rows have to exist
+-- the boards of version 1 are those of today that are so small: all its other ranges follow, since
+-- lines and rows have to exist
 abbrev pub SmallBoards : Type 0
 SmallBoards = (b : BoardParts) → IsValidBoard1 b ↔ (IsValidBoard b × (is_small b ≡ true))

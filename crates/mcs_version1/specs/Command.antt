@@ -92,7 +92,8 @@ after_change_1 s (Break at) = record s { breakpoints = with_listed s.breakpoints
 after_change_1 s (Unbreak at) = record s { breakpoints = without_listed s.breakpoints at }
 after_change_1 s _ = s
 
--- the state after an accepted command: each raises the count by one, also where nothing else changes
+-- the state after an accepted command: each raises the count by one, also where nothing else
+-- changes
 abbrev pub after_1 : BenchState1 → Command → BenchState1
 after_1 s c = record (after_change_1 s c) { seq = s.seq + 1 }
 

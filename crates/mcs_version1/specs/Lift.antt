@@ -1,4 +1,5 @@
--- A state of version 1 as one of the last version, and that commands and queries do not tell the two apart.
+-- A state of version 1 as one of the last version, and that commands and queries do not tell the
+-- two apart.
 use Rattle.std.specs.Prelude.{◌≡◌, [], IsTrue, List}
 use Rattle.mcs_model.specs.declared.command.Command.{Command}
 use Rattle.mcs_model.specs.declared.query.Query.{Query}

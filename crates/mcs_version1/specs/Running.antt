@@ -1,4 +1,5 @@
--- Version 1 of a run: the cycle repeated up to the first reason to stop, and no character is watched.
+-- Version 1 of a run: the cycle repeated up to the first reason to stop, and no character is
+-- watched.
 use Rattle.std.specs.Prelude.{ℕ, ◌+◌, List, Option, Some, None, is_some, if◌then◌else◌, ◌==◌, unwrap_or, find}
 use Rattle.std.specs.List.{range_with_len}
 use Rattle.mcs_model.specs.declared.stop.Stop.{Stop}

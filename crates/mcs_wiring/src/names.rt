@@ -1,5 +1,5 @@
 //! The names of lines and ports in a board text.
-ghost use Rattle.std.specs.Prelude.{◌≡◌, string_bytes};
+ghost use Rattle.std.specs.Prelude.{◌≡◌};
 ghost use Rattle.mcs_wiring.specs.LineNames.{number_below, rom_line_named, ram_line_named, chain_line_named, line_named, masks_named};
 
 use mcs_model::board::Line;

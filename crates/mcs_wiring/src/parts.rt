@@ -1,8 +1,8 @@
 //! The parts that the tables of a board text tell.
-ghost use Rattle.std.specs.Prelude.{◌≡◌, ◌≤◌, ◌||◌, ◌==◌, codes, map, is_none, length};
+ghost use Rattle.std.specs.Prelude.{◌≡◌, ◌≤◌, ◌||◌, codes, map, is_none, length};
 ghost use Rattle.std.specs.List.{filter_map, list_any};
 ghost use Rattle.toml.specs.View.{view, table_view};
-ghost use Rattle.mcs_wiring.specs.Wiring.{part_of, values_at, column_values, rom_in, ram_in, chain_in, matrix_in, lamp_in, line_in, is_no_line, has_bad_columns};
+ghost use Rattle.mcs_wiring.specs.Wiring.{part_of, values_at, rom_in, ram_in, chain_in, matrix_in, lamp_in, line_in, is_no_line, has_bad_columns};
 
 use crate::names::masks_named;
 use crate::sections::Numbered;

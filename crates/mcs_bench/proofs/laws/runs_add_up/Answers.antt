@@ -1,6 +1,7 @@
 use Rattle.std.proofs.Common.{◌∙◌, ◌+◌, ◌≡◌, ℕ, [], List, sym, ap}
 use Rattle.mcs_model.specs.Command.{machine_of, stops_of, with_machine}
-use Rattle.mcs_model.specs.Running.{Stops, after_run, no_stops}
+use Rattle.mcs_model.specs.Running.{Stops, after_run}
+use Rattle.mcs_model.specs.Laws.{no_stops}
 use Rattle.mcs_bench.proofs.laws.runs_add_up.Goals as goal
 
 pub returns : goal.returns

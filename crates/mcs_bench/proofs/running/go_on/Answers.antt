@@ -2,7 +2,8 @@ use Rattle.std.proofs.Common.{◌≡◌, ◌≢◌, ◌∙◌, ◌&&◌, Some, N
 use Rattle.mcs_model.specs.declared.regs.Regs.{Regs}
 use Rattle.mcs_model.specs.Effect.{instruction_at}
 use Rattle.mcs_model.specs.Listed.{is_listed}
-use Rattle.mcs_model.specs.Running.{Machine, Stops, InstructionRan}
+use Rattle.mcs_model.specs.Running.{Machine, Stops}
+use Rattle.mcs_cpu4004.specs.InstructionRan.{InstructionRan}
 use Rattle.mcs_bench.specs.Runs.{WillChange, mark_of}
 use Rattle.mcs_bench.proofs.Runs.{outside-at, went-idle, went-does}
 use Rattle.mcs_bench.proofs.running.go_on.Goals as goal

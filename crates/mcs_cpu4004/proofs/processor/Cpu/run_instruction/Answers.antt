@@ -1,8 +1,8 @@
 use Rattle.std.proofs.Common.{◌≢◌, ◌-◌, ◌∙◌, sym, ap, subst, arith}
 use Rattle.mcs_model.specs.declared.regs.Regs.{Regs}
 use Rattle.mcs_model.specs.Bus.{BusState}
-use Rattle.mcs_model.specs.Running.{InstructionRan}
-use Rattle.mcs_model.proofs.RunLemmas.{ran-whole}
+use Rattle.mcs_cpu4004.specs.InstructionRan.{InstructionRan}
+use Rattle.mcs_cpu4004.proofs.InstructionRuns.{ran-whole}
 use Rattle.mcs_cpu4004.proofs.processor.Cpu.run_instruction.Goals as goal
 
 pub returns-clause-ran : goal.returns-clause-ran

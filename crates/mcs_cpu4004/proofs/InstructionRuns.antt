@@ -1,0 +1,84 @@
+-- The cycles of one instruction: none, the only one, or both.
+use Rattle.std.proofs.Common.{◌≡◌, ◌≢◌, ℕ, ◌-◌, ◌<◌, ◌≤◌, subst, true, false, Some, is_none, unwrap_or, inl, inr, refl, sym, ap, ◌∙◌, arith, eqb}
+use Rattle.std.proofs.lemmas.Bool.{cases_eq}
+use Rattle.std.proofs.lemmas.Bool.Decides.{nat_tests}
+use Rattle.mcs_model.specs.declared.regs.Regs.{Regs}
+use Rattle.mcs_model.specs.declared.op.Op.{Op}
+use Rattle.mcs_model.specs.Bus.{BusState}
+use Rattle.mcs_model.specs.Effect.{cycle_of, effect, instruction_at}
+use Rattle.mcs_model.specs.Running.{Machine, is_outside, after_cycles}
+use Rattle.mcs_model.proofs.RunLemmas.{next}
+use Rattle.mcs_cpu4004.specs.InstructionRan.{InstructionRan}
+
+-- where one cycle has a value, it can follow, and comes to that value
+pub goes-to : (s t : Machine) → cycle_of s.0 s.1 ≡ Some t → (is_outside s ≡ false) × (t ≡ next s)
+goes-to s t e = (ap is_none e, sym (ap (λ o. unwrap_or o s) e))
+
+-- no cycle of an instruction
+pub ran-none : (left : ℕ) (s : Machine) → is_outside s ≡ true → InstructionRan left s s 0
+ran-none left s out = record {
+  within = omega arith;
+  machine = refl;
+  none = λ _. out;
+  inside = λ j l. absurd (omega arith);
+  between = λ j h l. absurd (omega arith);
+}
+
+-- one cycle of an instruction
+pub ran-one : (left : ℕ) (s t : Machine) → 0 < left → cycle_of s.0 s.1 ≡ Some t → InstructionRan left s t 1
+ran-one left s t l e = record {
+  within = omega arith;
+  machine = (goes-to s t e).1;
+  none = λ z. absurd (omega arith);
+  inside = λ j h. subst (λ i. is_outside (after_cycles i s) ≡ false) (let z : 0 ≡ j = omega arith in z) (goes-to s t e).0;
+  between = λ j h k. absurd (omega arith);
+}
+
+-- both cycles of an instruction
+pub ran-two : (left : ℕ) (s t u : Machine) → 1 < left → cycle_of s.0 s.1 ≡ Some t → t.0.owed ≡ 1 → cycle_of t.0 t.1 ≡ Some u → InstructionRan left s u 2
+ran-two left s t u l e owed f =
+    let new = (goes-to s t e).1 in
+    record {
+      within = omega arith;
+      machine = (goes-to t u f).1 ∙ ap next new;
+      none = λ z. absurd (omega arith);
+      inside = λ j h. elim (cases_eq j 0) [
+        | inl z ↦ subst (λ i. is_outside (after_cycles i s) ≡ false) (sym z) (goes-to s t e).0
+        | inr nz ↦ subst (λ i. is_outside (after_cycles i s) ≡ false) (let z : 1 ≡ j = omega arith in z) (subst (λ (v : Machine). is_outside v ≡ false) new (goes-to t u f).0)
+      ];
+      between = λ j h k. subst (λ i. (after_cycles i s).0.owed ≡ 1) (let z : 1 ≡ j = omega arith in z) (subst (λ (v : Machine). v.0.owed ≡ 1) new owed);
+    }
+
+-- the cycle that does an instruction
+cycle-does : (op : Op) (s : Machine) → s.0.owed ≢ 1 → instruction_at s.0 s.1 ≡ Some op → cycle_of s.0 s.1 ≡ Some (effect op s.0 s.1)
+unfolding cycle_of
+cycle-does op s free at = let e : eqb s.0.owed 1 ≡ false = grind (arith, nat_tests) in rw (e, at) refl
+
+-- the idle cycle after it
+cycle-idles : (s : Regs) (m : BusState) → cycle_of (record s { owed = 1 }) m ≡ Some (record s { owed = 0 }, m)
+unfolding cycle_of
+cycle-idles s m = refl
+
+-- the idle cycle of an instruction that was begun
+pub ran-idle : (left : ℕ) (s : Regs) (m : BusState) (counter : ℕ) → 0 < left → s.owed ≡ 1 → counter ≡ s.pc → InstructionRan left (s, m) (record s { pc = counter; owed = 0 }, m) 1
+ran-idle left s m counter l owed same =
+    let begun : s ≡ record s { owed = 1 } = ap (λ o. record s { owed = o }) owed in
+    let there : (record s { owed = 0 }, m) ≡ (record s { pc = counter; owed = 0 }, m) = ap (λ p. (record s { pc = p; owed = 0 }, m)) (sym same) in
+    ran-one left (s, m) (record s { pc = counter; owed = 0 }, m) l (ap (λ (r : Regs). cycle_of r m) begun ∙ cycle-idles s m ∙ ap Some there)
+
+-- an instruction done whole: its registers and its bus, except for the counter, and with no cycle owed any more
+pub ran-whole : (left : ℕ) (op : Op) (s : Machine) (regs : Regs) (m : BusState) (counter cycles : ℕ) → cycles ≤ left → s.0.owed ≢ 1 → instruction_at s.0 s.1 ≡ Some op → (record regs { pc = counter; owed = cycles - 1 }, m) ≡ effect op s.0 s.1 → 0 < cycles → cycles < 3 → regs.owed ≡ 0 → InstructionRan left s (record regs { pc = counter }, m) cycles
+ran-whole left op s regs m counter cycles l free at done some few none =
+    let t : Machine = (record regs { pc = counter; owed = cycles - 1 }, m) in
+    let u : Machine = (record regs { pc = counter }, m) in
+    let step : cycle_of s.0 s.1 ≡ Some t = cycle-does op s free at ∙ ap Some (sym done) in
+    elim (cases_eq cycles 1) [
+      | inl one ↦ (
+          let same : t ≡ u = ap (λ o. (record regs { pc = counter; owed = o }, m)) (let e : cycles - 1 ≡ regs.owed = omega arith in e) in
+          subst (InstructionRan left s u) (sym one) (ran-one left s u (omega arith) (step ∙ ap Some same)))
+      | inr more ↦ (
+          let two : cycles ≡ 2 = omega arith in
+          let owing : t ≡ (record regs { pc = counter; owed = 1 }, m) = ap (λ o. (record regs { pc = counter; owed = o }, m)) (let e : cycles - 1 ≡ 1 = omega arith in e) in
+          let same : (record regs { pc = counter; owed = 0 }, m) ≡ u = ap (λ o. (record regs { pc = counter; owed = o }, m)) (sym none) in
+          subst (InstructionRan left s u) (sym two) (ran-two left s (record regs { pc = counter; owed = 1 }, m) u (omega arith) (step ∙ ap Some owing) refl (cycle-idles (record regs { pc = counter }) m ∙ ap Some same)))
+    ]

@@ -1,0 +1,31 @@
+-- What the laws of this crate say: of the code table, and of runs one after the other.
+use Rattle.std.specs.Prelude.{◌≡◌, ℕ, ◌+◌, ◌/◌, ◌%◌, Bool, List, [], ◌∷◌, is_none, filter, count_by, nat_le}
+use Rattle.std.specs.List.{range_with_len, list_all}
+use Rattle.mcs_model.specs.Running.{Machine, Stops, after_run}
+use Rattle.mcs_model.specs.Table.{Row, covers, row_of}
+
+-- the codes that are in no row
+abbrev pub outside_codes : List ℕ
+outside_codes =
+    0x01 ∷ 0x02 ∷ 0x03 ∷ 0x04 ∷ 0x05 ∷ 0x06 ∷ 0x07 ∷ 0x08 ∷ 0x09 ∷ 0x0A ∷ 0x0B ∷ 0x0C ∷ 0x0D ∷ 0x0E ∷ 0x0F
+    ∷ 0xE3 ∷ 0xFE ∷ 0xFF ∷ []
+
+-- of the 256 codes, exactly these are in no row
+abbrev pub LeavesOut : List ℕ → Type 0
+LeavesOut codes = filter (λ code. is_none (row_of code)) (range_with_len 0 256) ≡ codes
+
+-- no code is in two rows of a table
+abbrev pub is_unambiguous : List Row → Bool
+is_unambiguous table =
+    list_all (λ code. nat_le (count_by (covers (code / 16) (code % 16)) table) 1) (range_with_len 0 256)
+
+-- nothing but its end and a code outside stops a run
+abbrev pub no_stops : Stops
+no_stops = record { breaks = []; watches = [] }
+
+-- where no breakpoint is set and nothing is watched, two runs come to where one run of all their
+-- cycles does
+abbrev pub RunsCompose : Type 0
+RunsCompose =
+    (s : Machine) (a b : ℕ) →
+    after_run no_stops b (after_run no_stops a s) ≡ after_run no_stops (a + b) s
