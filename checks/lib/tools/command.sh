@@ -31,6 +31,7 @@ for word in help --help -h "help new" "help version"; do
     # shellcheck disable=SC2086
     verdict "$(apart ./mcs4 $word)" "$(./mcs4 help | wc -l | tr -d ' ') 0 0" "mcs4 $word"
 done
+verdict "$(apart ./mcs4 help refusals): $(sed -n '1p; $p' "$folder/output")" "$(grep -c '^[0-9]' tools/lib/refusals.txt) 0 0: $(sed -n '/^10 /p; /^90 /p' tools/lib/refusals.txt)" "mcs4 help refusals"
 for word in version --version -V; do verdict "$(apart ./mcs4 $word | sed 's/^[34] /some /')" "some 0 0" "mcs4 $word"; done
 verdict "$(apart ./mcs4 2> /dev/null; cat "$folder/errors")" "0 5 2
 usage: mcs4 new FILE

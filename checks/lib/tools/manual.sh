@@ -6,14 +6,7 @@ as_shown "Lines" 3
 rm -rf "$folder/manual"
 as_shown "The workbench" 20
 
-# What stands twice stands alike: refusals and lines in the tables and in the manual.
-verdict "$(awk '
-    /^## / { inside = /Refusals/ }
-    !inside { next }
-    /^- [0-9][0-9]: / || !/^  / { if (text != "") print text; text = "" }
-    /^- [0-9][0-9]: / { text = substr($0, 3, 2) substr($0, 6) }
-    /^  / && text != "" { text = text substr($0, 2) }
-' < docs/MANUAL.md | sed "s/[\`']//g" | sort)" "$(sed -n "/^[0-9]/{s/'//g;p;}" tools/lib/refusals.txt | sort)" "the meanings of refusals in the manual"
+# What stands twice stands alike: lines in the table and in the manual.
 verdict "$(awk -F ' [|] ' '
     /^### / { inside = /^### (Commands|Queries)$/ }
     inside && /^[|] `/ {
