@@ -5,16 +5,13 @@ ghost use Rattle.mcs_asm.specs.RefusalNumbers.{assembler_fault_number};
 use mcs_model::refusal_numbers;
 pub use mcs_source::fault::SourceFault;
 use std::alloc::AllocError;
-use thiserror::Error;
 
 /// Why a text has no image.
-#[derive(Clone, Copy, Debug, PartialEq, Eq, Error)]
+#[derive(Clone, Copy, Debug, PartialEq, Eq)]
 pub enum FaultKind {
     /// Memory was refused (no 90).
-    #[error("no memory")]
     NoMemory,
     /// A line has a fault.
-    #[error("{0}")]
     Refused(SourceFault),
 }
 
@@ -31,8 +28,7 @@ impl FaultKind {
 }
 
 /// The first fault of a text, with the number of its line from 1; 0 where memory was refused.
-#[derive(Clone, Copy, Debug, Error)]
-#[error("line {line}: {kind}")]
+#[derive(Clone, Copy, Debug)]
 pub struct AsmFault {
     /// The number of the line.
     pub line: usize,

@@ -4,7 +4,6 @@ ghost use Rattle.mcs_host.specs.declared.arguments.ArgumentsFault.TheVariants.{N
 
 use std::alloc::AllocError;
 use std::marker::Model;
-use thiserror::Error;
 
 /// The name of a session file, as the arguments give it. Contracts see its bytes.
 #[derive(Drop)]
@@ -43,13 +42,11 @@ pub enum Choice {
 }
 
 /// Why arguments choose nothing.
-#[derive(Clone, Copy, Debug, Error)]
+#[derive(Clone, Copy, Debug)]
 pub enum ArgumentsFault {
     /// The arguments are none of the program's: the usage is shown.
-    #[error("usage: mcs4 new FILE or mcs4 open FILE")]
     Usage,
     /// There was no memory.
-    #[error("out of memory")]
     NoMemory,
 }
 

@@ -20,22 +20,17 @@ use mcs_model::numeral::number_within;
 use mcs_model::query::Query;
 use mcs_model::refusal_numbers;
 use mcs_nibble::Addr;
-use thiserror::Error;
 
 /// Why a line is refused.
-#[derive(Clone, Copy, Debug, Error)]
+#[derive(Clone, Copy, Debug)]
 pub enum LineFault {
     /// Its words are no command.
-    #[error("not a command")]
     NotACommand,
     /// A word is no number, or its number is out of range.
-    #[error("not a number in range")]
     BadNumber,
     /// It has too many bytes.
-    #[error("line too long")]
     LineTooLong,
     /// It has a byte that is neither a tab nor a printing character of ASCII.
-    #[error("not ASCII")]
     NotAscii,
 }
 

@@ -3,31 +3,23 @@ ghost use Rattle.std.specs.Prelude.{◌≡◌};
 ghost use Rattle.mcs_model.specs.RefusalNumbers.{bench_fault_number};
 
 use crate::refusal_numbers;
-use thiserror::Error;
 
 /// Why a bench refuses a command. Nothing has changed then.
-#[derive(Clone, Copy, Debug, PartialEq, Eq, Error)]
+#[derive(Clone, Copy, Debug, PartialEq, Eq)]
 pub enum BenchFault {
     /// The board has no such key.
-    #[error("no such key")]
     NoKey,
     /// The address lies in a ROM that the board lacks.
-    #[error("no such ROM")]
     NoRom,
     /// The place lies in a RAM chip that the board lacks.
-    #[error("no such place")]
     NoSuchPlace,
     /// A run of no cycle, or of too many.
-    #[error("not a number of cycles for a run")]
     BadCount,
     /// All breakpoints are taken.
-    #[error("all breakpoints are set")]
     BreaksFull,
     /// The session has accepted all the commands that it can count.
-    #[error("the session is worn")]
     Worn,
     /// All watches are set.
-    #[error("all watches are set")]
     WatchesFull,
 }
 

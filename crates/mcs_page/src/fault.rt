@@ -1,14 +1,11 @@
 //! Why input is not served.
 use mcs_journal::OpenFault;
-use thiserror::Error;
 
 /// Why input is not served. Nothing was done then.
-#[derive(Clone, Copy, Debug, PartialEq, Eq, Error)]
+#[derive(Clone, Copy, Debug, PartialEq, Eq)]
 pub enum ServeFault {
     /// The bytes hold no session (50, 51), or there was no memory (90).
-    #[error("the file is refused")]
     Refused(OpenFault),
     /// The answers take that many bytes, and the buffer has fewer.
-    #[error("the answers have no room")]
     NoRoom(usize),
 }

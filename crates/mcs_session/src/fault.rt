@@ -1,17 +1,13 @@
 //! Why a session does not record a command.
 use mcs_model::refusals::BenchFault;
-use thiserror::Error;
 
 /// Why a session does not record a command. The bench has not changed then.
-#[derive(Clone, Copy, Debug, PartialEq, Eq, Error)]
+#[derive(Clone, Copy, Debug, PartialEq, Eq)]
 pub enum SessionFault {
     /// The bench refuses the command.
-    #[error("refused by the bench")]
     Refused(BenchFault),
     /// A call of the disk failed. The session is closed from then on.
-    #[error("the device failed")]
     Device,
     /// An earlier call of the disk failed.
-    #[error("the session is closed")]
     Closed,
 }

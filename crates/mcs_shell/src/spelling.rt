@@ -11,17 +11,14 @@ use mcs_lines::requests::TextKind;
 use mcs_model::command::Command;
 use mcs_wiring::{WiringFault, board_of};
 use std::alloc::{AllocError, Global};
-use thiserror::Error;
 
 /// Why a text spells nothing.
-#[derive(Clone, Copy, Debug, Error)]
+#[derive(Clone, Copy, Debug)]
 pub enum TextRefusal {
     /// It has no board.
-    #[error("{0}")]
     Wiring(WiringFault),
     /// It is no program: the number of the line that is at fault, from 1, and what is wrong with
     /// it.
-    #[error("line {0}: {1}")]
     Program(usize, SourceFault),
 }
 

@@ -9,22 +9,17 @@ use mcs_lines::words::{equals, is_plain_byte};
 use mcs_model::limits::{LINE_BYTES, TEXT_BYTES};
 use mcs_model::refusal_numbers;
 use std::str;
-use thiserror::Error;
 
 /// Why a text is refused, whatever its lines say.
-#[derive(Clone, Copy, Debug, Error)]
+#[derive(Clone, Copy, Debug)]
 pub enum TextFault {
     /// Input ended inside it.
-    #[error("no end of text")]
     NoEnd,
     /// It has too many bytes.
-    #[error("text too long")]
     TextTooLong,
     /// One of its lines has too many bytes.
-    #[error("line too long")]
     HasLongLine,
     /// It has a byte that is neither a tab nor a printing character of ASCII.
-    #[error("not ASCII")]
     HasBadByte,
 }
 

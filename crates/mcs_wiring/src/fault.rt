@@ -4,39 +4,29 @@ ghost use Rattle.mcs_wiring.specs.RefusalNumbers.{wiring_fault_number};
 
 use mcs_model::board::BoardFault;
 use mcs_model::refusal_numbers;
-use thiserror::Error;
 
 /// Why a text has no board: the first of these that holds of it, in the order in which they stand
 /// here, where memory was not refused.
-#[derive(Clone, Copy, Debug, PartialEq, Eq, Error)]
+#[derive(Clone, Copy, Debug, PartialEq, Eq)]
 pub enum WiringFault {
     /// The text is not TOML.
-    #[error("not TOML")]
     BadToml,
     /// A key that no board has, at the top or in the table of a part.
-    #[error("an unknown key")]
     UnknownKey,
     /// The table of a part lacks a key.
-    #[error("a missing key")]
     MissingKey,
     /// A value of another type or form, a number out of its range, or a key matrix without columns.
-    #[error("a bad value")]
     BadValue,
     /// More parts of one kind than a board can have.
-    #[error("too many parts")]
     TooManyParts,
     /// Two ROMs of one chip number, or two entries for one bank of RAM.
-    #[error("a chip twice")]
     DoubleChip,
     /// A line, a chain or a row's bit that the board lacks.
-    #[error("no such line on the board")]
     NoSuchLine,
     /// A clock or data line that is no output line, a column that is no input line, or a lamp at an
     /// input line.
-    #[error("a line of the wrong direction")]
     WrongDirection,
     /// Memory was refused, so nothing is said of the text.
-    #[error("no memory")]
     NoMemory,
 }
 
