@@ -5,8 +5,10 @@ import re
 import time
 
 from page_in_browser import DIGITS, ENTER, NOTICE, READY, SPEED, STATUS, WHOLE_STATUS, choose_example, told_of, until_ready
+from page_layout import SIDEWAYS, at_size
 from page_strip import STRIP
 from verdicts import comes, verdict
+from web_driver import Chromium
 
 NAME = "printing%20calculator"
 TITLE = "return document.getElementById('tour').hidden ? '-' : document.getElementById('tour-title').textContent"
@@ -18,6 +20,12 @@ PLACES = "return [...document.querySelectorAll('#tour-words .place')].map((each)
 CLICK = "document.querySelectorAll('#tour-words .place')[arguments[0]].click()"
 FOCUS = "document.querySelectorAll('#tour-words .place')[arguments[0]].focus()"
 IN_VIEW = "const { top, bottom } = document.getElementById('memory').getBoundingClientRect(); return bottom > 0 && top < innerHeight"
+RETURN = "const back = document.getElementById('tour-return'); return isShown(back) ? back.textContent : ''"
+STORY_IN_VIEW = "const { top, bottom } = document.getElementById('tour').getBoundingClientRect(); return top >= 0 && bottom < innerHeight"
+# How much of what a tab shows is above the bar of time.
+SHOWN_OF_TAB = """
+const shown = [...document.querySelectorAll("#texts [role=tabpanel]")].find(isShown).getBoundingClientRect();
+return document.getElementById("clock").getBoundingClientRect().top - shown.top"""
 REGISTER = "return document.getElementById(`value-${arguments[0]}`).textContent"
 
 
@@ -56,6 +64,30 @@ def check_turn(browser):
     comes(browser, "the wiring is in front", TAB, re.compile("^Wiring"))
     place(browser, "a turn")
     comes(browser, "the source is in front", TAB, re.compile("^Source"))
+
+
+def check_way_back(browser):
+    """From what stands below the story a button leads back to it, to the place where one was."""
+    browser.script("scrollTo(0, document.documentElement.scrollHeight)")
+    comes(browser, "a way back is offered", RETURN, "Back to the story")
+    browser.script("document.getElementById('tour-return').focus()")
+    browser.keys([ENTER])
+    comes(browser, "Enter on it leads back", STORY_IN_VIEW, True)
+    verdict("to the place that was used last", browser.script("return document.activeElement.textContent"), "a turn")
+    comes(browser, "and it is gone", RETURN, "")
+
+
+def check_phone(browser):
+    """On a phone the story is left for what it shows: that is in view, and a button leads back."""
+    at_size(browser, 390, 844, True)
+    for words in ("wiring", "a turn"):
+        place(browser, words)
+        comes(browser, f"on a phone {words} leaves the story", RETURN, "Back to the story")
+        verdict(f"for {words}", browser.script(SHOWN_OF_TAB) > 150, True)
+        verdict("nothing scrolls sideways", browser.script(SIDEWAYS), 0)
+        browser.script("document.getElementById('tour-return').click()")
+        comes(browser, f"and the way back from {words} leads to it", STORY_IN_VIEW, True)
+    browser.command("Emulation.clearDeviceMetricsOverride")
 
 
 def check_key(browser):
@@ -163,6 +195,9 @@ def check(browser, page, _folder, _mcs4):
     browser.script(SPEED, "real")
     check_sum(browser)
     check_turn(browser)
+    check_way_back(browser)
+    if isinstance(browser, Chromium):
+        check_phone(browser)
     check_key(browser)
     check_number(browser)
     check_paper(browser)

@@ -14,6 +14,10 @@ import { FIRST_PROGRAM, TOUR, TourWatch } from "./tour.js";
  *   act: (act: import("./story.js").Act) => Promise<string>, left: () => void }} TourCalls
  */
 
+const BACK_TO_STORY = "Back to the story";
+const BACK_TO_STEPS = "Back to the first program";
+/** What bars that stick may cover is not seen. */
+const BESIDE_BARS = "-60px 0px -100px";
 const LAST_DONE = "Done: that was the last step. Help has all instructions and lines.";
 
 export class TourView {
@@ -29,6 +33,12 @@ export class TourView {
     this.told = new Cell(block("tour-told"));
     this.put = button("tour-put");
     this.next = button("tour-next");
+    /** @type {HTMLButtonElement | null} the place that was used last */
+    this.used = null;
+    this.isInView = true;
+    this.back = button("tour-return");
+    onClick(this.back, () => this.comeBack());
+    new IntersectionObserver((seen) => this.scrolled(seen[seen.length - 1].isIntersecting), { rootMargin: BESIDE_BARS }).observe(this.root);
     for (const name of ["tour-begin", "first-program", "hello-program"]) onClick(button(name), () => this.begin());
     onClick(button("tour-close"), () => this.close());
     onClick(this.put, () => calls.put(this.watch.step.program));
@@ -52,6 +62,7 @@ export class TourView {
   close() {
     this.isOn = false;
     this.root.hidden = true;
+    this.scrolled(this.isInView);
     this.calls.left();
   }
 
@@ -81,8 +92,27 @@ export class TourView {
   nodeOf(part) {
     if (typeof part === "string") return part;
     const made = element("button", { type: "button", className: "place" }, part.words);
-    onClick(made, async () => this.told.set(await this.calls.act(part.act)));
+    onClick(made, async () => {
+      this.used = made;
+      this.told.set(await this.calls.act(part.act));
+    });
     return made;
+  }
+
+  /**
+   * The panel has come into view, or has left it: then a button leads back, in the clock's bar, which is always there.
+   * @param {boolean} isInView
+   */
+  scrolled(isInView) {
+    this.isInView = isInView;
+    this.back.textContent = this.isStory ? BACK_TO_STORY : BACK_TO_STEPS;
+    this.back.hidden = !this.isOn || isInView;
+  }
+
+  /** Back to where one was in the panel. */
+  comeBack() {
+    this.root.scrollIntoView();
+    (this.used && this.used.isConnected ? this.used : this.root).focus({ preventScroll: true });
   }
 
   showDone() {
