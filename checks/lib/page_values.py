@@ -175,7 +175,7 @@ def check_heat(browser):
     comes(browser, "and is warm for as long as is wanted", WARM, [])
     browser.script(CHOOSE, "heat-cycles", "1,000,000")
     lines_answered(browser, "poke ram.0.0x12 3")
-    comes(browser, "a cell gets warm as it changes", WARM, re.compile(r"^\['5 digit, .* SRC byte 12; changed once by 006 .*, line 6\), .* ago'\]$"))
+    comes(browser, "a cell gets warm as it changes", WARM, re.compile(r"^\['5 digit, .* SRC byte 12; changed once as seen while time runs, last seen by 006 .*, line 6\)'\]$"))
     browser.script(CHOOSE, "heat-cycles", "100")
     comes(browser, "and others where another stretch is chosen", WARM, [])
     browser.click("#run")

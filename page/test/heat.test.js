@@ -2,7 +2,7 @@
 import assert from "node:assert/strict";
 import { test } from "node:test";
 import { Cancelled } from "../src/bench/faults.js";
-import { PassingHeat, warmthOf, wordsOfHeat, wordsOfHeated, wordsOfPassing } from "../src/machine/heat.js";
+import { PassingHeat, warmthOf, wordsOfHeat, wordsOfHeated, wordsOfPassing, wordsOfSeen } from "../src/machine/heat.js";
 import { bytesOfSource, namesOfCharacters } from "../src/machine/ram_names.js";
 import { SourceMap } from "../src/machine/source_map.js";
 import { readWatched } from "../src/debug/watched.js";
@@ -142,6 +142,8 @@ test("five steps of warmth, and words", () => {
   assert.deepEqual([...warmthOf({ cycles: 5, cells: [{ ...HEAT.cells[0], ago: 0 }] }, "often").values()], [5]);
   assert.equal(wordsOfHeated(HEAT.cells[1], null), "100 times, last by 009, 1 cycle, 0.011 ms ago");
   assert.equal(wordsOfHeated({ ...HEAT.cells[2], count: 1, ago: 0 }, null), "once by the line poke c 1");
+  assert.equal(wordsOfSeen(HEAT.cells[1], null), "100 times as seen while time runs, last seen by 009");
+  assert.equal(wordsOfSeen({ ...HEAT.cells[2], count: 1 }, null), "once as seen while time runs, last seen by the line poke c 1");
   assert.equal(wordsOfHeat(HEAT, 2000, (place) => place.toUpperCase(), null), "In the last 1,000 cycles, 10.800 ms (no more is "
     + "remembered), 3 characters have changed: most often B, 100 times; last B, by 009, 1 cycle, 0.011 ms ago.");
   assert.equal(wordsOfHeat({ cycles: 9, cells: [] }, 9, String, null), "In the last 9 cycles, 0.097 ms, no character of RAM has changed.");

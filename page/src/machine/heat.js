@@ -89,9 +89,17 @@ function addTo(all, newer) {
  * @param {Heated} cell
  * @param {SourceMap | null} map
  */
-function lastOf({ ago, address, line }, map) {
-  const who = line ? `the line ${line}` : wordsOfPlace(hex(address, 3), map);
-  return ago === 0 ? `by ${who}` : `by ${who}, ${wordsOfCycles(ago)} ago`;
+function whoOf({ address, line }, map) {
+  return line ? `the line ${line}` : wordsOfPlace(hex(address, 3), map);
+}
+
+/**
+ * @param {Heated} cell
+ * @param {SourceMap | null} map
+ */
+function lastOf(cell, map) {
+  const who = whoOf(cell, map);
+  return cell.ago === 0 ? `by ${who}` : `by ${who}, ${wordsOfCycles(cell.ago)} ago`;
 }
 
 /** @param {number} count */
@@ -106,6 +114,15 @@ function times(count) {
  */
 export function wordsOfHeated(cell, map) {
   return `${times(cell.count)}${cell.count === 1 ? "" : ", last"} ${lastOf(cell, map)}`;
+}
+
+/**
+ * The same while time runs on: not each change is looked at, and none is told at once, so that it tells what was seen, and no time.
+ * @param {Heated} cell
+ * @param {SourceMap | null} map
+ */
+export function wordsOfSeen(cell, map) {
+  return `${times(cell.count)} as seen while time runs, last seen by ${whoOf(cell, map)}`;
 }
 
 /**

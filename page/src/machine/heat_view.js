@@ -3,7 +3,7 @@
 
 import { block, byId, field } from "../ui/dom.js";
 import { countOf } from "../bench/numbers.js";
-import { PassingHeat, warmthOf, wordsOfHeat, wordsOfHeated, wordsOfPassing } from "./heat.js";
+import { PassingHeat, warmthOf, wordsOfHeat, wordsOfHeated, wordsOfPassing, wordsOfSeen } from "./heat.js";
 
 /**
  * @typedef {import("../worker/heat.js").Heat} Heat
@@ -100,7 +100,7 @@ export class HeatView {
     if (performance.now() - this.drawn < DRAWN_TIME) return;
     this.drawn = performance.now();
     this.heat = null;
-    this.showCells(this.passing.heat);
+    this.showCells(this.passing.heat, wordsOfSeen);
     this.tell(wordsOfPassing(warmed, warmed.cycles >= cycles));
   }
 
@@ -151,14 +151,17 @@ export class HeatView {
    */
   show(heat, wanted) {
     this.tell(wordsOfHeat(heat, wanted, this.calls.nameOf, this.calls.map()));
-    this.showCells(heat);
+    this.showCells(heat, wordsOfHeated);
   }
 
-  /** @param {Heat} heat */
-  showCells(heat) {
+  /**
+   * @param {Heat} heat
+   * @param {(cell: import("../worker/heat.js").Heated, map: SourceMap | null) => string} wordsOf
+   */
+  showCells(heat, wordsOf) {
     const map = this.calls.map();
     const warmth = warmthOf(heat, /** @type {HeatKind} */ (this.kind.value));
     this.calls.show(new Map(heat.cells.map((cell) => (
-      [cell.place, { warmth: warmth.get(cell.place) || 0, words: `changed ${wordsOfHeated(cell, map)}` }]))));
+      [cell.place, { warmth: warmth.get(cell.place) || 0, words: `changed ${wordsOf(cell, map)}` }]))));
   }
 }
