@@ -2,7 +2,7 @@
 -- that come after others.
 use Rattle.std.proofs.Common.{◌≡◌, ◌⊎◌, inl, inr, ⊎_elim, ℕ, zero, suc, ◌+◌, ◌≤◌, ◌<◌, List, [], ◌∷◌, ◌++◌, length, take, refl, arith, sym, ◌∙◌, ap, subst, get_or, length-take}
 use Rattle.mcs_disk.specs.Calls.{DiskCall, WasRead, Wrote, Failed, Synced, Torn, put, bytes_after, clock_of, images_after, since_after}
-use Rattle.mcs_disk.specs.CallList.{writes_of}
+use Rattle.mcs_disk.specs.Moments.{writes_of}
 use Rattle.mcs_disk.specs.Disk.{DiskState, bytes_of, images_of, images_since, size_of, time_of}
 
 pub length-put : (at : ℕ) (from file : List ℕ) → length (put at from file) ≡ length file
@@ -87,6 +87,19 @@ longer start (call ∷ calls) t u c le (inl now) = inl now
 longer start (call ∷ calls) t u c le (inr past) =
     inr (omega (arith, le, past.0), longer start calls t u c le (past.1))
 
+-- a moment since its own clock is this moment: a failed call, which is no step of the clock, leaves what
+-- could be left before, too
+pub since_now : (start : List ℕ) (calls : List DiskCall) (c : List ℕ) → since_after start calls (clock_of calls) c → images_after start calls c
+since_now start [] c left = left
+since_now start (WasRead ∷ calls) c (inl now) = now
+since_now start (WasRead ∷ calls) c (inr past) = absurd (omega (arith, past.0))
+since_now start (Wrote at from ∷ calls) c (inl now) = now
+since_now start (Wrote at from ∷ calls) c (inr past) = absurd (omega (arith, past.0))
+since_now start (Failed at from n ∷ calls) c (inl now) = now
+since_now start (Failed at from n ∷ calls) c (inr past) = (c, since_now start calls c past.1, untorn at (length from) c)
+since_now start (Synced ∷ calls) c (inl now) = now
+since_now start (Synced ∷ calls) c (inr past) = absurd (omega (arith, past.0))
+
 pub since_sized : (start : List ℕ) (calls : List DiskCall) (t : ℕ) (c : List ℕ) → since_after start calls t c → length c ≡ length start
 since_sized start [] t c left = sized start [] c left
 since_sized start (call ∷ calls) t c (inl now) = sized start (call ∷ calls) c now
@@ -101,6 +114,8 @@ pub record IsLawful (disk : DiskState) : Type 0 where
   pub sized : (c : List ℕ) → images_of disk c → length c ≡ size_of disk
   -- this moment is one of those since an earlier time
   pub counts_now : (t : ℕ) (c : List ℕ) → images_of disk c → images_since t disk c
+  -- and the only one since its own clock
+  pub only_now : (c : List ℕ) → images_since (time_of disk) disk c → images_of disk c
   -- a moment since a later time is one since an earlier time
   pub longer : (t u : ℕ) (c : List ℕ) → t ≤ u → images_since u disk c → images_since t disk c
 
@@ -109,6 +124,7 @@ lawful disk = record {
   current = current disk.start disk.calls;
   sized = sized disk.start disk.calls;
   counts_now = counts_now disk.start disk.calls;
+  only_now = since_now disk.start disk.calls;
   longer = longer disk.start disk.calls;
 }
 
@@ -182,12 +198,10 @@ quiet_since start (Failed at from n ∷ more) calls t c q left = absurd q
 quiet_since start (Synced ∷ more) calls t c q (inl now) = counts_now start calls t c (subst (images_after start calls) (sym (now ∙ quiet_bytes start more calls q)) (current start calls))
 quiet_since start (Synced ∷ more) calls t c q (inr past) = quiet_since start more calls t c q past.1
 
-pub quiet_durable : (start : List ℕ) (more calls : List DiskCall) → Quiet more → ((c : List ℕ) → since_after start calls (clock_of calls) c → c ≡ bytes_after start calls)
-    → (c : List ℕ) → since_after start (more ++ calls) (clock_of (more ++ calls)) c → c ≡ bytes_after start (more ++ calls)
-quiet_durable start [] calls q held c left = held c left
-quiet_durable start (WasRead ∷ more) calls q held c (inl now) = quiet_durable start more calls q held c (counts_now start (more ++ calls) (clock_of (more ++ calls)) c now)
-quiet_durable start (WasRead ∷ more) calls q held c (inr past) = absurd (omega (arith, past.0))
-quiet_durable start (Wrote at from ∷ more) calls q held c left = absurd q
-quiet_durable start (Failed at from n ∷ more) calls q held c left = absurd q
-quiet_durable start (Synced ∷ more) calls q held c (inl now) = now
-quiet_durable start (Synced ∷ more) calls q held c (inr past) = absurd (omega (arith, past.0))
+pub quiet_durable : (start : List ℕ) (more calls : List DiskCall) → Quiet more → ((c : List ℕ) → images_after start calls c → c ≡ bytes_after start calls)
+    → (c : List ℕ) → images_after start (more ++ calls) c → c ≡ bytes_after start (more ++ calls)
+quiet_durable start [] calls q held c now = held c now
+quiet_durable start (WasRead ∷ more) calls q held c now = quiet_durable start more calls q held c now
+quiet_durable start (Wrote at from ∷ more) calls q held c now = absurd q
+quiet_durable start (Failed at from n ∷ more) calls q held c now = absurd q
+quiet_durable start (Synced ∷ more) calls q held c now = now

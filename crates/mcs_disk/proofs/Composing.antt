@@ -1,10 +1,11 @@
 -- Stretches of calls, one after another.
-use Rattle.std.proofs.Common.{◌≡◌, ◌⊎◌, inl, inr, ⊎_elim, ◌+◌, ◌≤◌, ℕ, List, [], ◌∷◌, ◌++◌, refl, arith, sym, ◌∙◌, ap, subst, append_assoc, length, min, Result, Ok, Err, IsErr}
+use Rattle.std.proofs.Common.{◌≡◌, ◌⊎◌, inl, inr, ⊎_elim, ◌+◌, ◌≤◌, ℕ, List, [], ◌∷◌, ◌++◌, refl, sym, ◌∙◌, ap, subst, append_assoc, length, min, Result, Ok, Err, IsErr}
 use Rattle.std.proofs.lemmas.Result.{on_ok_weaker}
-use Rattle.mcs_disk.specs.CallList.{CutShort, Makes, writes_of}
+use Rattle.mcs_disk.specs.CallList.{CutShort, Makes}
 use Rattle.mcs_disk.specs.Disk.{CountsFault, DiskState, IsLater, bytes_of, images_of, images_since, most_faults, size_of, time_of}
 use Rattle.mcs_disk.specs.Calls.{bytes_after, clock_of, images_after, since_after, DiskCall, Failed, Synced, WasRead, Wrote}
-use Rattle.mcs_disk.specs.Moments.{AddsNoImage, Changes, Either, LeavesOnly, ReadsOnly}
+use Rattle.mcs_disk.specs.Changes.{Changes, ReadsOnly}
+use Rattle.mcs_disk.specs.Moments.{AddsNoImage, Either, LeavesOnly, writes_of}
 use Rattle.mcs_disk.specs.PowerCut.{IsDurable}
 use Rattle.mcs_disk.proofs.CallLaws.{Quiet, clock_of-more, lawful, quiet, quiet_bytes, quiet_durable, quiet_images, quiet_since, since_before, since_more, since_sized}
 use Rattle.mcs_disk.proofs.Calling.{reads_write_nothing, syncs_write_nothing}
@@ -61,19 +62,15 @@ later_before old new x t c left =
 pub since_size : (disk : DiskState) (t : ℕ) (c : List ℕ) → images_since t disk c → length c ≡ size_of disk
 since_size disk t c left = since_sized disk.start disk.calls t c left
 
--- what is left by a cut now, of a durable disk
-pub durable_now : (disk : DiskState) → IsDurable disk → (c : List ℕ) → images_of disk c → c ≡ bytes_of disk
-durable_now disk durable c now = durable c ((lawful disk).counts_now (time_of disk) c now)
+-- what a cut since its own clock leaves of a durable disk
+pub durable_since : (disk : DiskState) → IsDurable disk → (c : List ℕ) → images_since (time_of disk) disk c → c ≡ bytes_of disk
+durable_since disk durable c left = durable c ((lawful disk).only_now c left)
 
 pub fresh_durable : (disk : DiskState) → disk.calls ≡ [] → IsDurable disk
-fresh_durable disk none = subst (λ (l : List DiskCall). (c : List ℕ) → since_after disk.start l (clock_of l) c → c ≡ bytes_after disk.start l) (sym none) (λ c left. left)
+fresh_durable disk none = subst (λ (l : List DiskCall). (c : List ℕ) → images_after disk.start l c → c ≡ bytes_after disk.start l) (sym none) (λ c now. now)
 
 pub synced_durable : (disk : DiskState) (calls : List DiskCall) → disk.calls ≡ Synced ∷ calls → IsDurable disk
-synced_durable disk calls made = subst (λ (l : List DiskCall). (c : List ℕ) → since_after disk.start l (clock_of l) c → c ≡ bytes_after disk.start l) (sym made) held
-  where
-    held : (c : List ℕ) → since_after disk.start (Synced ∷ calls) (clock_of (Synced ∷ calls)) c → c ≡ bytes_after disk.start (Synced ∷ calls)
-    held c (inl now) = now
-    held c (inr past) = absurd (omega (arith, past.0))
+synced_durable disk calls made = subst (λ (l : List DiskCall). (c : List ℕ) → images_after disk.start l c → c ≡ bytes_after disk.start l) (sym made) (λ c now. now)
 
 -- ---- calls that were made
 
@@ -92,13 +89,13 @@ makes_later plan old new (Err e) same made = let cut = cut_added plan old.calls 
 
 pub read_reads : {T E : Type 0} (old new : DiskState) (result : Result T E) → CountsFault old new (IsErr result) → Makes (WasRead ∷ []) old.calls new.calls result → ReadsOnly old new (IsErr result)
 read_reads old new result call made = record {
-  tells = call;
+  counts = call;
   rests = record { later = makes_later _ old new result call.start made; unwritten = reads_write_nothing old.calls new.calls result made };
 }
 
 pub sync_reads : {T E : Type 0} (old new : DiskState) (result : Result T E) → CountsFault old new (IsErr result) → Makes (Synced ∷ []) old.calls new.calls result → ReadsOnly old new (IsErr result)
 sync_reads old new result call made = record {
-  tells = call;
+  counts = call;
   rests = record { later = makes_later _ old new result call.start made; unwritten = syncs_write_nothing old.calls new.calls result made };
 }
 
@@ -125,16 +122,16 @@ pub rests_since : (old new : DiskState) → AddsNoImage old new → (t : ℕ) (c
 rests_since old new rests t c left = quiet_since old.start rests.later.added old.calls t c (none_written old new rests) (of_more (λ start calls. since_after start calls t c) old new rests.later left)
 
 pub rests_durable : (old new : DiskState) → AddsNoImage old new → IsDurable old → IsDurable new
-rests_durable old new rests held = to_more (λ start calls. (c : List ℕ) → since_after start calls (clock_of calls) c → c ≡ bytes_after start calls) old new rests.later
+rests_durable old new rests held = to_more (λ start calls. (c : List ℕ) → images_after start calls c → c ≡ bytes_after start calls) old new rests.later
     (quiet_durable old.start rests.later.added old.calls (none_written old new rests) held)
 
 pub reads_as : (old new : DiskState) (F G : Type 0) → (F → G) → (G → F) → ReadsOnly old new F → ReadsOnly old new G
-reads_as old new F G to from reads = record { tells = counts_as old new F G to from reads.tells; rests = reads.rests }
+reads_as old new F G to from reads = record { counts = counts_as old new F G to from reads.counts; rests = reads.rests }
 
 -- calls that only read, one after another, of which none of the first has failed
 pub reads_then : (old mid new : DiskState) (F G : Type 0) → ¬ F → ReadsOnly old mid F → ReadsOnly mid new G → ReadsOnly old new G
 reads_then old mid new F G none first second = record {
-  tells = counts_then old mid new F G none first.tells second.tells;
+  counts = counts_then old mid new F G none first.counts second.counts;
   rests = rests_then old mid new first.rests second.rests;
 }
 
@@ -158,5 +155,5 @@ changes_map steps old new P Q R S result before after change = record {
   after = on_ok_weaker result (λ (there : Q (bytes_of new)). after (bytes_of new) there) change.after;
   durable = change.durable;
   ticks = change.ticks;
-  moments = leaves_map old new (Either P Q) (Either R S) (λ c. ⊎_elim (λ p. inl (before c p)) (λ q. inr (after c q))) change.moments;
+  leaves = leaves_map old new (Either P Q) (Either R S) (λ c. ⊎_elim (λ p. inl (before c p)) (λ q. inr (after c q))) change.leaves;
 }

@@ -3,20 +3,12 @@
 use Rattle.std.specs.Prelude.{◌≡◌, ◌⊎◌, ℕ, ◌+◌, ◌≤◌, List, [], ◌∷◌, ◌++◌, Result, OnOk, OnErr}
 use Rattle.mcs_disk.specs.Calls.{DiskCall, WasRead, Wrote, Failed, Synced}
 
--- how many of these calls are writes
-abbrev pub writes_of : List DiskCall → ℕ
-writes_of [] = 0
-writes_of (WasRead ∷ calls) = writes_of calls
-writes_of (Wrote at from ∷ calls) = writes_of calls + 1
-writes_of (Failed at from now ∷ calls) = writes_of calls + 1
-writes_of (Synced ∷ calls) = writes_of calls
-
 -- how many of these calls are writes that no sync has followed
 abbrev pub unsynced : List DiskCall → ℕ
 unsynced [] = 0
 unsynced (WasRead ∷ calls) = unsynced calls
-unsynced (Wrote at from ∷ calls) = unsynced calls + 1
-unsynced (Failed at from now ∷ calls) = unsynced calls + 1
+unsynced (Wrote at bytes ∷ calls) = unsynced calls + 1
+unsynced (Failed at bytes given ∷ calls) = unsynced calls + 1
 unsynced (Synced ∷ calls) = 0
 
 -- After each of the calls that this stretch adds to the old ones, at most one write is not yet
@@ -27,10 +19,11 @@ pub record OneUnsynced (old new : List DiskCall) : Type 0 where
   pub each : (later sooner : List DiskCall) (call : DiskCall) → added ≡ later ++ call ∷ sooner
       → unsynced (call ∷ sooner ++ old) ≤ 1
 
--- what a call that failed adds: nothing, or, of a write, that any bytes may have come into its range
+-- what a call that failed adds: nothing, or, of a write, that any bytes may have come into its
+-- range
 abbrev pub FailureOf : DiskCall → List DiskCall → List DiskCall → Type 0
-FailureOf (Wrote at from) old new =
-    (new ≡ old) ⊎ ((now : List ℕ) × (new ≡ Failed at from now ∷ old))
+FailureOf (Wrote at bytes) old new =
+    (new ≡ old) ⊎ ((given : List ℕ) × (new ≡ Failed at bytes given ∷ old))
 FailureOf call old new = new ≡ old
 
 -- one of these calls failed, and those before it alone were made

@@ -1,6 +1,7 @@
--- What calls do to the bytes of a disk, and what a power cut may leave after them; lists of calls have
--- the newest first. (Our own choice: a device that writes in ranges and promises nothing before a
--- sync, as POSIX's read, write and fdatasync do of a file that was synced as it was opened.)
+-- What calls do to the bytes of a disk, and what a power cut may leave after them; lists of calls
+-- have the newest first. (Our own choice: a device that writes in ranges and promises nothing
+-- before a sync, as POSIX's read, write and fdatasync do of a file that was synced as it was
+-- opened.)
 use Rattle.std.specs.Prelude.{◌≡◌, ◌⊎◌, ℕ, zero, suc, ◌+◌, ◌≤◌, ◌<◌, List, [], ◌∷◌, length, take, drop, slice_index}
 
 -- a call on a disk, with its answer
@@ -9,8 +10,9 @@ pub data DiskCall : Type 0 where
   WasRead : DiskCall
   -- these bytes were written from this offset on
   Wrote : ℕ → List ℕ → DiskCall
-  -- a write of these bytes from this offset on failed, or was cut off: any bytes may have come into
-  -- its range, and these last ones are what a read gives there, where it gives others than before
+  -- A write of the first bytes from this offset on failed, or was cut off: any bytes may have come
+  -- into its range. The second bytes are those that a read gives from the offset on since then, in
+  -- the place of as many old ones; there are none where it gives what it gave before.
   Failed : ℕ → List ℕ → List ℕ → DiskCall
   -- all that the disk holds was made stable
   Synced : DiskCall
@@ -21,10 +23,10 @@ part at n file = take n (drop at file)
 
 -- these bytes in the place of what was there from this offset on
 abbrev pub put : ℕ → List ℕ → List ℕ → List ℕ
-put at from [] = []
+put at bytes [] = []
 put zero [] (y ∷ ys) = y ∷ ys
 put zero (x ∷ xs) (y ∷ ys) = x ∷ put zero xs ys
-put (suc at) from (y ∷ ys) = y ∷ put at from ys
+put (suc at) bytes (y ∷ ys) = y ∷ put at bytes ys
 
 -- new is old outside n bytes from this offset on, where it may hold any bytes
 pub record Torn (at n : ℕ) (old new : List ℕ) : Type 0 where
@@ -36,31 +38,33 @@ pub record Torn (at n : ℕ) (old new : List ℕ) : Type 0 where
 abbrev pub bytes_after : List ℕ → List DiskCall → List ℕ
 bytes_after start [] = start
 bytes_after start (WasRead ∷ calls) = bytes_after start calls
-bytes_after start (Wrote at from ∷ calls) = put at from (bytes_after start calls)
-bytes_after start (Failed at from now ∷ calls) =
-    put at (take (length from) now) (bytes_after start calls)
+bytes_after start (Wrote at bytes ∷ calls) = put at bytes (bytes_after start calls)
+bytes_after start (Failed at bytes given ∷ calls) =
+    put at (take (length bytes) given) (bytes_after start calls)
 bytes_after start (Synced ∷ calls) = bytes_after start calls
 
--- what a power cut after these calls may leave
+-- what a power cut after these calls may leave of a disk that held `start`: the images
 abbrev pub images_after : List ℕ → List DiskCall → List ℕ → Type 0
-images_after start [] c = c ≡ start
-images_after start (WasRead ∷ calls) c = images_after start calls c
-images_after start (Wrote at from ∷ calls) c =
-    (d : List ℕ) × images_after start calls d × Torn at (length from) d c
-images_after start (Failed at from now ∷ calls) c =
-    (d : List ℕ) × images_after start calls d × Torn at (length from) d c
-images_after start (Synced ∷ calls) c = c ≡ bytes_after start calls
+images_after start [] image = image ≡ start
+images_after start (WasRead ∷ calls) image = images_after start calls image
+images_after start (Wrote at bytes ∷ calls) image =
+    (before : List ℕ) × images_after start calls before × Torn at (length bytes) before image
+images_after start (Failed at bytes given ∷ calls) image =
+    (before : List ℕ) × images_after start calls before × Torn at (length bytes) before image
+images_after start (Synced ∷ calls) image = image ≡ bytes_after start calls
 
 -- the clock of a disk: how many of the calls on it have answered Ok
 abbrev pub clock_of : List DiskCall → ℕ
 clock_of [] = 0
 clock_of (WasRead ∷ calls) = clock_of calls + 1
-clock_of (Wrote at from ∷ calls) = clock_of calls + 1
-clock_of (Failed at from now ∷ calls) = clock_of calls
+clock_of (Wrote at bytes ∷ calls) = clock_of calls + 1
+clock_of (Failed at bytes given ∷ calls) = clock_of calls
 clock_of (Synced ∷ calls) = clock_of calls + 1
 
--- what a power cut after these calls, or when t or more of them had answered Ok, may leave
+-- what a power cut may leave that came after all of these calls, or after the older ones of them at
+-- a clock of that time or later
 abbrev pub since_after : List ℕ → List DiskCall → ℕ → List ℕ → Type 0
-since_after start [] t c = images_after start [] c
-since_after start (call ∷ calls) t c =
-    images_after start (call ∷ calls) c ⊎ ((t ≤ clock_of calls) × since_after start calls t c)
+since_after start [] time image = images_after start [] image
+since_after start (call ∷ calls) time image =
+    images_after start (call ∷ calls) image
+    ⊎ ((time ≤ clock_of calls) × since_after start calls time image)

@@ -1,5 +1,5 @@
--- A disk: what it held, and the calls on it since. All else that is said of it is a function of these.
--- (Our own choice.)
+-- A disk: what it held, and the calls on it since. All else that is said of it is a function of
+-- these. (Our own choice.)
 use Rattle.std.specs.Prelude.{◌≡◌, ◌↔◌, ℕ, ◌+◌, ◌-◌, ◌^◌, min, List, ◌++◌, length}
 use Rattle.mcs_disk.specs.Calls.{DiskCall, bytes_after, images_after, clock_of, since_after}
 pub use Rattle.mcs_disk.specs.Calls.{part, put, Torn}
@@ -8,13 +8,15 @@ pub use Rattle.mcs_disk.specs.Calls.{part, put, Torn}
 pub record DiskState : Type 1 where
   -- how many calls have failed; it stays at its greatest value
   pub faults : ℕ
-  -- the premise that the rest stands under
+  -- the premise on the device, which each kind of disk states for itself: where it holds, a read
+  -- gives `bytes_of`
   pub honest : Type 0
   -- what it held before any call, and a power cut would have left
   pub start : List ℕ
   -- the calls on it, the newest first
   pub calls : List DiskCall
 
+-- how many bytes it has, which no call changes
 abbrev pub size_of : DiskState → ℕ
 size_of disk = length disk.start
 
@@ -26,20 +28,20 @@ bytes_of disk = bytes_after disk.start disk.calls
 abbrev pub images_of : DiskState → List ℕ → Type 0
 images_of disk = images_after disk.start disk.calls
 
--- how many calls have answered Ok
+-- its clock: how many calls have answered Ok
 abbrev pub time_of : DiskState → ℕ
 time_of disk = clock_of disk.calls
 
 -- what a power cut at some moment since that time may have left, during a call or between two
 abbrev pub images_since : ℕ → DiskState → List ℕ → Type 0
-images_since t disk = since_after disk.start disk.calls t
+images_since time disk = since_after disk.start disk.calls time
 
 -- the greatest count of faults
 abbrev pub most_faults : ℕ
 most_faults = 2 ^ 64 - 1
 
--- what calls do on any disk: size and honesty stay, and the count of faults rises by one where a call
--- failed, and nowhere else
+-- what calls do on any disk: what it held at the start and its honesty stay, and the count of
+-- faults rises by one where a call failed, and nowhere else
 pub record CountsFault (old new : DiskState) (failed : Type 0) : Type 0 where
   pub start : new.start ≡ old.start
   pub honest : new.honest ↔ old.honest

@@ -21,8 +21,8 @@ FailsAfter disk n = Fails disk.fuse n
 abbrev pub inner_disk : FuseDisk → MemDisk
 inner_disk disk = disk.disk
 
--- a call on the disk: one that it fails is an error and is not passed on; another is answered Ok, by
--- the disk in it; and either way it is one of the calls that were to come
+-- a call on the disk: one that it fails is an error and is not passed on; another is answered Ok,
+-- by the disk in it; and either way it is one of the calls that were to come
 pub record FuseCall {T E : Type 0} (old new : FuseDisk) (result : Result T E) : Type 0 where
   pub fails : FailsAfter old 0 → IsErr result
   pub kept_back : FailsAfter old 0 → inner_disk new ≡ inner_disk old

@@ -1,5 +1,6 @@
 pub mod CallList
 pub mod Calls
+pub mod Changes
 pub mod Disk
 pub mod Fuse
 pub mod Moments

@@ -1,4 +1,5 @@
 -- What contracts see of the disks of this crate.
+use Rattle.std.specs.Prelude.{◌≡◌, ℕ, List, []}
 use Rattle.mcs_disk.specs.Disk.{DiskState}
 use Rattle.mcs_disk.specs.declared.fuse.FuseDisk.{FuseDisk}
 use Rattle.mcs_disk.specs.declared.memory.MemDisk.{MemDisk}
@@ -16,3 +17,10 @@ mem_disk_state disk = record {
 -- what they see of a disk with a fuse: the calls of the disk in it, and faults of its own
 abbrev pub fuse_disk_state : FuseDisk → DiskState
 fuse_disk_state disk = record (mem_disk_state disk.disk) { faults = disk.faults }
+
+-- an honest disk that holds these bytes, and that no call has reached
+pub record IsFresh (file : List ℕ) (disk : DiskState) : Type 0 where
+  pub honest : disk.honest
+  pub faults : disk.faults ≡ 0
+  pub start : disk.start ≡ file
+  pub calls : disk.calls ≡ []

@@ -1,7 +1,6 @@
 //! A disk in memory.
 ghost use Rattle.std.specs.Prelude.{◌≡◌, ◌+◌, ◌≤◌, [], ◌∷◌, length, replicate, IfOk, IsErr, IsOk, OnOk};
 ghost use Rattle.mcs_disk.specs.Disk.{CountsFault, bytes_of, part, size_of};
-ghost use Rattle.mcs_disk.specs.Moments.{IsFresh};
 ghost use Rattle.mcs_disk.specs.Calls.{bytes_after, WasRead, Wrote, Synced};
 ghost use Rattle.mcs_disk.specs.CallList.{Makes};
 
@@ -22,7 +21,7 @@ pub struct MemDisk {
 }
 
 impl MemDisk {
-    ghost use Rattle.mcs_disk.specs.States.{mem_disk_state};
+    ghost use Rattle.mcs_disk.specs.States.{IsFresh, mem_disk_state};
 
     /// A disk of `size` bytes of 0.
     pub fn new(alloc: Global, size: usize) -> Result<MemDisk, AllocError>

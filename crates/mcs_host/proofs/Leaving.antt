@@ -1,6 +1,6 @@
 -- What is found in a file that was left after some first part of its calls.
 use Rattle.std.proofs.Common.{◌≡◌, ◌⊎◌, inl, inr, ℕ, ◌≤◌, List, [], ◌∷◌, ◌++◌, sym, subst, arith}
-use Rattle.mcs_disk.specs.Calls.{DiskCall, WasRead, Wrote, Failed, Synced, images_after, clock_of, since_after}
+use Rattle.mcs_disk.specs.Calls.{DiskCall, Wrote, images_after, clock_of, since_after}
 use Rattle.mcs_disk.proofs.CallLaws.{clock_of-more, counts_now}
 use Rattle.mcs_host.specs.Ending.{IsCutInWrite}
 

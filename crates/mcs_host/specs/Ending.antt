@@ -27,16 +27,16 @@ pub record IsCutInWrite (calls cut : List DiskCall) : Type 0 where
   pub whole : calls ≡ Wrote at bytes ∷ before
   pub torn : cut ≡ Failed at bytes [] ∷ before
 
--- The file was left at a clock of t or later, after some first part of its calls. Lists of calls
--- have the newest first, so that part is the tail of the list; the newest call of it may be a write
--- that was cut off.
-pub record IsLeftSince (t : ℕ) (file : FileDisk) : Type 0 where
+-- The file was left at a clock of that time or later, after some first part of its calls. Lists of
+-- calls have the newest first, so that part is the tail of the list; the newest call of it may be a
+-- write that was cut off.
+pub record IsLeftSince (time : ℕ) (file : FileDisk) : Type 0 where
   pub never_made : List DiskCall
   pub made : List DiskCall
   pub all : file.on.history.calls ≡ never_made ++ made
   pub by_the_end : (file.on.end.calls_by_the_end ≡ made)
       ⊎ IsCutInWrite made file.on.end.calls_by_the_end
-  pub late : t ≤ clock_of file.on.end.calls_by_the_end
+  pub late : time ≤ clock_of file.on.end.calls_by_the_end
 
 -- what is found after the end is an image after the calls by then
 abbrev pub IsFoundAfterTheEnd : FileDisk → Type 0
@@ -45,11 +45,11 @@ IsFoundAfterTheEnd file =
 
 -- This file is like that one in all that any call has told of it, it was left after all of its
 -- calls, and these bytes are found in it.
-pub record IsFoundWith (c : List ℕ) (file like : FileDisk) : Type 0 where
+pub record IsFoundWith (image : List ℕ) (file like : FileDisk) : Type 0 where
   pub faults : like.on.faults ≡ file.on.faults
   pub bytes : like.on.bytes.items ≡ file.on.bytes.items
   pub start : like.on.history.start ≡ file.on.history.start
   pub calls : like.on.history.calls ≡ file.on.history.calls
   pub asked : as_host_file like ≡ as_host_file file
   pub by_the_end : like.on.end.calls_by_the_end ≡ file.on.history.calls
-  pub found : found_in like ≡ c
+  pub found : found_in like ≡ image

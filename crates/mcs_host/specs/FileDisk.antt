@@ -1,5 +1,5 @@
 -- What contracts see of a file of the host as a disk. (Our own choice.)
-use Rattle.std.specs.Prelude.{◌≡◌, ◌<ℤ◌, ℕ, ℤ, List, [], pos}
+use Rattle.std.specs.Prelude.{◌≡◌, ◌<ℤ◌, ℕ, ℤ, [], pos}
 use Rattle.mcs_disk.specs.Disk.{DiskState}
 use Rattle.mcs_disk.specs.Calls.{images_after}
 use Rattle.mcs_disk.specs.declared.call_record.CallRecord.{CallRecord}

@@ -12,7 +12,8 @@ pub data HostCall : Type 0 where
   Length : ℕ → Bool → HostCall
   -- the length was set to this number
   SetLength : ℕ → Bool → HostCall
-  -- as many bytes as these were read from this offset on, and where it was answered Ok they are these
+  -- as many bytes as these were read from this offset on, and where it was answered Ok they are
+  -- these
   ReadAt : ℕ → List ℕ → Bool → HostCall
   -- these bytes were written from this offset on
   WriteAt : ℕ → List ℕ → Bool → HostCall

@@ -25,8 +25,8 @@ folder_or_here (Some (b ∷ folder)) = b ∷ folder
 abbrev pub folder_of : List ℕ → List ℕ
 folder_of name = folder_or_here (path_parent name)
 
--- The folder of the file was synced, in which links lead to it: that of the name itself, if it is no
--- link, or else that of the name without links. Or it was not, and at one of these calls.
+-- The folder of the file was synced, in which links lead to it: that of the name itself, if it is
+-- no link, or else that of the name without links. Or it was not, and at one of these calls.
 abbrev pub FolderCalls : List ℕ → Bool → List HostCall → List HostCall → Type 0
 FolderCalls name ok before after =
     (after ≡ SyncFolder (folder_of name) ok ∷ IsLink name false ∷ before)

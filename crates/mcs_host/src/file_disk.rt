@@ -91,8 +91,8 @@ impl Disk for FileDisk {
         ensures noted { Makes (Wrote at from.now ∷ []) (as_disk self.old).calls
             (as_disk self.new).calls result }
         // Also where the write failed: it may have reached any part of the range.
-        ensures torn { (d c : List ℕ) → images_of (as_disk self.old) d
-            → Torn at (length from.now) d c → images_of (as_disk self.new) c }
+        ensures torn { (before image : List ℕ) → images_of (as_disk self.old) before
+            → Torn at (length from.now) before image → images_of (as_disk self.new) image }
         ensures asked { as_host_file self.new
             ≡ asked (WriteAt at from.now (is_ok result)) (as_host_file self.old) }
     {

@@ -140,8 +140,8 @@ impl<H: HostFile> Disk for HostDisk<H> {
         ensures noted { Makes (Wrote at from.now ∷ []) (host_disk self.old).calls
             (host_disk self.new).calls result }
         // Also where the write failed: it may have reached any part of the range.
-        ensures torn { (d c : List ℕ) → images_of (host_disk self.old) d
-            → Torn at (length from.now) d c → images_of (host_disk self.new) c }
+        ensures torn { (before image : List ℕ) → images_of (host_disk self.old) before
+            → Torn at (length from.now) before image → images_of (host_disk self.new) image }
         ensures asked { H.HostFile.state self.new.file
             ≡ asked (WriteAt at from.now (is_ok result)) (H.HostFile.state self.old.file) }
     {

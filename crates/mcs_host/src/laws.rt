@@ -8,21 +8,21 @@ ghost use Rattle.mcs_host.specs.FileDisk.{IsApart, IsOpened};
 
 use crate::FileDisk;
 
-/// Where an honest file was left after some first part of its calls, at a clock of t or later, what
-/// is found in it is an image since t.
+/// Where an honest file was left after some first part of its calls, at a clock of a time or later,
+/// what is found in it is an image since that time.
 pub fn what_is_found_is_an_image()
-    ensures { (t : ℕ) (file : FileDisk) → (as_disk file).honest
-        → IsLeftSince t file → images_since t (as_disk file) (found_in file) }
+    ensures { (time : ℕ) (file : FileDisk) → (as_disk file).honest
+        → IsLeftSince time file → images_since time (as_disk file) (found_in file) }
 {}
 
 /// The file that is opened again with what is found in it, and is honest from then on, is what a
-/// power cut since t leaves.
+/// power cut since that time leaves.
 pub fn opened_again_is_left_by_cut()
-    ensures { (t : ℕ) (file again : FileDisk) → (as_disk file).honest
-        → IsLeftSince t file → (as_disk again).honest
+    ensures { (time : ℕ) (file again : FileDisk) → (as_disk file).honest
+        → IsLeftSince time file → (as_disk again).honest
         → IsOpened (as_disk again)
         → bytes_of (as_disk again) ≡ found_in file
-        → IsLeftByCut t (as_disk file) (as_disk again) }
+        → IsLeftByCut time (as_disk file) (as_disk again) }
 {}
 
 /// A file is honest exactly where what is found in it after the end is an image after the calls by
@@ -35,8 +35,8 @@ pub fn honest_where_an_image_is_found()
 /// have left, there is an honest file of which all that was told is the same, and in which that
 /// image is found after the end. So no answer of a file refutes the premise.
 pub fn each_image_may_be_found()
-    ensures { (file : FileDisk) (c : List ℕ) → images_of (as_disk file) c
-        → (like : FileDisk) × (as_disk like).honest × IsFoundWith c file like }
+    ensures { (file : FileDisk) (image : List ℕ) → images_of (as_disk file) image
+        → (like : FileDisk) × (as_disk like).honest × IsFoundWith image file like }
 {}
 
 /// No file has the number of a standard stream, at any time: what the program writes to one of these

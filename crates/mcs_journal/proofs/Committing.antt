@@ -3,7 +3,7 @@ use Rattle.std.proofs.Common.{◌≡◌, ◌⊎◌, inl, inr, ◌+◌, ◌≤◌
 use Rattle.mcs_disk.specs.CallList.{CutShort, Makes}
 use Rattle.mcs_disk.specs.Calls.{Torn, bytes_after, clock_of, images_after, put, since_after, DiskCall, Failed, Synced, Wrote}
 use Rattle.mcs_disk.specs.Disk.{DiskState, size_of}
-use Rattle.mcs_disk.proofs.CallLaws.{current, length-bytes_after, put_torn, put_torn_less, untorn}
+use Rattle.mcs_disk.proofs.CallLaws.{current, length-bytes_after, put_torn, put_torn_less, since_now, untorn}
 use Rattle.mcs_disk.proofs.Kept.{part_put}
 use Rattle.mcs_journal.specs.Calls.{commit_calls}
 use Rattle.mcs_journal.specs.Writing.{Commits}
@@ -17,11 +17,11 @@ module _ (old : DiskState) (g : ℕ) (q : Type 0) (at : ℕ) (from : List ℕ) w
 
   -- one of before, or one of these with the range torn
   abbrev MayBe : List ℕ → Type 0
-  MayBe c = since_after old.start old.calls (clock_of old.calls) c ⊎ ((d : List ℕ) × images_after old.start old.calls d × Torn at (length from) d c)
+  MayBe c = images_after old.start old.calls c ⊎ ((d : List ℕ) × images_after old.start old.calls d × Torn at (length from) d c)
 
   since_write : (c : List ℕ) → since_after old.start (Wrote at from ∷ old.calls) (clock_of old.calls) c → MayBe c
   since_write c (inl now) = inr now
-  since_write c (inr past) = inl past.1
+  since_write c (inr past) = inl (since_now old.start old.calls c past.1)
 
   since_sync : (c : List ℕ) → since_after old.start (Synced ∷ Wrote at from ∷ old.calls) (clock_of old.calls) c → MayBe c
   since_sync c (inl now) = inr (bytes, current old.start old.calls, subst (Torn at (length from) bytes) (sym now) (put_torn at from bytes))
@@ -29,11 +29,10 @@ module _ (old : DiskState) (g : ℕ) (q : Type 0) (at : ℕ) (from : List ℕ) w
 
   since_failure : (now c : List ℕ) → since_after old.start (Failed at from now ∷ old.calls) (clock_of old.calls) c → MayBe c
   since_failure now c (inl here) = inr here
-  since_failure now c (inr past) = inl past.1
+  since_failure now c (inr past) = inl (since_now old.start old.calls c past.1)
 
-  durable : (c : List ℕ) → since_after old.start (Synced ∷ Wrote at from ∷ old.calls) (clock_of (Synced ∷ Wrote at from ∷ old.calls)) c → c ≡ put at from bytes
-  durable c (inl now) = now
-  durable c (inr past) = absurd (omega (arith, past.0))
+  durable : (c : List ℕ) → images_after old.start (Synced ∷ Wrote at from ∷ old.calls) c → c ≡ put at from bytes
+  durable c now = now
 
   -- both were answered
   committed : {T E : Type 0} (x : T) → at + length from ≤ size_of old → Commits {T = T} {E = E} at from old (left_with old.start (Synced ∷ Wrote at from ∷ old.calls)) (Ok x)
@@ -62,7 +61,7 @@ module _ (old : DiskState) (g : ℕ) (q : Type 0) (at : ℕ) (from : List ℕ) w
     durable = tt;
     ticks = tt;
     later = record { start = refl; added = []; all = refl };
-    each = λ c left. inl left;
+    each = λ c left. inl (since_now old.start old.calls c left);
   })
   failed {T = T} {E = E} e new (inr (inl (inr torn))) = subst (λ (l : List DiskCall). Commits {T = T} {E = E} at from old (left_with old.start l) (Err e)) (sym torn.1) (record {
     written = tt;

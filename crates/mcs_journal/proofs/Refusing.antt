@@ -17,7 +17,7 @@ counts_ok old new result device x is counts = counts_as old new (IsErrOf result 
 pub counts_err : {T E : Type 0} (old new : DiskState) (result : Result T E) (device fault : E) → result ≡ Err fault → CountsFault old new (IsErrOf result device) → CountsFault old new (fault ≡ device)
 counts_err old new result device fault is counts = counts_as old new (IsErrOf result device) (fault ≡ device) (λ failed. cc) (λ same. is ∙ ap Err same) counts
 
-pub refuses_create : (fault : CreateFault) (old new : DiskState) → AddsNoImage old new → (fault ≡ create_fault.NotBlank → IsBlank (size_of old) (bytes_of old) → ⊥) → RefusesCreate fault old new
+pub refuses_create : (fault : CreateFault) (old new : DiskState) → AddsNoImage old new → (fault ≡ create_fault.NotBlank → IsBlank old → ⊥) → RefusesCreate fault old new
 refuses_create create_fault.NotBlank old new rests not_blank = (not_blank refl, rests)
 refuses_create create_fault.Device old new rests not_blank = rests.later
 refuses_create create_fault.NoMemory old new rests not_blank = tt

@@ -3,9 +3,10 @@ use Rattle.std.proofs.Common.{◌≡◌, inl, ⊎_elim, ◌+◌, ℕ, List, leng
 use Rattle.std.proofs.lemmas.Result.{on_ok_weaker}
 use Rattle.mcs_disk.specs.Disk.{DiskState, Torn, part, bytes_of, time_of}
 use Rattle.mcs_disk.proofs.CallLaws.{untorn}
-use Rattle.mcs_disk.specs.Moments.{LeavesOnly, Changes, Either}
+use Rattle.mcs_disk.specs.Changes.{Changes}
+use Rattle.mcs_disk.specs.Moments.{LeavesOnly, Either}
 use Rattle.mcs_disk.specs.PowerCut.{IsDurable}
-use Rattle.mcs_disk.proofs.Composing.{leaves_then, durable_now}
+use Rattle.mcs_disk.proofs.Composing.{leaves_then}
 use Rattle.mcs_journal.specs.Writing.{Commits}
 
 -- a commit on a durable disk, each torn write of which has P
@@ -16,7 +17,7 @@ commit_leaves old new P at from result durable torn step = record {
   each = λ c left.
       ⊎_elim
       (λ past. torn c (subst (Torn at (length from) (bytes_of old)) (sym (durable c past)) (untorn at (length from) (bytes_of old))))
-      (λ now. torn c (subst (λ (f : List ℕ). Torn at (length from) f c) (durable_now old durable (now.0) (now.1)) (now.2)))
+      (λ now. torn c (subst (λ (f : List ℕ). Torn at (length from) f c) (durable (now.0) (now.1)) (now.2)))
       (step.each c left);
 }
 
@@ -33,5 +34,5 @@ module _ (old mid : DiskState) (Before After : List ℕ → Type 0) (at : ℕ) (
     after = on_ok_weaker result (λ (here : part place (length last) (bytes_of new) ≡ last). done here second.outside) second.written;
     durable = second.durable;
     ticks = on_ok_weaker result (λ (two : time_of new ≡ time_of mid + 2). omega (arith, two, first.ticks)) second.ticks;
-    moments = leaves_then old mid new (Either Before After) (first_step (Ok x) first) (commit_leaves mid new (Either Before After) place last result first.durable either_way second);
+    leaves = leaves_then old mid new (Either Before After) (first_step (Ok x) first) (commit_leaves mid new (Either Before After) place last result first.durable either_way second);
   }

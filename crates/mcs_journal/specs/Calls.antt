@@ -1,5 +1,5 @@
--- Which calls each call of a store makes on its disk. Lists of calls have the newest first. (Our own
--- choice.)
+-- Which calls each call of a store makes on its disk. Lists of calls have the newest first. (Our
+-- own choice.)
 use Rattle.std.specs.Prelude.{◌≡◌, ◌⊎◌, ◌+◌, ◌*◌, ℕ, List, [], ◌∷◌, ◌++◌, length, replicate, Result}
 use Rattle.mcs_disk.specs.CallList.{Makes}
 use Rattle.mcs_disk.specs.Calls.{DiskCall, Synced, WasRead, Wrote}
@@ -13,7 +13,7 @@ use Rattle.mcs_journal.specs.declared.slot.Slot.TheVariants.{A}
 
 -- a write of these bytes from this offset on, and a sync
 abbrev pub commit_calls : ℕ → List ℕ → List DiskCall
-commit_calls at from = Synced ∷ Wrote at from ∷ []
+commit_calls at bytes = Synced ∷ Wrote at bytes ∷ []
 
 -- that many reads
 abbrev pub many_reads : ℕ → List DiskCall
@@ -40,8 +40,8 @@ replace_calls slot area =
 abbrev pub create_calls : List ℕ → List DiskCall
 create_calls area = commit_calls 0 FIRST_HEADER ++ commit_calls (start_of A) area
 
--- `open`, where it finds that many records: a sync, a read of the header, two of the snapshot, three
--- of each record, and one of the commit byte that ends the log
+-- `open`, where it finds that many records: a sync, a read of the header, two of the snapshot,
+-- three of each record, and one of the commit byte that ends the log
 abbrev pub open_calls : ℕ → List DiskCall
 open_calls records = many_reads (4 + 3 * records) ++ Synced ∷ []
 

@@ -1,6 +1,6 @@
 -- What a session file holds: a snapshot and the records after it. (Our own choice; the layout is
 -- told in docs/FORMAT.md, its sizes are the constants of src/format.rt.)
-use Rattle.std.specs.Prelude.{◌≡◌, ◌≢◌, ◌⊎◌, ◌==◌, ℕ, ◌+◌, ◌/◌, ◌%◌, ◌≤◌, List, [], ◌∷◌, ◌++◌, length, slice_index, if◌then◌else◌}
+use Rattle.std.specs.Prelude.{◌≡◌, ◌≢◌, ◌⊎◌, ◌==◌, Bool, nat_le, ℕ, ◌+◌, ◌/◌, ◌%◌, ◌≤◌, List, [], ◌∷◌, ◌++◌, length, slice_index, if◌then◌else◌}
 use Rattle.mcs_disk.specs.Disk.{DiskState, bytes_of, part, size_of}
 use Rattle.mcs_journal.specs.declared.format.TheConstants.{AREA_SIZE, FILE_SIZE, FIRST_SLOT, LOG_SIZE, MOST_RECORD, MOST_SNAPSHOT, NAME, SECOND_SLOT, ZEROS}
 use Rattle.mcs_journal.specs.declared.slot.Slot.{Slot}
@@ -71,10 +71,14 @@ ContentsAreUnique =
     (file snap other : List ℕ) (records more : List (List ℕ))
     → Holds file snap records → Holds file other more → (snap ≡ other) × (records ≡ more)
 
--- after `used` bytes of frames a record of `len` bytes has room: its commit byte, its length, its bytes,
--- and one more commit byte after it
+-- after `used` bytes of frames a record of this size has room: its commit byte, its length, its
+-- bytes, and one more commit byte after it
 abbrev pub HasRoom : ℕ → ℕ → Type 0
-HasRoom used len = used + 3 + len + 1 ≤ LOG_SIZE
+HasRoom used size = used + 3 + size + 1 ≤ LOG_SIZE
+
+-- whether it has
+abbrev pub has_room : ℕ → ℕ → Bool
+has_room used size = nat_le (used + 3 + size + 1) LOG_SIZE
 
 -- not a session file: its size or its name is another
 abbrev pub IsNoSession : DiskState → Type 0
@@ -85,5 +89,5 @@ sixteen_zeros = 0 ∷ 0 ∷ 0 ∷ 0 ∷ 0 ∷ 0 ∷ 0 ∷ 0 ∷ 0 ∷ 0 ∷ 0 �
 
 -- a disk that a session may be made on: it has the size of a session file, and its first 16 bytes
 -- are 0
-abbrev pub IsBlank : ℕ → List ℕ → Type 0
-IsBlank size file = (size ≡ FILE_SIZE) × (part 0 16 file ≡ sixteen_zeros)
+abbrev pub IsBlank : DiskState → Type 0
+IsBlank disk = (size_of disk ≡ FILE_SIZE) × (part 0 16 (bytes_of disk) ≡ sixteen_zeros)

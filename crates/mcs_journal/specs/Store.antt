@@ -27,8 +27,8 @@ pub record IsIntactStore (disk : DiskState) (slot : Slot) (used : ℕ) : Type 0 
   pub count : used ≡ length (frames_of records)
 
 -- the invariant of a store: its disk has the size of a session file, the log has room for one more
--- commit byte, the buffer takes a snapshot area and a commit byte, an open store has synced each write
--- on its disk, and on an honest disk it is intact
+-- commit byte, the buffer takes a snapshot area and a commit byte, an open store has synced each
+-- write on its disk, and on an honest disk it is intact
 pub record IsStore (disk : DiskState) (live : Bool) (slot : Slot) (used : ℕ) (buffer : List ℕ)
     : Type 0 where
   pub disk_size : size_of disk ≡ FILE_SIZE

@@ -1,6 +1,6 @@
 -- What `create` and `open` answer, by what the disk holds. (Our own choice.)
 use Rattle.std.specs.Prelude.{◌≡◌, ◌+◌, ℕ, List, []}
-use Rattle.mcs_disk.specs.Disk.{DiskState, bytes_of, size_of, time_of, IsLater}
+use Rattle.mcs_disk.specs.Disk.{DiskState, bytes_of, time_of, IsLater}
 use Rattle.mcs_disk.specs.Moments.{AddsNoImage}
 use Rattle.mcs_disk.specs.PowerCut.{IsDurable}
 use Rattle.mcs_journal.specs.File.{Holds, IsBlank, IsNoSession}
@@ -28,14 +28,14 @@ pub record Opens (old new : DiskState) (snap : List ℕ) (records : List (List �
 
 -- what a refusal of `create` says of the disk, and of what it did there
 abbrev pub RefusesCreate : CreateFault → DiskState → DiskState → Type 0
-RefusesCreate create_fault.NotBlank old new = ¬ (IsBlank (size_of old) (bytes_of old)) × AddsNoImage old new
+RefusesCreate create_fault.NotBlank old new = ¬ (IsBlank old) × AddsNoImage old new
 RefusesCreate create_fault.Device old new = IsLater old new
 RefusesCreate create_fault.NoMemory old new = Unit {0}
 
 -- the disk was blank, and now, five steps later, every image holds this snapshot and no records
 pub record Creates (old new : DiskState) (snap : List ℕ) : Type 0 where
-  pub blank : IsBlank (size_of old) (bytes_of old)
+  pub blank : IsBlank old
   pub holds : Holds (bytes_of new) snap []
   pub durable : IsDurable new
   pub ticks : time_of new ≡ time_of old + 5
-  pub moments : IsLater old new
+  pub later : IsLater old new

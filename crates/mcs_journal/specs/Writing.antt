@@ -51,15 +51,15 @@ pub record IsSnapshot (file : List ℕ) (start : ℕ) (snap : List ℕ) : Type 0
   pub snap_length : part start 4 file ≡ be32 (length snap)
   pub snap_bytes : part (start + 4) (length snap) file ≡ snap
 
--- A write of these bytes, and a sync. At any moment since it began an image is one of before, or one of
--- these with the written range torn.
-pub record Commits {T E : Type 0} (at : ℕ) (from : List ℕ) (old new : DiskState)
+-- A write of these bytes, and a sync. At any moment since it began an image is one of before, or
+-- one of these with the written range torn.
+pub record Commits {T E : Type 0} (at : ℕ) (bytes : List ℕ) (old new : DiskState)
     (result : Result T E) : Type 0 where
-  pub written : OnOk result (part at (length from) (bytes_of new) ≡ from)
-  pub outside : Torn at (length from) (bytes_of old) (bytes_of new)
+  pub written : OnOk result (part at (length bytes) (bytes_of new) ≡ bytes)
+  pub outside : Torn at (length bytes) (bytes_of old) (bytes_of new)
   pub durable : OnOk result (IsDurable new)
   pub ticks : OnOk result (time_of new ≡ time_of old + 2)
   pub later : IsLater old new
-  pub each : (c : List ℕ) → images_since (time_of old) new c
-      → images_since (time_of old) old c
-      ⊎ ((d : List ℕ) × images_of old d × Torn at (length from) d c)
+  pub each : (image : List ℕ) → images_since (time_of old) new image
+      → images_of old image
+      ⊎ ((before : List ℕ) × images_of old before × Torn at (length bytes) before image)

@@ -1,7 +1,7 @@
 //! Reads the contents of a disk: its snapshot and records. Nothing here writes.
 ghost use Rattle.std.specs.Prelude.{◌≡◌, ◌≢◌, ◌≤◌, ◌<◌, ◌+◌, ◌*◌, ◌^◌, List, [], ◌∷◌, ◌++◌, ℕ, length, slice_index, IfOk, IfSome, IfNone, OnOk, OnErr, IsErr, IsErrOf};
 ghost use Rattle.mcs_disk.specs.Disk.{part, bytes_of, size_of, time_of};
-ghost use Rattle.mcs_disk.specs.Moments.{ReadsOnly};
+ghost use Rattle.mcs_disk.specs.Changes.{ReadsOnly};
 ghost use Rattle.mcs_disk.specs.PowerCut.{IsDurable};
 ghost use Rattle.mcs_journal.specs.declared.format.TheConstants.{FILE_SIZE};
 ghost use Rattle.mcs_journal.specs.File.{Holds, IsLog, slot_of, frames_of};

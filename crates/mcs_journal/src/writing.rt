@@ -3,7 +3,7 @@
 //! disk before the bytes that it speaks of.
 ghost use Rattle.std.specs.Prelude.{◌≡◌, ◌⊎◌, ◌≤◌, ◌+◌, List, [], ◌∷◌, ◌++◌, ℕ, length, take, slice_index, OnOk, IsErr, IsErrOf};
 ghost use Rattle.mcs_disk.specs.Disk.{CountsFault, bytes_of, size_of, time_of, IsLater};
-ghost use Rattle.mcs_disk.specs.Moments.{Changes, ReadsOnly};
+ghost use Rattle.mcs_disk.specs.Changes.{Changes, ReadsOnly};
 ghost use Rattle.mcs_disk.specs.PowerCut.{IsDurable};
 ghost use Rattle.mcs_journal.specs.declared.format.TheConstants.{FILE_SIZE, MOST_RECORD, MOST_SNAPSHOT, BUFFER_SIZE};
 ghost use Rattle.mcs_journal.specs.File.{Holds, IsBlank, IsRecord, be16, slot_of};
@@ -129,9 +129,9 @@ pub fn check_blank<D: Disk>(disk: &mut D) -> Result<(), CreateFault>
     ensures ticks { (D.state disk.old).honest
         → OnOk result (time_of (D.state disk.new) ≡ time_of (D.state disk.old) + 1) }
     ensures blank { (D.state disk.old).honest
-        → OnOk result (IsBlank (size_of (D.state disk.old)) (bytes_of (D.state disk.old))) }
+        → OnOk result (IsBlank (D.state disk.old)) }
     ensures not_blank { (D.state disk.old).honest → IsErrOf result CreateFault.NotBlank
-        → IsBlank (size_of (D.state disk.old)) (bytes_of (D.state disk.old)) → ⊥ }
+        → IsBlank (D.state disk.old) → ⊥ }
     ensures no_memory { IsErrOf result CreateFault.NoMemory → ⊥ }
 {
     let mut header = [0u8; HEADER_SIZE];

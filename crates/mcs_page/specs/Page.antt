@@ -4,8 +4,7 @@ use Rattle.mcs_disk.specs.Disk.{DiskState, bytes_of, size_of}
 use Rattle.mcs_journal.specs.declared.fault.OpenFault.{OpenFault}
 use Rattle.mcs_journal.specs.declared.fault.OpenFault.TheVariants as open_fault
 use Rattle.mcs_model.specs.BenchState.{BenchState, new_bench_state}
-use Rattle.mcs_disk.specs.Moments.{IsFresh}
-use Rattle.mcs_disk.specs.States.{mem_disk_state}
+use Rattle.mcs_disk.specs.States.{IsFresh, mem_disk_state}
 use Rattle.mcs_disk.specs.declared.memory.MemDisk.{MemDisk}
 use Rattle.mcs_page.specs.declared.fault.ServeFault.{ServeFault}
 use Rattle.mcs_page.specs.declared.fault.ServeFault.TheVariants.{Refused, NoRoom}

@@ -1,8 +1,7 @@
 //! Sessions on disks in memory, from the bytes of a file and back.
 ghost use Rattle.std.specs.Prelude.{◌≡◌, length, IfErr, IfOk, IsTrue};
 ghost use Rattle.mcs_disk.specs.Disk.{bytes_of, size_of};
-ghost use Rattle.mcs_disk.specs.Moments.{IsFresh};
-ghost use Rattle.mcs_disk.specs.States.{mem_disk_state};
+ghost use Rattle.mcs_disk.specs.States.{IsFresh, mem_disk_state};
 ghost use Rattle.mcs_page.specs.Page.{IsFileRefused, ResumesSession, SettlesTo};
 
 use mcs_disk::MemDisk;

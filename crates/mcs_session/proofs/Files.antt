@@ -1,7 +1,7 @@
 -- What a session's disk stands for when it is made and opened.
 use Rattle.std.proofs.Common.{◌≡◌, inl, inr, ⊎_elim, Bool, true, false, None, ap, List, [], ◌∷◌, ℕ, sym, ◌∙◌, subst, refl, arith}
 use Rattle.mcs_disk.proofs.CallLaws.{lawful, size_of-bytes}
-use Rattle.mcs_disk.specs.Disk.{DiskState, bytes_of, time_of, images_since}
+use Rattle.mcs_disk.specs.Disk.{DiskState, bytes_of, time_of, images_of}
 use Rattle.mcs_disk.specs.Moments.{AddsNoImage, Either, LeavesOnly}
 use Rattle.mcs_disk.specs.PowerCut.{IsDurable}
 use Rattle.mcs_journal.specs.StoreCalls.{Creates, Opens, RefusesOpen}
@@ -60,7 +60,7 @@ empty_held file s held = record { state = s; stands = stands_new file held.snap 
 pub created : (old new : DiskState) (snap : List ℕ) (s : BenchState) → SpellsState snap s → s ≡ new_bench_state → Creates old new snap → CreatesSession old new
 created old new snap s spells is made =
     let stands : StandsFor (bytes_of new) new_bench_state = subst (λ (t : BenchState). StandsFor (bytes_of new) t) is (stands_new (bytes_of new) snap s spells made.holds) in
-    record { blank = made.blank; stands = stands; at = at_of new new_bench_state made.durable stands; ticks = made.ticks; moments = made.moments }
+    record { blank = made.blank; stands = at_of new new_bench_state made.durable stands; ticks = made.ticks; later = made.later }
 
 pub recorded_opened : (old new : DiskState) (snap : List ℕ) (records : List (List ℕ)) (cycles : ℕ) (s : BenchState) → Opens old new snap records → IsReplayed false snap records cycles s → IsRecorded new cycles s
 recorded_opened old new snap records cycles s opened replayed =
@@ -75,19 +75,19 @@ held_on old new snap records opened = subst (λ (f : List ℕ). Holds f snap rec
 rests_may : (old new : DiskState) (s : BenchState) → AddsNoImage old new → MayMigrate old new s
 rests_may old new s rests = record {
   later = rests.later;
-  each = λ c left. inl (rests_since old new rests (time_of old) c left);
+  each = λ c left. inl ((lawful old).only_now c (rests_since old new rests (time_of old) c left));
 }
 
 -- a file of the last version
 pub opened_session : (old new : DiskState) (snap : List ℕ) (records : List (List ℕ)) (cycles : ℕ) (s : BenchState) → Opens old new snap records → IsReplayed false snap records cycles s → OpensSession old new s
 opened_session old new snap records cycles s opened replayed = record {
-  stands = inl (stands_by snap records s replayed.stand (bytes_of old) opened.holds);
-  at = at_of new s opened.durable (stands_by snap records s replayed.stand (bytes_of new) (held_on old new snap records opened));
+  stood = inl (stands_by snap records s replayed.stand (bytes_of old) opened.holds);
+  stands = at_of new s opened.durable (stands_by snap records s replayed.stand (bytes_of new) (held_on old new snap records opened));
 }
 
 pub rested_session : (old new : DiskState) (snap : List ℕ) (records : List (List ℕ)) (cycles : ℕ) (s : BenchState) → Opens old new snap records → IsReplayed false snap records cycles s → MigratesSession old new s
 rested_session old new snap records cycles s opened replayed = record {
-  moments = rests_may old new s opened.rests;
+  leaves = rests_may old new s opened.rests;
   rests = λ _. opened.rests;
   migrated = λ version_1. absurd (not_both snap replayed.stand.start version_1.stand.start replayed.stand.snapshot (subst (λ (x : List ℕ). SpellsState1 x version_1.stand.start) (same_snap _ _ _ _ _ version_1.holds opened.holds) version_1.stand.snapshot));
 }
@@ -148,23 +148,23 @@ holds_state file s held = stands_new file held.snap s held.spells held.holds
 migrates : (old mid new : DiskState) (snap : List ℕ) (records : List (List ℕ)) (s : BenchState) → Opens old mid snap records → RecordsStandFor true snap records s
     → LeavesOnly mid new (Either (λ c. Holds c snap records) (λ c. HoldsState c s)) → MayMigrate old new s
 migrates old mid new snap records s opened stand moments =
-    leaves_then old mid new (Either (images_since (time_of old) old) (λ file. StandsByEither file s)) (rests_may old mid s opened.rests)
-    (leaves_map mid new (Either (λ c. Holds c snap records) (λ c. HoldsState c s)) (Either (images_since (time_of old) old) (λ file. StandsByEither file s))
+    leaves_then old mid new (Either (images_of old) (λ file. StandsByEither file s)) (rests_may old mid s opened.rests)
+    (leaves_map mid new (Either (λ c. Holds c snap records) (λ c. HoldsState c s)) (Either (images_of old) (λ file. StandsByEither file s))
     (λ c. ⊎_elim (λ there. inr (inr (by_first c snap records s there stand))) (λ here. inr (inl (holds_state c s here)))) moments)
 
 -- a file of version 1, whose lifted state is the only thing on the disk
 lifted_session : (old mid new : DiskState) (snap : List ℕ) (records : List (List ℕ)) (cycles : ℕ) (s : BenchState) → Opens old mid snap records → IsReplayed true snap records cycles s
     → HoldsState (bytes_of new) s → IsDurable new → OpensSession old new s
 lifted_session old mid new snap records cycles s opened replayed held durable = record {
-  stands = inr (by_first (bytes_of old) snap records s opened.holds replayed.stand);
-  at = at_of new s durable (holds_state (bytes_of new) s held);
+  stood = inr (by_first (bytes_of old) snap records s opened.holds replayed.stand);
+  stands = at_of new s durable (holds_state (bytes_of new) s held);
 }
 
 -- and what was done to it
 pub migrated_session : (old mid new : DiskState) (snap : List ℕ) (records : List (List ℕ)) (cycles : ℕ) (s : BenchState) → Opens old mid snap records → IsReplayed true snap records cycles s
     → LeavesOnly mid new (Either (λ c. Holds c snap records) (λ c. HoldsState c s)) → HoldsState (bytes_of new) s → MigratesSession old new s
 migrated_session old mid new snap records cycles s opened replayed moments held = record {
-  moments = migrates old mid new snap records s opened replayed.stand moments;
+  leaves = migrates old mid new snap records s opened replayed.stand moments;
   rests = λ last. absurd (of_last last);
   migrated = λ _. held;
 }
@@ -177,7 +177,7 @@ pub fails_migrating : (old mid new : DiskState) (snap : List ℕ) (records : Lis
 fails_migrating old mid new snap records cycles s opened replayed moments = record {
   state = s;
   stands = by_first (bytes_of old) snap records s opened.holds replayed.stand;
-  moments = migrates old mid new snap records s opened replayed.stand moments;
+  leaves = migrates old mid new snap records s opened replayed.stand moments;
 }
 
 -- ---- what `open` refuses
@@ -239,7 +239,7 @@ pub migrated_by : (v : Bool) (old mid new : DiskState) (snap : List ℕ) (record
     → (v ≡ false → MigratesSession old mid s → MigratesSession old new s) → (v ≡ true → ReplacedContents mid new snap records s) → MigratesSession old new s
 migrated_by false old mid new snap records cycles s opened replayed same replaced = same refl (rested_session old mid snap records cycles s opened replayed)
 migrated_by true old mid new snap records cycles s opened replayed same replaced =
-    let now = replaced refl in migrated_session old mid new snap records cycles s opened replayed now.moments now.held
+    let now = replaced refl in migrated_session old mid new snap records cycles s opened replayed now.leaves now.held
 
 pub failed_by : (v : Bool) (old mid new : DiskState) (snap : List ℕ) (records : List (List ℕ)) (cycles : ℕ) (s : BenchState) → v ≡ true → Opens old mid snap records → IsReplayed v snap records cycles s
     → MayReplaceContents mid new snap records s → FailsMigrating old new
@@ -270,18 +270,18 @@ stays_first old new s u moments same each image left = ⊎_elim (λ before. inr 
 pub opens_first : (old new : DiskState) (s u : BenchState) → DiskStandsForLifted old s → OpensSession old new u → MigratesSession old new u
     → (u ≡ s) × (HoldsState (bytes_of new) s × DiskStandsSince (time_of old) new s)
 opens_first old new s u each opens does =
-    let here : StandsForLifted (bytes_of old) s = each (bytes_of old) ((lawful old).counts_now (time_of old) (bytes_of old) (lawful old).current) in
-    let same : u ≡ s = one_either (bytes_of old) u s opens.stands (inr here) in
-    (same, (subst (HoldsState (bytes_of new)) same (does.migrated (subst (StandsForLifted (bytes_of old)) (sym same) here)), stays_first old new s u does.moments same each))
+    let here : StandsForLifted (bytes_of old) s = each (bytes_of old) (lawful old).current in
+    let same : u ≡ s = one_either (bytes_of old) u s opens.stood (inr here) in
+    (same, (subst (HoldsState (bytes_of new)) same (does.migrated (subst (StandsForLifted (bytes_of old)) (sym same) here)), stays_first old new s u does.leaves same each))
 
 fails_first : (old new : DiskState) (s : BenchState) → DiskStandsForLifted old s → FailsMigrating old new → DiskStandsSince (time_of old) new s
 fails_first old new s each fails =
-    let here : StandsForLifted (bytes_of old) s = each (bytes_of old) ((lawful old).counts_now (time_of old) (bytes_of old) (lawful old).current) in
-    stays_first old new s fails.state fails.moments (one_first (bytes_of old) fails.state s fails.stands here) each
+    let here : StandsForLifted (bytes_of old) s = each (bytes_of old) (lawful old).current in
+    stays_first old new s fails.state fails.leaves (one_first (bytes_of old) fails.state s fails.stands here) each
 
 -- what a refusal left, for whatever reason, is what was there or what stands for the same state
 rests_first : (old new : DiskState) (s : BenchState) → DiskStandsForLifted old s → AddsNoImage old new → DiskStandsSince (time_of old) new s
-rests_first old new s each rests image left = inr (each image (rests_since old new rests (time_of old) image left))
+rests_first old new s each rests image left = inr (each image ((lawful old).only_now image (rests_since old new rests (time_of old) image left)))
 
 pub refused_first : (fault : OpenFault) (old new : DiskState) (s : BenchState) → DiskStandsForLifted old s → RefusalLeaves fault old new → DiskStandsSince (time_of old) new s
 refused_first NotASession old new s each rests = rests_first old new s each rests

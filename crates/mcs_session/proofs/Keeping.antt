@@ -1,10 +1,10 @@
 -- What a power cut leaves of two runs, one after the other.
-use Rattle.std.proofs.Common.{◌≡◌, inl, inr, ◌≤◌, ⊎_elim, ℕ, Bool, IsTrue, List, [], ◌∷◌, ◌++◌, sym, ap, ◌∙◌, refl, subst, arith}
+use Rattle.std.proofs.Common.{◌≡◌, inl, inr, ◌≤◌, ⊎_elim, ℕ, List, [], ◌∷◌, ◌++◌, append_assoc, sym, ap, ◌∙◌, refl, subst, arith}
 use Rattle.std.proofs.lemmas.Bool.{cases_lt}
 use Rattle.mcs_disk.proofs.CallLaws.{lawful}
-use Rattle.mcs_disk.specs.Disk.{CountsFault, DiskState, IsLater, bytes_of, time_of, images_since}
+use Rattle.mcs_disk.specs.Disk.{DiskState, IsLater, bytes_of, time_of, images_since}
 use Rattle.mcs_disk.specs.Calls.{DiskCall, bytes_after, clock_of, since_after}
-use Rattle.mcs_disk.proofs.Composing.{counts_then, later_then, later_time, later_before}
+use Rattle.mcs_disk.proofs.Composing.{later_then, later_time, later_before}
 use Rattle.mcs_model.specs.declared.command.Command.{Command}
 use Rattle.mcs_model.specs.BenchState.{BenchState}
 use Rattle.mcs_model.specs.Command.{after}
@@ -12,10 +12,8 @@ use Rattle.mcs_model.specs.Fold.{fold}
 use Rattle.mcs_session.specs.StandsFor.{StandsFor, DiskStandsFor}
 use Rattle.mcs_session.specs.Acknowledgements.{Acknowledgements, acknowledged_by, last_moment, moments_of}
 use Rattle.mcs_session.specs.CommandCalls.{AcknowledgesCommand, LeavesEitherState}
-use Rattle.mcs_session.specs.SessionState.{SessionState}
 use Rattle.mcs_session.specs.Log.{LogHolds, log_after_all}
-use Rattle.mcs_session.specs.KeptCommands.{RecordsCommands, IsIntact, KeepsCommands, KeepsAllCommands, StandsForPrefix}
-use Rattle.mcs_session.proofs.Folds.{fold-append}
+use Rattle.mcs_session.specs.KeptCommands.{KeepsCommands, KeepsAllCommands, StandsForPrefix}
 use Rattle.mcs_session.proofs.Using.{counted, log_append, log_in, rising, same_held, stands_held, timed_more}
 use Rattle.mcs_session.proofs.Prefixes.{acknowledged-append, acknowledged_all, acknowledged_before, acknowledged_few, acknowledged_none, last_append, prefix_all, prefix_more, prefix_none, prefix_one, prefix_past, rising_le}
 
@@ -26,12 +24,12 @@ abbrev both : (d e f : DiskState) (s : BenchState) (cs ds : List Command) → Ke
 both d e f s cs ds a b =
     let first = a.kept.acknowledged in
     let later : b.log ≡ log_after_all first.log cs = same_held (bytes_of e) b.log (log_after_all first.log cs) b.held a.holds in
-    let whole : last_moment (time_of d) (first.moments ++ b.moments) ≡ last_moment (time_of e) b.moments = last_append (time_of d) first.moments b.moments ∙ ap (λ (c : ℕ). last_moment c b.moments) (sym a.now) in
+    let whole : last_moment (time_of d) (first.moments ++ b.moments) ≡ last_moment (time_of e) b.moments = last_append (time_of d) first.moments b.moments ∙ ap (λ (c : ℕ). last_moment c b.moments) (sym a.clock) in
     record {
       log = first.log;
       held = first.held;
       moments = first.moments ++ b.moments;
-      timed = timed_more (time_of d) (time_of e) first.log cs ds first.moments b.moments first.timed a.now (b.timed ∙ ap (λ (log : List Command). moments_of (time_of e) log ds) later);
+      timed = timed_more (time_of d) (time_of e) first.log cs ds first.moments b.moments first.timed a.clock (b.timed ∙ ap (λ (log : List Command). moments_of (time_of e) log ds) later);
       within = omega (arith, whole, b.within);
     }
 
@@ -49,7 +47,7 @@ each_more d e f s t cs done ds a same b u image le now =
       | inr early ↦
           let none = acknowledged_none u (time_of e) ns early (rising e f done b.acknowledged) in
           let first : acknowledged_by u (ms ++ ns) ≡ acknowledged_by u ms = omega (arith, sum, none) in
-          elim (later_before e f b.stretch u image now) [
+          elim (later_before e f b.later u image now) [
             | inl old ↦ rw first (prefix_more s cs ds (acknowledged_by u ms) image (a.kept.each u image le old))
             | inr new ↦ prefix_past s t cs ds _ (acknowledged_by (time_of e) ns) image same (omega (arith, first, few, count)) (b.each (time_of e) image (omega arith) new)
           ]
@@ -58,8 +56,10 @@ each_more d e f s t cs done ds a same b u image le now =
 pub kept_more : (d e f : DiskState) (s t : BenchState) (cs done ds : List Command) → KeepsAllCommands d e s cs → t ≡ fold s cs → KeepsCommands e f t done ds → KeepsCommands d f s (cs ++ done) (cs ++ ds)
 kept_more d e f s t cs done ds a same b = record {
   acknowledged = both d e f s cs done a b.acknowledged;
+  failed = b.failed;
+  reached_are = ap (λ (l : List Command). cs ++ l) b.reached_are ∙ sym (append_assoc cs done b.failed);
   each = each_more d e f s t cs done ds a same b;
-  stretch = later_then d e f a.kept.stretch b.stretch;
+  later = later_then d e f a.kept.later b.later;
 }
 
 pub whole_more : (d e f : DiskState) (s t : BenchState) (cs ds : List Command) → KeepsAllCommands d e s cs → t ≡ fold s cs → KeepsAllCommands e f t ds → KeepsAllCommands d f s (cs ++ ds)
@@ -70,7 +70,7 @@ whole_more d e f s t cs ds a same b =
     let later : then.log ≡ log_after_all first.log cs = same_held (bytes_of e) then.log (log_after_all first.log cs) then.held a.holds in
     record {
       kept = kept_more d e f s t cs ds ds a same b.kept;
-      now = b.now ∙ ap (λ (c : ℕ). last_moment c then.moments) a.now ∙ sym (last_append (time_of d) first.moments then.moments);
+      clock = b.clock ∙ ap (λ (c : ℕ). last_moment c then.moments) a.clock ∙ sym (last_append (time_of d) first.moments then.moments);
       holds = subst (LogHolds (bytes_of f)) (ap (λ (log : List Command). log_after_all log ds) later ∙ sym (log_append first.log cs ds)) b.holds;
     }
 
@@ -80,10 +80,10 @@ settled_after d e s t cs same a image now =
     let ms = a.kept.acknowledged.moments in
     let rises = rising d e cs a.kept.acknowledged in
     let behind = rising_le (time_of d) ms rises in
-    let last = a.now in
+    let last = a.clock in
     let all = acknowledged_all (time_of e) (time_of d) ms (omega (arith, last)) rises in
     let count = counted d e cs a.kept.acknowledged in
-    rw same (prefix_all s cs (acknowledged_by (time_of e) ms) image (omega (arith, all, count)) (a.kept.each (time_of e) image (omega (arith, behind, last)) now))
+    rw same (prefix_all s cs (acknowledged_by (time_of e) ms) image (omega (arith, all, count)) (a.kept.each (time_of e) image (omega (arith, behind, last)) ((lawful e).counts_now (time_of e) image now)))
 
 -- ---- no command
 
@@ -92,7 +92,7 @@ goes_nowhere d e start calls = record { start = start; added = []; all = calls }
 
 -- what a read gives is left by a power cut, too
 pub stands_now : (d : DiskState) (s : BenchState) → DiskStandsFor d s → StandsFor (bytes_of d) s
-stands_now d s h = h (bytes_of d) ((lawful d).counts_now (time_of d) (bytes_of d) (lawful d).current)
+stands_now d s h = h (bytes_of d) (lawful d).current
 
 -- nothing was acknowledged
 none_acknowledged : (d e : DiskState) (s : BenchState) → StandsFor (bytes_of d) s → time_of d ≤ time_of e → Acknowledgements d e []
@@ -111,43 +111,17 @@ stays_keeps d e s start calls h =
     record {
       kept = record {
         acknowledged = none_acknowledged d e s stands (later_time d e (goes_nowhere d e start calls));
-        each = λ u image le now. prefix_none s [] image (h image ((lawful d).longer (time_of d) u image le (subst (λ (x : List DiskCall). since_after d.start x u image) calls (subst (λ (x : List ℕ). since_after x e.calls u image) start now))));
-        stretch = goes_nowhere d e start calls;
+        each = λ u image le now. prefix_none s [] image (h image ((lawful d).only_now image ((lawful d).longer (time_of d) u image le (subst (λ (x : List DiskCall). since_after d.start x u image) calls (subst (λ (x : List ℕ). since_after x e.calls u image) start now)))));
+        failed = [];
+        reached_are = refl;
+        later = goes_nowhere d e start calls;
       };
-      now = ap clock_of calls;
+      clock = ap clock_of calls;
       holds = subst (λ (file : List ℕ). LogHolds file (log_in (bytes_of d) s stands)) (sym (λ k. bytes_after (start k) (calls k))) (stands_held (bytes_of d) s stands);
     }
 
 pub whole_nothing : (d : DiskState) (s : BenchState) → DiskStandsFor d s → KeepsAllCommands d d s []
 whole_nothing d s h = stays_keeps d d s refl refl h
-
--- ---- sessions
-
--- the premise of the next stretch
-pub settled_on : (a b : SessionState) (cs : List Command) → RecordsCommands IsIntact a b cs → IsIntact a → IsIntact b
-settled_on a b cs x given = record {
-  honest = (subst (λ (live : Bool). IsTrue live) (sym x.live) given.honest.0, x.counts.honest.1 given.honest.1);
-  intact = settled_after a.disk b.disk a.state b.state cs x.state (x.kept given);
-}
-
-counts_nothing : (disk : DiskState) → CountsFault disk disk ⊥
-counts_nothing disk = record { start = refl; honest = (λ h. h, λ h. h); fault = λ none. absurd none; no_fault = λ none. refl }
-
-pub carries_nothing : (a : SessionState) → RecordsCommands IsIntact a a []
-carries_nothing a = record { live = refl; state = refl; counts = counts_nothing a.disk; untouched = λ none. refl; kept = λ given. whole_nothing a.disk a.state given.intact }
-
-none_of : (cs ds : List Command) → cs ++ ds ≡ [] → (cs ≡ []) × (ds ≡ [])
-none_of [] ds none = (refl, none)
-none_of (c ∷ cs) ds none = absurd (cc none)
-
-pub carries_more : (a b c : SessionState) (cs ds : List Command) → RecordsCommands IsIntact a b cs → RecordsCommands IsIntact b c ds → RecordsCommands IsIntact a c (cs ++ ds)
-carries_more a b c cs ds x y = record {
-  live = y.live ∙ x.live;
-  state = y.state ∙ ap (λ (s : BenchState). fold s ds) x.state ∙ sym (fold-append a.state cs ds);
-  counts = counts_then a.disk b.disk c.disk ⊥ ⊥ (λ none. none) x.counts y.counts;
-  untouched = λ none. let both = none_of cs ds none in y.untouched both.1 ∙ x.untouched both.0;
-  kept = λ given. whole_more a.disk b.disk c.disk a.state b.state cs ds (x.kept given) x.state (y.kept (settled_on a b cs x given));
-}
 
 -- ---- one command
 
@@ -167,12 +141,14 @@ acknowledged_keeps d e s c a = record {
           ⊎_elim
           (λ (old : StandsFor image s). rw none (prefix_none s (c ∷ []) image old))
           (λ (new : StandsFor image (after s c)). prefix_one s (after s c) c _ image refl (acknowledged_few u (time_of e ∷ [])) new)
-          (a.moments.each image ((lawful e).longer (time_of d) u image le now))
-      | inr late ↦ prefix_one s (after s c) c _ image refl (acknowledged_few u (time_of e ∷ [])) (a.now image ((lawful e).longer (time_of e) u image late now))
+          (a.leaves.each image ((lawful e).longer (time_of d) u image le now))
+      | inr late ↦ prefix_one s (after s c) c _ image refl (acknowledged_few u (time_of e ∷ [])) (a.stands image ((lawful e).only_now image ((lawful e).longer (time_of e) u image late now)))
     ];
-    stretch = a.moments.later;
+    failed = [];
+    reached_are = refl;
+    later = a.leaves.later;
   };
-  now = refl;
+  clock = refl;
   holds = a.holds;
 }
 
@@ -185,5 +161,7 @@ failed_keeps d e s c h a = record {
       (λ (old : StandsFor image s). prefix_none s (c ∷ []) image old)
       (λ (new : StandsFor image (after s c)). prefix_one s (after s c) c 0 image refl (omega arith) new)
       (a.each image ((lawful e).longer (time_of d) u image le now));
-  stretch = a.later;
+  failed = c ∷ [];
+  reached_are = refl;
+  later = a.later;
 }

@@ -20,7 +20,7 @@ pub reopened : (t : ℕ) (old new found opened : DiskState) (s u : BenchState) (
     → IsLeftByCut t new found → OpensSession found opened u → IsAfterPrefix s reached (acknowledged_by t kept.acknowledged.moments) u
 reopened t old new found opened s u done reached kept le cut opens =
     let there = kept.each t (bytes_of found) le cut.found in
-    subst (λ (v : BenchState). IsAfterPrefix s reached (acknowledged_by t kept.acknowledged.moments) v) (one_state (bytes_of found) there.state u there.stands opens.stands) there.after
+    subst (λ (v : BenchState). IsAfterPrefix s reached (acknowledged_by t kept.acknowledged.moments) v) (one_state (bytes_of found) there.state u there.stands opens.stood) there.after
 
 pub not_refused : (fault : OpenFault) (disk : DiskState) (s : BenchState) → StandsFor (bytes_of disk) s → RefusesSession fault disk → (fault ≡ Device) ⊎ (fault ≡ NoMemory)
 not_refused NotASession disk s stands h = absurd (is_session disk stands.snap stands.records stands.holds h)

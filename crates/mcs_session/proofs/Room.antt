@@ -2,8 +2,10 @@
 use Rattle.std.proofs.Common.{◌≡◌, ◌+◌, ◌≤◌, inl, inr, ⊎_elim, IsTrue, Result, Ok, Err, OnOk, is_ok, List, [], ◌∷◌, ◌++◌, ℕ, Bool, true, false, if◌then◌else◌, None, sym, ap, ◌∙◌, subst, refl, arith, length}
 use Rattle.std.proofs.lemmas.Grind.{common_steps}
 use Rattle.mcs_disk.specs.Disk.{DiskState, bytes_of, time_of}
-use Rattle.mcs_disk.specs.Moments.{Changes, Either, LeavesOnly}
+use Rattle.mcs_disk.specs.Changes.{Changes}
+use Rattle.mcs_disk.specs.Moments.{Either, LeavesOnly}
 use Rattle.mcs_disk.specs.PowerCut.{IsDurable}
+use Rattle.mcs_disk.proofs.CallLaws.{lawful}
 use Rattle.mcs_disk.proofs.Composing.{leaves_map, leaves_then, no_later}
 use Rattle.mcs_journal.specs.File.{HasRoom, Holds, frames_of}
 use Rattle.mcs_model.specs.declared.command.Command.{Command}
@@ -46,7 +48,7 @@ few_cycles s (Unwatch bank src) h = omega arith
 pub leaves_same : (disk : DiskState) (cycles : ℕ) (s : BenchState) → IsRecorded disk cycles s → LeavesOnly disk disk (λ file. StandsFor file s)
 leaves_same disk cycles s was = record {
   later = no_later disk;
-  each = at_of disk s was.durable was.stands;
+  each = λ image left. at_of disk s was.durable was.stands image ((lawful disk).only_now image left);
 }
 
 pub room_there : (disk : DiskState) (used bytes more cycles : ℕ) (s : BenchState) (c : Command) (was : IsRecorded disk cycles s) → used ≡ length (frames_of was.stands.records)
@@ -108,9 +110,9 @@ pub settles : (old new : DiskState) (cycles : ℕ) (s : BenchState) (was : IsRec
 settles old new cycles s was moments held durable ticks = record {
   stood = was.stands;
   holds = held;
-  moments = leaves_state old new cycles s was moments;
+  leaves = leaves_state old new cycles s was moments;
   ticks = ticks;
-  now = at_of new s durable (stands_new (bytes_of new) held.snap s held.spells held.holds);
+  stands = at_of new s durable (stands_new (bytes_of new) held.snap s held.spells held.holds);
 }
 
 -- ---- the record
@@ -142,10 +144,10 @@ recorded_more old new cycles more s c r was spells accepted is few durable held 
 pub acknowledged : (old mid new : DiskState) (cycles cycles' : ℕ) (s : BenchState) (c : Command) (r : List ℕ) → LeavesEitherState old new s (after s c) → (made : HasMadeRoom old mid c cycles s) → time_of new ≡ time_of mid + 4 → IsRecorded new cycles' (after s c)
     → Spells r c → refusal s c ≡ None → cycles + replay_cycles c ≤ REPLAY_CYCLES → Holds (bytes_of new) made.recorded.stands.snap (made.recorded.stands.records ++ r ∷ []) → AcknowledgesCommand old new s c
 acknowledged old mid new cycles cycles' s c r moments made tick was spells accepted few held = record {
-  moments = moments;
+  leaves = moments;
   log = made.log;
   held = made.held;
   ticks = tick ∙ made.ticks;
   holds = record_held mid new cycles s c r made.recorded spells accepted few held (if has_room_for made.log c then made.log else []) made.holds;
-  now = at_of new (after s c) was.durable was.stands;
+  stands = at_of new (after s c) was.durable was.stands;
 }

@@ -1,14 +1,12 @@
 -- What a log holds as records are added, and the moments that follow from it.
-use Rattle.std.proofs.Common.{◌≡◌, ◌⊎◌, inl, inr, ◌+◌, ◌≤◌, ◌<◌, ◌&&◌, if◌then◌else◌, ℕ, Bool, true, false, None, List, [], ◌∷◌, ◌++◌, length, map, nat_le, sym, ap, ◌∙◌, refl, subst, arith, length-append}
-use Rattle.std.proofs.lemmas.Bool.{cases_lt, le-leb, lt-leb, lt-ltb, le-ltb}
-use Rattle.std.proofs.lemmas.List.{map-append}
+use Rattle.std.proofs.Common.{◌≡◌, ◌⊎◌, inl, inr, ◌+◌, ◌≤◌, ◌<◌, ◌&&◌, if◌then◌else◌, ℕ, Bool, true, false, None, List, [], ◌∷◌, ◌++◌, length, map, nat_le, sym, ap, ◌∙◌, refl, subst, arith}
+use Rattle.std.proofs.lemmas.Bool.{cases_lt, le-leb, lt-leb}
 use Rattle.std.proofs.lemmas.List.Sums.{sum_by_push}
 use Rattle.mcs_codec.specs.Codec.{Spells}
 use Rattle.mcs_codec.specs.CommandBytes.{command_bytes}
 use Rattle.mcs_disk.specs.Disk.{DiskState, bytes_of, time_of}
-use Rattle.mcs_journal.specs.File.{HasRoom, Holds, frame_of, frames_of}
+use Rattle.mcs_journal.specs.File.{HasRoom, Holds, frames_of}
 use Rattle.mcs_journal.specs.declared.format.TheConstants.{LOG_SIZE}
-use Rattle.mcs_journal.proofs.Logs.{length-framed, spelled-push}
 use Rattle.mcs_journal.proofs.Unique.{same_snap, same_records}
 use Rattle.mcs_model.specs.declared.command.Command.{Command}
 use Rattle.mcs_model.specs.declared.limits.TheConstants.{REPLAY_CYCLES}
@@ -55,13 +53,6 @@ spelled_records s (r ∷ rs) (c ∷ cs) h = ap (λ (payload : List ℕ). payload
 pub recorded_bytes : (disk : DiskState) (cycles : ℕ) (s : BenchState) (was : IsRecorded disk cycles s) → length (frames_of was.stands.records) ≡ log_bytes (log_in (bytes_of disk) s was.stands)
 recorded_bytes disk cycles s was = ap (λ (rs : List (List ℕ)). length (frames_of rs)) (spelled_records was.stands.stand.start was.stands.records was.stands.stand.commands was.stands.stand.replays)
 
-bytes_more : (log : List Command) (c : Command) → log_bytes (log ++ c ∷ []) ≡ log_bytes log + length (command_bytes c) + 3
-bytes_more log c =
-    let spelled : log_bytes (log ++ c ∷ []) ≡ length (frames_of (map command_bytes log ++ command_bytes c ∷ [])) = ap (λ (rs : List (List ℕ)). length (frames_of rs)) (map-append command_bytes log (c ∷ [])) in
-    let pushed : length (frames_of (map command_bytes log ++ command_bytes c ∷ [])) ≡ length (frames_of (map command_bytes log) ++ frame_of (command_bytes c)) = ap length (spelled-push (map command_bytes log) (command_bytes c)) in
-    let both = length-append (frames_of (map command_bytes log)) (frame_of (command_bytes c)) in
-    let framed = length-framed (command_bytes c) in omega (arith, spelled, pushed, both, framed)
-
 cycles_more : (log : List Command) (c : Command) → log_cycles (log ++ c ∷ []) ≡ log_cycles log + replay_cycles c
 cycles_more log c = sum_by_push replay_cycles log c
 
@@ -71,18 +62,17 @@ Room log c = HasRoom (log_bytes log) (length (command_bytes c)) × (log_cycles l
 
 decide : (log : List Command) (c : Command) → (Room log c × (has_room_for log c ≡ true)) ⊎ (¬ (Room log c) × (has_room_for log c ≡ false))
 decide log c =
-    let n = log_bytes (log ++ c ∷ []) in
+    let n = log_bytes log + 3 + length (command_bytes c) + 1 in
     let m = log_cycles (log ++ c ∷ []) in
-    let more = bytes_more log c in
     let spent = cycles_more log c in
-    elim (cases_lt n LOG_SIZE) [
-      | inl fits ↦
-          let yes : has_room_for log c ≡ nat_le m REPLAY_CYCLES = ap (λ (b : Bool). b && nat_le m REPLAY_CYCLES) (lt-ltb n LOG_SIZE fits) in
+    elim (cases_lt LOG_SIZE n) [
+      | inl over ↦ inr (λ room. let fits = room.0 in omega (arith, over, fits), ap (λ (b : Bool). b && nat_le m REPLAY_CYCLES) (lt-leb n LOG_SIZE over))
+      | inr fits ↦
+          let yes : has_room_for log c ≡ nat_le m REPLAY_CYCLES = ap (λ (b : Bool). b && nat_le m REPLAY_CYCLES) (le-leb n LOG_SIZE fits) in
           elim (cases_lt REPLAY_CYCLES m) [
             | inl over ↦ inr (λ room. let few = room.1 in omega (arith, over, few, spent), yes ∙ lt-leb m REPLAY_CYCLES over)
-            | inr few ↦ inl ((omega (arith, fits, more), omega (arith, few, spent)), yes ∙ le-leb m REPLAY_CYCLES few)
+            | inr few ↦ inl ((omega (arith, fits), omega (arith, few, spent)), yes ∙ le-leb m REPLAY_CYCLES few)
           ]
-      | inr over ↦ inr (λ room. let fits = room.0 in omega (arith, over, fits, more), ap (λ (b : Bool). b && nat_le m REPLAY_CYCLES) (le-ltb n LOG_SIZE over))
     ]
 
 pub has_room : (log : List Command) (c : Command) → Room log c → has_room_for log c ≡ true

@@ -1,4 +1,6 @@
--- What was acknowledged of a run of commands, and when: the one account of it.
+-- Which commands of a run were acknowledged, and when. A command is acknowledged as the call that
+-- records it answers Ok. Its moment is the disk's clock then, and the clock stands there still as
+-- its `ok` is written: no call on the disk comes between (`MayTell` of mcs_shell).
 use Rattle.std.specs.Prelude.{◌≡◌, ◌+◌, ◌≤◌, ℕ, List, [], ◌∷◌, count_by, nat_le}
 use Rattle.mcs_disk.specs.Disk.{DiskState, bytes_of, time_of}
 use Rattle.mcs_model.specs.declared.command.Command.{Command}
@@ -16,8 +18,8 @@ abbrev pub last_moment : ℕ → List ℕ → ℕ
 last_moment clock [] = clock
 last_moment clock (m ∷ ms) = last_moment m ms
 
--- Between these two states of a disk the commands were acknowledged, each at its moment: what the log
--- held at the start determines them all.
+-- Between these two states of a disk the commands were acknowledged, each at its moment: what the
+-- log held at the start determines them all.
 pub record Acknowledgements (old new : DiskState) (commands : List Command) : Type 0 where
   pub log : List Command
   pub held : LogHolds (bytes_of old) log
@@ -25,6 +27,6 @@ pub record Acknowledgements (old new : DiskState) (commands : List Command) : Ty
   pub timed : moments ≡ moments_of (time_of old) log commands
   pub within : last_moment (time_of old) moments ≤ time_of new
 
--- how many of them were acknowledged by the time t
+-- how many of them were acknowledged by that time
 abbrev pub acknowledged_by : ℕ → List ℕ → ℕ
-acknowledged_by t moments = count_by (λ m. nat_le m t) moments
+acknowledged_by time moments = count_by (λ m. nat_le m time) moments

@@ -16,11 +16,11 @@ use Rattle.mcs_session.specs.StandsFor.{DiskStandsFor, HoldsState, StandsFor}
 -- from this state the command leads to that answer and state, on an open session or a closed one
 abbrev pub AppliesCommand : Bool → BenchState → Command → Result Reply SessionFault → BenchState
     → Type 0
-AppliesCommand true s c (Ok r) t = (refusal s c ≡ None) × (r ≡ reply s c) × (t ≡ after s c)
-AppliesCommand true s c (Err (Refused f)) t = (refusal s c ≡ Some f) × (t ≡ s)
-AppliesCommand true s c (Err Device) t = (refusal s c ≡ None) × (t ≡ s)
-AppliesCommand false s c (Err Closed) t = t ≡ s
-AppliesCommand live s c result t = ⊥
+AppliesCommand true s c (Ok r) new = (refusal s c ≡ None) × (r ≡ reply s c) × (new ≡ after s c)
+AppliesCommand true s c (Err (Refused f)) new = (refusal s c ≡ Some f) × (new ≡ s)
+AppliesCommand true s c (Err Device) new = (refusal s c ≡ None) × (new ≡ s)
+AppliesCommand false s c (Err Closed) new = new ≡ s
+AppliesCommand live s c result new = ⊥
 
 -- the session is closed where the device failed, and the count of faults rose there alone
 abbrev pub ClosesAtDeviceFault : {T : Type 0} → Bool → ℕ → Result T SessionFault → Bool → ℕ → Type 0
@@ -33,18 +33,18 @@ ClosesAtDeviceFault live faults (Err fault) new_live new_faults =
 
 -- at every moment of this stretch a power cut leaves the one state or the other
 abbrev pub LeavesEitherState : DiskState → DiskState → BenchState → BenchState → Type 0
-LeavesEitherState old new s t =
-    LeavesOnly old new (Either (λ file. StandsFor file s) (λ file. StandsFor file t))
+LeavesEitherState old new s other =
+    LeavesOnly old new (Either (λ file. StandsFor file s) (λ file. StandsFor file other))
 
 -- Until the command is acknowledged, a power cut leaves the state before or after, and from then on
 -- the state after. Its record was added to the log, in the steps that take.
 pub record AcknowledgesCommand (old new : DiskState) (s : BenchState) (c : Command) : Type 0 where
-  pub moments : LeavesEitherState old new s (after s c)
+  pub leaves : LeavesEitherState old new s (after s c)
   pub log : List Command
   pub held : LogHolds (bytes_of old) log
   pub ticks : time_of new ≡ time_of old + steps_of log c
   pub holds : LogHolds (bytes_of new) (log_after log c)
-  pub now : DiskStandsFor new (after s c)
+  pub stands : DiskStandsFor new (after s c)
 
 -- what the command does to an honest disk
 abbrev pub RecordsOrFails : Result Reply SessionFault → DiskState → DiskState → BenchState
@@ -71,9 +71,9 @@ KeepsState old new s = LeavesOnly old new (λ file. StandsFor file s)
 pub record SettlesSession (old new : DiskState) (s : BenchState) : Type 0 where
   pub stood : StandsFor (bytes_of old) s
   pub holds : HoldsState (bytes_of new) s
-  pub moments : KeepsState old new s
+  pub leaves : KeepsState old new s
   pub ticks : time_of new ≡ time_of old + 4
-  pub now : DiskStandsFor new s
+  pub stands : DiskStandsFor new s
 
 -- what settling does to an honest disk
 abbrev pub SettlesOrFails : {T : Type 0} → Result T SessionFault → DiskState → DiskState

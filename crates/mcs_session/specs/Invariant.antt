@@ -1,7 +1,8 @@
 -- What the fields of a session keep, and what its steps do.
 use Rattle.std.specs.Prelude.{◌≡◌, ◌+◌, ◌≤◌, ℕ, List, [], Bool, IsTrue, Result, length, if◌then◌else◌}
 use Rattle.mcs_disk.specs.Disk.{DiskState, bytes_of, time_of}
-use Rattle.mcs_disk.specs.Moments.{Changes, Either, LeavesOnly}
+use Rattle.mcs_disk.specs.Changes.{Changes}
+use Rattle.mcs_disk.specs.Moments.{Either, LeavesOnly}
 use Rattle.mcs_disk.specs.PowerCut.{IsDurable}
 use Rattle.mcs_journal.specs.File.{Holds}
 use Rattle.mcs_journal.specs.declared.format.TheConstants.{MOST_RECORD, MOST_SNAPSHOT}
@@ -66,7 +67,7 @@ MayReplaceContents old new snap records s =
 -- the same, and now the snapshot is there
 pub record ReplacedContents
     (old new : DiskState) (snap : List ℕ) (records : List (List ℕ)) (s : BenchState) : Type 0 where
-  pub moments : MayReplaceContents old new snap records s
+  pub leaves : MayReplaceContents old new snap records s
   pub held : HoldsState (bytes_of new) s
   pub durable : IsDurable new
 

@@ -1,8 +1,7 @@
 -- Which commands a log holds, and what recording one more makes of it.
-use Rattle.std.specs.Prelude.{◌≡◌, ◌&&◌, Bool, ℕ, List, [], ◌∷◌, ◌++◌, length, map, nat_le, nat_lt, if◌then◌else◌}
+use Rattle.std.specs.Prelude.{◌≡◌, ◌&&◌, Bool, ℕ, List, [], ◌∷◌, ◌++◌, length, map, nat_le, if◌then◌else◌}
 use Rattle.mcs_codec.specs.CommandBytes.{command_bytes}
-use Rattle.mcs_journal.specs.File.{frames_of}
-use Rattle.mcs_journal.specs.declared.format.TheConstants.{LOG_SIZE}
+use Rattle.mcs_journal.specs.File.{frames_of, has_room}
 use Rattle.mcs_model.specs.declared.command.Command.{Command}
 use Rattle.mcs_model.specs.declared.limits.TheConstants.{REPLAY_CYCLES}
 use Rattle.mcs_model.specs.BenchState.{BenchState}
@@ -15,11 +14,10 @@ pub record LogHolds (file : List ℕ) (log : List Command) : Type 0 where
   pub stands : StandsFor file state
   pub commands : log ≡ stands.stand.commands
 
--- A log of these commands has room for one more: the records of all leave a byte of it, and their
--- cycles are not too many.
+-- whether a log of these commands has room for one more: for its record, and for its cycles
 abbrev pub has_room_for : List Command → Command → Bool
 has_room_for log c =
-    nat_lt (length (frames_of (map command_bytes (log ++ c ∷ [])))) LOG_SIZE
+    has_room (length (frames_of (map command_bytes log))) (length (command_bytes c))
     && nat_le (log_cycles (log ++ c ∷ [])) REPLAY_CYCLES
 
 -- the commands of the log once one more was recorded: where there was no room, a snapshot took the
@@ -27,6 +25,7 @@ has_room_for log c =
 abbrev pub log_after : List Command → Command → List Command
 log_after log c = (if has_room_for log c then log else []) ++ c ∷ []
 
+-- the commands of the log once all of these were recorded, in turn
 abbrev pub log_after_all : List Command → List Command → List Command
 log_after_all log [] = log
 log_after_all log (c ∷ cs) = log_after_all (log_after log c) cs

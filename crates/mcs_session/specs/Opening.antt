@@ -8,8 +8,8 @@ use Rattle.mcs_session.specs.StandsFor.{DiskStandsFor, StandsByEither}
 
 -- the bytes of the disk stood for this state, and now whatever a power cut leaves stands for it
 pub record OpensSession (old new : DiskState) (s : BenchState) : Type 0 where
-  pub stands : StandsByEither (bytes_of old) s
-  pub at : DiskStandsFor new s
+  pub stood : StandsByEither (bytes_of old) s
+  pub stands : DiskStandsFor new s
 
 -- what a refusal of `open` says of the disk: its bytes are no session, or they stand for no state;
 -- of lack of memory and a device fault, nothing

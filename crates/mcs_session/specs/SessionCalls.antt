@@ -1,6 +1,6 @@
 -- What making and opening a session do to the disk.
 use Rattle.std.specs.Prelude.{◌≡◌, ◌⊎◌, ◌+◌}
-use Rattle.mcs_disk.specs.Disk.{DiskState, bytes_of, size_of, time_of, images_since, IsLater}
+use Rattle.mcs_disk.specs.Disk.{DiskState, bytes_of, time_of, images_of, IsLater}
 use Rattle.mcs_disk.specs.Moments.{Either, LeavesOnly, AddsNoImage}
 use Rattle.mcs_journal.specs.File.{IsBlank}
 use Rattle.mcs_journal.specs.declared.fault.OpenFault.{OpenFault}
@@ -11,22 +11,21 @@ use Rattle.mcs_session.specs.Version1.{StandsForLifted}
 
 -- the disk was blank, and now, five steps later, every image stands for a new bench
 pub record CreatesSession (old new : DiskState) : Type 0 where
-  pub blank : IsBlank (size_of old) (bytes_of old)
-  pub stands : StandsFor (bytes_of new) new_bench_state
-  pub at : DiskStandsFor new new_bench_state
+  pub blank : IsBlank old
+  pub stands : DiskStandsFor new new_bench_state
   pub ticks : time_of new ≡ time_of old + 5
-  pub moments : IsLater old new
+  pub later : IsLater old new
 
 -- whatever a power cut of this stretch leaves is an image that the disk had before, or stands for
 -- this state
 abbrev pub MayMigrate : DiskState → DiskState → BenchState → Type 0
 MayMigrate old new s =
-    LeavesOnly old new (Either (images_since (time_of old) old) (λ file. StandsByEither file s))
+    LeavesOnly old new (Either (images_of old) (λ file. StandsByEither file s))
 
 -- What opening a session in this state did: a file of version 2 is not written; one of version 1 is
 -- replaced by a snapshot of version 2.
 pub record MigratesSession (old new : DiskState) (s : BenchState) : Type 0 where
-  pub moments : MayMigrate old new s
+  pub leaves : MayMigrate old new s
   pub rests : StandsFor (bytes_of old) s → AddsNoImage old new
   pub migrated : StandsForLifted (bytes_of old) s → HoldsState (bytes_of new) s
 
@@ -34,7 +33,7 @@ pub record MigratesSession (old new : DiskState) (s : BenchState) : Type 0 where
 pub record FailsMigrating (old new : DiskState) : Type 0 where
   pub state : BenchState
   pub stands : StandsForLifted (bytes_of old) state
-  pub moments : MayMigrate old new state
+  pub leaves : MayMigrate old new state
 
 -- what a refused `open` did to the disk: nothing, except for a device fault while a file of version
 -- 1 was replaced

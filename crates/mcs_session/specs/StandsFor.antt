@@ -4,7 +4,7 @@
 -- version 1: they are read as carried over, and the commands are those of version 2 from there on.
 use Rattle.std.specs.Prelude.{◌≡◌, ◌⊎◌, ◌≤◌, ℕ, Bool, false, List, [], ◌∷◌, None}
 use Rattle.mcs_codec.specs.Codec.{SpellsBy, SpellsState, SpellsStateBy}
-use Rattle.mcs_disk.specs.Disk.{DiskState, time_of, images_since}
+use Rattle.mcs_disk.specs.Disk.{DiskState, images_of, images_since}
 use Rattle.mcs_journal.specs.File.{Holds}
 use Rattle.mcs_model.specs.declared.command.Command.{Command}
 use Rattle.mcs_session.specs.Cycles.{log_cycles}
@@ -49,16 +49,15 @@ pub record HoldsState (file : List ℕ) (s : BenchState) : Type 0 where
   pub spells : SpellsState snap s
   pub holds : Holds file snap []
 
--- Whatever a power cut leaves stands for this state: a cut at this moment, and one within a call that
--- failed since the clock's last step, as such a call is no step of the clock.
+-- whatever a power cut now leaves stands for this state
 abbrev pub DiskStandsFor : DiskState → BenchState → Type 0
-DiskStandsFor disk s = (image : List ℕ) → images_since (time_of disk) disk image → StandsFor image s
+DiskStandsFor disk s = (image : List ℕ) → images_of disk image → StandsFor image s
 
 -- the same by version 1: the disk stands for the state carried over from it
 abbrev pub DiskStandsForLifted : DiskState → BenchState → Type 0
-DiskStandsForLifted disk s =
-    (image : List ℕ) → images_since (time_of disk) disk image → StandsForLifted image s
+DiskStandsForLifted disk s = (image : List ℕ) → images_of disk image → StandsForLifted image s
 
 -- whatever a power cut at some moment since this time left stands for this state, by either version
 abbrev pub DiskStandsSince : ℕ → DiskState → BenchState → Type 0
-DiskStandsSince t disk s = (image : List ℕ) → images_since t disk image → StandsByEither image s
+DiskStandsSince time disk s =
+    (image : List ℕ) → images_since time disk image → StandsByEither image s

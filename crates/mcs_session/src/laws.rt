@@ -18,29 +18,29 @@ use mcs_journal::OpenFault;
 
 /// A file stands for at most one state, whichever version it has.
 pub fn file_stands_for_one_state()
-    ensures { (file : List ℕ) (s t : BenchState)
-        → StandsByEither file s → StandsByEither file t → s ≡ t }
+    ensures { (file : List ℕ) (s other : BenchState)
+        → StandsByEither file s → StandsByEither file other → s ≡ other }
 {}
 
 /// Where a power cut, at some moment since a time of a run, leaves a disk that is then opened: the
 /// bench stands as after a prefix of the commands that may have reached the disk, and the prefix
 /// holds each one acknowledged by that time.
 pub fn reopened_bench_holds_what_was_acknowledged<D: Disk, E: Disk>()
-    ensures { (t : ℕ) (old new : D) (found opened : E) (s u : BenchState)
+    ensures { (time : ℕ) (old new : D) (found opened : E) (s state : BenchState)
         (done reached : List Command)
         (kept : KeepsCommands (D.state old) (D.state new) s done reached)
-        → time_of (D.state old) ≤ t
-        → IsLeftByCut t (D.state new) (E.state found)
-        → OpensSession (E.state found) (E.state opened) u
-        → IsAfterPrefix s reached (acknowledged_by t kept.acknowledged.moments) u }
+        → time_of (D.state old) ≤ time
+        → IsLeftByCut time (D.state new) (E.state found)
+        → OpensSession (E.state found) (E.state opened) state
+        → IsAfterPrefix s reached (acknowledged_by time kept.acknowledged.moments) state }
 {}
 
 /// What a power cut leaves of a run is opened, except for lack of memory and a device fault.
 pub fn what_a_power_cut_left_is_opened<D: Disk, E: Disk>()
-    ensures { (t : ℕ) (old new : D) (found : E) (s : BenchState) (done reached : List Command)
+    ensures { (time : ℕ) (old new : D) (found : E) (s : BenchState) (done reached : List Command)
         (fault : OpenFault)
-        → KeepsCommands (D.state old) (D.state new) s done reached → time_of (D.state old) ≤ t
-        → IsLeftByCut t (D.state new) (E.state found) → RefusesSession fault (E.state found)
+        → KeepsCommands (D.state old) (D.state new) s done reached → time_of (D.state old) ≤ time
+        → IsLeftByCut time (D.state new) (E.state found) → RefusesSession fault (E.state found)
         → (fault ≡ OpenFault.Device) ⊎ (fault ≡ OpenFault.NoMemory) }
 {}
 
@@ -69,10 +69,10 @@ pub fn at_the_end_all_is_kept<D: Disk>()
 /// device fault before, within or after what it writes, or for lack of memory. Once it is open, the
 /// disk holds a snapshot of version 2 and no records.
 pub fn a_file_of_version_1_keeps_its_state<D: Disk>()
-    ensures opened { (old new : D) (s u : BenchState) → (D.state old).honest
-        → DiskStandsForLifted (D.state old) s → OpensSession (D.state old) (D.state new) u
-        → MigratesSession (D.state old) (D.state new) u
-        → (u ≡ s) × (HoldsState (bytes_of (D.state new)) s
+    ensures opened { (old new : D) (s state : BenchState) → (D.state old).honest
+        → DiskStandsForLifted (D.state old) s → OpensSession (D.state old) (D.state new) state
+        → MigratesSession (D.state old) (D.state new) state
+        → (state ≡ s) × (HoldsState (bytes_of (D.state new)) s
         × DiskStandsSince (time_of (D.state old)) (D.state new) s) }
     ensures refused { (old new : D) (s : BenchState) (fault : OpenFault) → (D.state old).honest
         → DiskStandsForLifted (D.state old) s → RefusalLeaves fault (D.state old) (D.state new)

@@ -161,7 +161,7 @@ impl<D: Disk + Drop> Session<D> {
     /// The bench, as all the commands that were answered `Ok` left it.
     pub fn bench(&self) -> &Bench
         ensures is { result.now ≡ self.now.state }
-        ensures at { IsTrue self.now.live → (D.state self.now.disk).honest
+        ensures stands { IsTrue self.now.live → (D.state self.now.disk).honest
             → DiskStandsFor (D.state self.now.disk) self.now.state }
     {
         &self.bench

@@ -25,10 +25,10 @@ use Rattle.mcs_shell.specs.ShellState.{ShellState}
 use Rattle.mcs_shell.specs.RefusalNumbers.{session_fault_number}
 use Rattle.mcs_answers.specs.AnswerTexts.{no_text, ok_text}
 use Rattle.mcs_shell.specs.Transcript.{IsPossibleOutcome, accepted_commands, answer, asked_command, change_answer, acknowledged_commands, halt_of, is_device_fault, plain_answer, reached_commands, takes_memory}
-use Rattle.mcs_session.specs.KeptCommands.{IsIntact}
 use Rattle.mcs_shell.specs.Serving.{LeavesSession, ServesInputs, ServesSteps, WroteBytes}
-use Rattle.mcs_shell.specs.ServedPieces.{AnsweredInput, outcome_of}
-use Rattle.mcs_session.proofs.Keeping.{acknowledged_keeps, carries_nothing, failed_keeps, stays_keeps}
+use Rattle.mcs_shell.specs.ServedPieces.{AnsweredInput, IsIntact, outcome_of}
+use Rattle.mcs_session.proofs.Keeping.{acknowledged_keeps, failed_keeps, stays_keeps}
+use Rattle.mcs_shell.proofs.Carrying.{carries_nothing}
 use Rattle.mcs_shell.proofs.StepLists.{or_no, or_none}
 
 abbrev pub at : Bool → BenchState → DiskState → SessionState
@@ -80,6 +80,7 @@ ok_changed r true s d b c told h k =
       told_is = k ∙ ap (λ v. ok_text v b.state) (h.applied.1) ∙ ap (ok_text (reply s c)) (h.applied.2) ∙ sym (text_accepted s c yes);
       leaves = subst P (sym (accepted_alone s c yes)) (record {
         live = h.closes.0;
+        accepted = (yes, tt);
         state = h.applied.2;
         counts = none_counted d b.disk h.start h.honest h.closes.1;
         untouched = λ none. absurd (cc none);
@@ -98,10 +99,11 @@ refused_changed f true s d b c told h k =
       told_is = k ∙ sym (text_refused s c f no);
       leaves = subst P (sym (refused_none s c f no)) (record {
         live = h.closes.0;
+        accepted = tt;
         state = h.applied.1;
         counts = none_counted d b.disk h.start h.honest h.closes.1;
         untouched = λ none. h.untouched (λ e. absurd (cc e));
-        kept = λ given. stays_keeps d b.disk s h.start (h.records given.honest.1) given.intact;
+        kept = λ given. stays_keeps d b.disk s h.start (h.records given.honest.1) given.stands;
       });
     }
 
@@ -116,9 +118,12 @@ device_changed true s d b c told h k =
       told_is = k;
       leaves = subst P (sym alone) (record {
         closed = h.closes.0;
+        failed = c;
+        reached_are = refl;
+        accepted = (h.applied.0, tt);
         state = h.applied.1;
         counts = record { start = h.start; honest = h.honest; fault = λ it. h.closes.1; no_fault = λ none. absurd (none tt) };
-        kept = λ given. failed_keeps d b.disk s c given.intact (h.records given.honest.1);
+        kept = λ given. failed_keeps d b.disk s c given.stands (h.records given.honest.1);
       });
     }
 
@@ -128,7 +133,7 @@ closed_changed true s d b c told h k = absurd (h.applied)
 closed_changed false s d b c told h k = record {
   may = (λ x. absurd (cc x), refl);
   told_is = k;
-  leaves = record { live = h.closes.0; state = h.applied; counts = none_counted d b.disk h.start h.honest h.closes.1; untouched = λ none. h.untouched (λ e. absurd (cc e)); kept = λ given. absurd (cc given.honest.0) };
+  leaves = record { live = h.closes.0; accepted = tt; state = h.applied; counts = none_counted d b.disk h.start h.honest h.closes.1; untouched = λ none. h.untouched (λ e. absurd (cc e)); kept = λ given. absurd (cc given.honest.0) };
 }
 
 -- it was not recorded

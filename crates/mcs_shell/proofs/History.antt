@@ -3,8 +3,8 @@ use Rattle.std.proofs.Common.{◌≡◌, ◌⊎◌, inl, inr, ◌≤◌, ⊎_eli
 use Rattle.std.proofs.lemmas.Bool.{cases_lt}
 use Rattle.std.proofs.lemmas.Grind.{common_steps}
 use Rattle.mcs_disk.proofs.CallLaws.{lawful}
-use Rattle.mcs_disk.proofs.Composing.{rests_since, later_before}
-use Rattle.mcs_disk.specs.Disk.{DiskState, bytes_of, time_of, images_since}
+use Rattle.mcs_disk.proofs.Composing.{durable_since, rests_since, later_before}
+use Rattle.mcs_disk.specs.Disk.{DiskState, bytes_of, time_of, images_of, images_since}
 use Rattle.mcs_disk.specs.Moments.{AddsNoImage}
 use Rattle.mcs_disk.specs.PowerCut.{IsLeftByCut, IsDurable}
 use Rattle.mcs_journal.specs.declared.fault.OpenFault.{OpenFault}
@@ -12,7 +12,7 @@ use Rattle.mcs_journal.specs.declared.fault.OpenFault.TheVariants.{NotASession, 
 use Rattle.mcs_model.specs.declared.command.Command.{Command}
 use Rattle.mcs_model.specs.BenchState.{BenchState}
 use Rattle.mcs_model.specs.Fold.{fold}
-use Rattle.mcs_session.specs.Acknowledgements.{Acknowledgements, acknowledged_by}
+use Rattle.mcs_session.specs.Acknowledgements.{acknowledged_by}
 use Rattle.mcs_session.specs.KeptCommands.{IsOpenOnHonestDisk, StandsForPrefix}
 use Rattle.mcs_session.specs.SessionCalls.{FailsMigrating, MigratesSession, RefusalLeaves}
 use Rattle.mcs_session.specs.Opening.{RefusesSession}
@@ -22,15 +22,12 @@ use Rattle.mcs_session.proofs.Files.{is_session, one_either}
 use Rattle.mcs_session.proofs.Folds.{fold-append}
 use Rattle.mcs_session.proofs.Prefixes.{acknowledged_none}
 use Rattle.mcs_session.proofs.Using.{rising}
-use Rattle.mcs_shell.specs.History.{CameOf, History, IsHistory, KeepsOf, KeepsOfEach, KeepsOfRun, Refused, Served, Sitting, Stop, SurvivesHistory, disk_left}
-use Rattle.mcs_shell.specs.Headline.{AnswersInTurn}
+use Rattle.mcs_shell.specs.History.{CameOf, History, IsHistory, KeepsOf, KeepsOfEach, KeepsOfRun, Refused, Served, Sitting, StoppedSitting, SurvivesHistory, disk_left}
+use Rattle.mcs_shell.specs.Headline.{AnswersAndAcknowledges, done_in, reached_in}
 use Rattle.mcs_shell.specs.Program.{OpenBegins, OpenIsRefused}
 use Rattle.mcs_shell.specs.RefusalNumbers.{open_fault_number}
 use Rattle.mcs_shell.specs.Shell.{ShellRun}
-use Rattle.mcs_shell.specs.ShellState.{shell_state}
-use Rattle.mcs_shell.specs.Transcript.{acknowledged_commands, in_turn, reached_commands}
-use Rattle.mcs_shell.proofs.InTurn.{answers_of_run}
-use Rattle.mcs_shell.proofs.Surviving.{honest_of_run, kept_of_run}
+use Rattle.mcs_shell.proofs.Surviving.{answered_by, honest_of_run, kept_of_run}
 
 -- a disk that a stop left: what a read gives is all that it has, and stands for this state
 record Stands (disk : DiskState) (s : BenchState) : Type 0 where
@@ -44,20 +41,16 @@ AreCuts {D = D} state_of IsFound = (t : ℕ) (left found : D) → (state_of left
 
 -- ---- one run
 
-answers_of_session : {D : Type 0} (state_of : D → DiskState) (run : ShellRun state_of) → AnswersInTurn run.end run.ran.read (shell_state state_of run.before run.out) (shell_state state_of run.after run.out') run.ran.served.met
-answers_of_session state_of run = answers_of_run run.end run.reader run.reader' (shell_state state_of run.before run.out) (shell_state state_of run.after run.out') run.ran
-
 length_first : (cs : List Command) (n : ℕ) → n ≤ length cs → length (take n cs) ≡ n
 length_first cs n few = grind (arith, common_steps)
 
 -- a prefix of the commands is what is kept
 kept_prefix : {D : Type 0} (state_of : D → DiskState) (run : ShellRun state_of) (t u : ℕ) (s : BenchState) → run.before.state ≡ s → IsOpenOnHonestDisk (session_state state_of run.before)
-    → (a : Acknowledgements (state_of run.before.disk) (state_of run.after.disk) (in_turn acknowledged_commands run.before.state run.ran.served.met))
-    → acknowledged_by t a.moments ≤ acknowledged_by u a.moments → (found : DiskState) → found.honest → IsDurable found
-    → StandsForPrefix run.before.state (in_turn reached_commands run.before.state run.ran.served.met) (acknowledged_by u a.moments) (bytes_of found)
+    → (a : AnswersAndAcknowledges run) → acknowledged_by t a.acknowledged.moments ≤ acknowledged_by u a.acknowledged.moments → (found : DiskState) → found.honest → IsDurable found
+    → StandsForPrefix run.before.state (reached_in run) (acknowledged_by u a.acknowledged.moments) (bytes_of found)
     → (kept : List Command) × KeepsOfRun state_of run t s kept × Stands found (fold s kept)
 kept_prefix state_of run t u s same given a fewer found honest durable h =
-    let may : List Command = in_turn reached_commands run.before.state run.ran.served.met in
+    let may : List Command = reached_in run in
     let least = h.after.at_least in
     let most = h.after.at_most in
     let long : length (take h.after.count may) ≡ h.after.count = length_first may h.after.count most in
@@ -65,8 +58,7 @@ kept_prefix state_of run t u s same given a fewer found honest durable h =
       take h.after.count may,
       record {
         began = same;
-        answers = answers_of_session state_of run;
-        acknowledged = a;
+        answered = a;
         lost = drop h.after.count may;
         parts = sym (take-append-drop h.after.count may);
         holds = omega (arith, fewer, least, long);
@@ -80,7 +72,7 @@ kept_late : {D : Type 0} (state_of : D → DiskState) → (run : ShellRun state_
     → (kept : List Command) × KeepsOfRun state_of run t s kept × Stands (state_of found) (fold s kept)
 kept_late state_of run t s found same given late cut =
     let kept = kept_of_run state_of run given in
-    kept_prefix state_of run t t s same given kept.acknowledged (omega arith) (state_of found) cut.honest cut.durable (kept.each t (bytes_of (state_of found)) late cut.found)
+    kept_prefix state_of run t t s same given (answered_by state_of run kept) (omega arith) (state_of found) cut.honest cut.durable (kept.each t (bytes_of (state_of found)) late cut.found)
 
 -- stopped before that: in the opening, or at its end
 kept_early : {D : Type 0} (state_of : D → DiskState) → (disk : D) (run : ShellRun state_of) (t : ℕ) (s : BenchState) (found : D) → Stands (state_of disk) s → run.before.state ≡ s → IsOpenOnHonestDisk (session_state state_of run.before)
@@ -90,20 +82,20 @@ kept_early state_of disk run t s found here same given migrates late early cut =
     let before : DiskState = state_of run.before.disk in
     let image : List ℕ = bytes_of (state_of found) in
     let kept = kept_of_run state_of run given in
-    let done : List Command = in_turn acknowledged_commands run.before.state run.ran.served.met in
+    let done : List Command = done_in run in
     let none : acknowledged_by t kept.acknowledged.moments ≡ 0 = acknowledged_none t (time_of before) kept.acknowledged.moments early (rising before (state_of run.after.disk) done kept.acknowledged) in
-    elim (later_before before (state_of run.after.disk) kept.stretch t image cut.found) [
+    elim (later_before before (state_of run.after.disk) kept.later t image cut.found) [
       | inl left ↦
           let then : StandsByEither image s = ⊎_elim
-          (λ (old : images_since (time_of (state_of disk)) (state_of disk) image). subst (λ (file : List ℕ). StandsByEither file s) (sym (here.durable image old)) here.stands)
+          (λ (old : images_of (state_of disk) image). subst (λ (file : List ℕ). StandsByEither file s) (sym (here.durable image old)) here.stands)
           (λ (new : StandsByEither image run.before.state). subst (StandsByEither image) same new)
-          (migrates.moments.each image ((lawful before).longer (time_of (state_of disk)) t image late left)) in (
+          (migrates.leaves.each image ((lawful before).longer (time_of (state_of disk)) t image late left)) in (
             [],
-            record { began = same; answers = answers_of_session state_of run; acknowledged = kept.acknowledged; lost = in_turn reached_commands run.before.state run.ran.served.met; parts = refl; holds = omega (arith, none) },
+            record { began = same; answered = answered_by state_of run kept; lost = reached_in run; parts = refl; holds = omega (arith, none) },
             record { honest = cut.honest; durable = cut.durable; stands = then },
           )
       | inr now ↦
-          kept_prefix state_of run t (time_of before) s same given kept.acknowledged (omega (arith, none)) (state_of found) cut.honest cut.durable (kept.each (time_of before) image (omega arith) now)
+          kept_prefix state_of run t (time_of before) s same given (answered_by state_of run kept) (omega (arith, none)) (state_of found) cut.honest cut.durable (kept.each (time_of before) image (omega arith) now)
     ]
 
 kept_served : {D : Type 0} (state_of : D → DiskState) → (disk : D) (run : ShellRun state_of) (t : ℕ) (s : BenchState) (found : D) → Stands (state_of disk) s
@@ -111,7 +103,7 @@ kept_served : {D : Type 0} (state_of : D → DiskState) → (disk : D) (run : Sh
     → (kept : List Command) × KeepsOfRun state_of run t s kept × Stands (state_of found) (fold s kept)
 kept_served state_of disk run t s found here began late cut =
     let opens = began.opens here.honest in
-    let same : run.before.state ≡ s = one_either (bytes_of (state_of disk)) run.before.state s opens.stands here.stands in
+    let same : run.before.state ≡ s = one_either (bytes_of (state_of disk)) run.before.state s opens.stood here.stands in
     let given : IsOpenOnHonestDisk (session_state state_of run.before) = (began.is_open, began.counts.honest.1 here.honest) in
     let left = cut (honest_of_run state_of run given.1) in
     elim (cases_lt t (time_of (state_of run.before.disk))) [
@@ -132,15 +124,15 @@ refused_number Device disk s here h = inl refl
 refused_number NoMemory disk s here h = inr refl
 
 rests_in : (disk left : DiskState) (image : List ℕ) (s : BenchState) → Stands disk s → AddsNoImage disk left → images_since (time_of disk) left image → StandsByEither image s
-rests_in disk left image s here rests now = subst (λ (file : List ℕ). StandsByEither file s) (sym (here.durable image (rests_since disk left rests (time_of disk) image now))) here.stands
+rests_in disk left image s here rests now = subst (λ (file : List ℕ). StandsByEither file s) (sym (durable_since disk here.durable image (rests_since disk left rests (time_of disk) image now))) here.stands
 
 fails_in : (disk left : DiskState) (image : List ℕ) (s : BenchState) → Stands disk s → FailsMigrating disk left → images_since (time_of disk) left image → StandsByEither image s
 fails_in disk left image s here fails now =
     let same : fails.state ≡ s = one_either (bytes_of disk) fails.state s (inr fails.stands) here.stands in
     ⊎_elim
-    (λ (old : images_since (time_of disk) disk image). subst (λ (file : List ℕ). StandsByEither file s) (sym (here.durable image old)) here.stands)
+    (λ (old : images_of disk image). subst (λ (file : List ℕ). StandsByEither file s) (sym (here.durable image old)) here.stands)
     (λ (new : StandsByEither image fails.state). subst (StandsByEither image) same new)
-    (fails.moments.each image now)
+    (fails.leaves.each image now)
 
 refused_in : (fault : OpenFault) (disk left : DiskState) (image : List ℕ) (s : BenchState) → Stands disk s → RefusalLeaves fault disk left → images_since (time_of disk) left image → StandsByEither image s
 refused_in NotASession disk left image s here rests now = rests_in disk left image s here rests now
@@ -172,7 +164,7 @@ kept_one : {D : Type 0} (state_of : D → DiskState) → (disk found : D) (x : S
 kept_one state_of disk found (Served run) t s here came late stopped = kept_served state_of disk run t s found here came late stopped
 kept_one state_of disk found (Refused number left) t s here came late stopped = ([], (refl, number_refused state_of disk left number s here came), stands_refused state_of disk left found number t s here came late stopped)
 
-kept_each : {D : Type 0} (state_of : D → DiskState) (IsFound : ℕ → D → D → Type 0) → AreCuts state_of IsFound → (disk : D) (xs : List (Stop state_of)) (last : D) (s : BenchState) → Stands (state_of disk) s → IsHistory IsFound disk xs last
+kept_each : {D : Type 0} (state_of : D → DiskState) (IsFound : ℕ → D → D → Type 0) → AreCuts state_of IsFound → (disk : D) (xs : List (StoppedSitting state_of)) (last : D) (s : BenchState) → Stands (state_of disk) s → IsHistory IsFound disk xs last
     → (kept : List Command) × KeepsOfEach state_of xs s kept × Stands (state_of last) (fold s kept)
 kept_each {D = D} state_of IsFound cuts disk [] last s here came = ([], refl, subst (λ (d : D). Stands (state_of d) s) (sym came) here)
 kept_each state_of IsFound cuts disk (x ∷ xs) last s here came =
@@ -190,13 +182,13 @@ pub survives_history : {D : Type 0} (state_of : D → DiskState) (IsFound : ℕ 
 survives_history state_of IsFound cuts history given =
     let s : BenchState = history.first.before.state in
     let first = kept_late state_of history.first history.time s history.found refl given history.since (cuts history.time history.first.after.disk history.found (honest_of_run state_of history.first given.1) history.stopped) in
-    let others = kept_each state_of IsFound cuts history.found history.stops history.last (fold s first.0) first.2 history.came in
+    let others = kept_each state_of IsFound cuts history.found history.others history.last (fold s first.0) first.2 history.came in
     let here = others.2 in
     record {
       kept = first.0 ++ others.0;
       of_each = (first.0, others.0, refl, first.1, others.1);
-      reopened = λ name session begun.
-          one_either (bytes_of (state_of history.last)) session.state (fold (fold s first.0) others.0) (begun.opens here.honest).stands here.stands ∙ sym (fold-append s first.0 others.0);
-      not_refused = λ name number refused.
+      reopened = λ session begun.
+          one_either (bytes_of (state_of history.last)) session.state (fold (fold s first.0) others.0) (begun.opens here.honest).stood here.stands ∙ sym (fold-append s first.0 others.0);
+      not_refused = λ number refused.
           number_refused state_of history.last refused.0 number (fold (fold s first.0) others.0) here refused.1;
     }

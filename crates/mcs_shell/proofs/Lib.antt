@@ -12,4 +12,5 @@ pub mod InTurn
 pub mod History
 pub mod FoundAgain
 pub mod MayTell
+pub mod Carrying
 pub mod Counting

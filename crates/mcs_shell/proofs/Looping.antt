@@ -12,7 +12,7 @@ use Rattle.mcs_lines.specs.declared.requests.TextKind.{TextKind}
 use Rattle.mcs_model.specs.declared.command.Command.{Command}
 use Rattle.mcs_model.specs.BenchState.{BenchState}
 use Rattle.mcs_model.specs.declared.limits.TheConstants.{INPUT_BYTES}
-use Rattle.mcs_session.specs.KeptCommands.{IsOpenOnHonestDisk, IsIntact}
+use Rattle.mcs_session.specs.KeptCommands.{IsOpenOnHonestDisk}
 use Rattle.mcs_session.specs.SessionState.{Premise, SessionState}
 use Rattle.mcs_shell.specs.declared.ends.ShellEnd.{ShellEnd}
 use Rattle.mcs_shell.specs.declared.ends.ShellEnd.TheVariants.{ReadFault, WriteFault, DeviceFault, InputLimit, NoMemory}
@@ -24,7 +24,7 @@ use Rattle.mcs_shell.specs.LineFeeds.{HasNoFeed}
 use Rattle.mcs_shell.specs.Inputs.{Input, BadText, inputs}
 use Rattle.mcs_shell.specs.Pending.{Commands, InText, Pending, nothing_pending, inputs_after, inputs_from}
 use Rattle.mcs_shell.specs.Serving.{GotFirstBytes, LeavesSession, ServesInputs, WroteBytes}
-use Rattle.mcs_shell.specs.ServedPieces.{ServesBytes}
+use Rattle.mcs_shell.specs.ServedPieces.{IsIntact, ServesBytes}
 use Rattle.mcs_shell.specs.Shell.{EndsBy, ReadInput, ReadsLittleAhead, RanShellGiven, ReadBytes, inputs_read}
 use Rattle.mcs_shell.specs.ShellState.{KnownBytes, ShellState, with_written}
 use Rattle.mcs_shell.specs.Transcript.{Step, acknowledged_commands, answered_steps, halt_after, halt_of, in_turn, inputs_in, reached_commands}
@@ -205,9 +205,9 @@ ran_halt end r r' r'' a b c line new_line chunk total n most x small little y z 
 
 -- ---- the premise that callers see
 
-leaves_under : (failed : Bool) (a b : SessionState) (cs rs : List Command) → (IsOpenOnHonestDisk a → IsIntact a) → LeavesSession IsIntact failed a b cs rs → LeavesSession IsOpenOnHonestDisk failed a b cs rs
-leaves_under false a b cs rs settle x = record { live = x.live; state = x.state; counts = x.counts; untouched = x.untouched; kept = λ given. x.kept (settle given) }
-leaves_under true a b cs rs settle x = record { closed = x.closed; state = x.state; counts = x.counts; kept = λ given. x.kept (settle given) }
+pub leaves_under : (failed : Bool) (a b : SessionState) (cs rs : List Command) → (IsOpenOnHonestDisk a → IsIntact a) → LeavesSession IsIntact failed a b cs rs → LeavesSession IsOpenOnHonestDisk failed a b cs rs
+leaves_under false a b cs rs settle x = record { live = x.live; accepted = x.accepted; state = x.state; counts = x.counts; untouched = x.untouched; kept = λ given. x.kept (settle given) }
+leaves_under true a b cs rs settle x = record { closed = x.closed; failed = x.failed; reached_are = x.reached_are; accepted = x.accepted; state = x.state; counts = x.counts; kept = λ given. x.kept (settle given) }
 
 abbrev meets_under : (given : List Input) (a b : ShellState) (halted : Option ShellEnd) → (IsOpenOnHonestDisk a.session → IsIntact a.session) → ServesInputs IsIntact given a b halted → ServesInputs IsOpenOnHonestDisk given a b halted
 meets_under given a b halted settle m =

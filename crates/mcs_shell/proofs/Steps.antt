@@ -10,19 +10,20 @@ use Rattle.mcs_model.specs.declared.command.Command.{Command}
 use Rattle.mcs_model.specs.BenchState.{BenchState}
 use Rattle.mcs_model.specs.Fold.{fold}
 use Rattle.mcs_model.specs.TextLines.{is_line_feed, lines}
-use Rattle.mcs_session.specs.KeptCommands.{RecordsCommands, IsIntact}
+use Rattle.mcs_session.specs.KeptCommands.{RecordsCommands}
 use Rattle.mcs_session.specs.SessionState.{Premise, SessionState}
 use Rattle.mcs_session.proofs.Folds.{fold-append}
-use Rattle.mcs_session.proofs.Keeping.{carries_more, carries_nothing, kept_more, settled_on}
+use Rattle.mcs_session.proofs.Keeping.{kept_more}
 use Rattle.mcs_shell.specs.declared.ends.ShellEnd.{ShellEnd}
 use Rattle.mcs_shell.specs.LineFeeds.{HasNoFeed}
 use Rattle.mcs_shell.specs.Inputs.{Input, Line, text_begun, is_dot_line, judged_text}
 use Rattle.mcs_shell.specs.Pending.{Pending, Commands, InText, nothing_pending, inputs_after}
 use Rattle.mcs_shell.specs.Reading.{AddsLine, AddsLineToText}
 use Rattle.mcs_shell.specs.Serving.{LeavesSession, ServesInputs, ServesSteps, WroteAnswers}
-use Rattle.mcs_shell.specs.ServedPieces.{ServesBytes}
+use Rattle.mcs_shell.specs.ServedPieces.{IsIntact, ServesBytes}
 use Rattle.mcs_shell.specs.ShellState.{ShellState}
 use Rattle.mcs_shell.specs.Transcript.{ArePossibleSteps, Step, acknowledged_commands, halt_after, in_turn, inputs_in, reached_commands}
+use Rattle.mcs_shell.proofs.Carrying.{accepted_more, carries_more, carries_nothing, settled_on}
 use Rattle.mcs_shell.proofs.Cutting.{HasNone-append, HasNone-take}
 use Rattle.mcs_shell.proofs.Doing.{leaves_as}
 use Rattle.mcs_shell.proofs.LineFeeds.{after-kept, after-line, group-begun, group-command, group-dot, group-kept, group-line}
@@ -34,6 +35,9 @@ leaves_more : (failed : Bool) (a b c : SessionState) (cs ds rs : List Command) �
 leaves_more false a b c cs ds rs x y = carries_more a b c cs ds x y
 leaves_more true a b c cs ds rs x y = record {
   closed = y.closed;
+  failed = y.failed;
+  reached_are = ap (λ (l : List Command). cs ++ l) y.reached_are ∙ sym (append_assoc cs ds (y.failed ∷ []));
+  accepted = accepted_more a.state b.state cs rs x.accepted x.state y.accepted;
   state = y.state ∙ ap (λ (s : BenchState). fold s ds) x.state ∙ sym (fold-append a.state cs ds);
   counts = counts_then a.disk b.disk c.disk ⊥ (Unit {0}) (λ none. none) x.counts y.counts;
   kept = λ given. kept_more a.disk b.disk c.disk a.state b.state cs ds rs (x.kept given) x.state (y.kept (settled_on a b cs x given));

@@ -2,28 +2,34 @@
 use Rattle.std.specs.Prelude.{◌≡◌, ◌⊎◌, ℕ, List, IsTrue}
 use Rattle.mcs_answers.specs.AnswerTexts.{session_text}
 use Rattle.mcs_disk.specs.Disk.{DiskState}
-use Rattle.mcs_model.specs.BenchState.{BenchState}
-use Rattle.mcs_model.specs.Fold.{fold}
-use Rattle.mcs_session.specs.SessionState.{SessionView}
+use Rattle.mcs_session.specs.KeptCommands.{IsOpenOnHonestDisk}
+use Rattle.mcs_session.specs.SessionState.{SessionView, session_state}
 use Rattle.mcs_session.specs.StandsFor.{DiskStandsFor}
 use Rattle.mcs_shell.specs.Inputs.{Input}
-use Rattle.mcs_shell.specs.Transcript.{acknowledged_commands, answer}
+use Rattle.mcs_shell.specs.Serving.{LeavesSession}
+use Rattle.mcs_shell.specs.Transcript.{acknowledged_commands, answer, is_device_fault, reached_commands}
 use Rattle.mcs_shell.specs.declared.outcome.Outcome.{Outcome}
 
--- these bytes are the answer to some input, after which the state is this: what they acknowledge was
--- done
-pub record AnswersUpTo (now : BenchState) (bytes : List ℕ) : Type 0 where
-  pub before : BenchState
+-- These bytes are the answer to some input, which the session met as it was `before`; what is there
+-- now is what that input left, and no call on the disk came after it. So a command that is answered
+-- `ok` is done and recorded, and on an honest disk the clock stands at its moment (`clock` of
+-- `KeepsAllCommands`).
+pub record AnswersUpTo {D : Type 0} (state_of : D → DiskState) (now : SessionView D)
+    (bytes : List ℕ) : Type 0 where
+  pub before : SessionView D
   pub input : Input
   pub outcome : Outcome
-  pub is : bytes ≡ answer before input outcome
-  pub done : now ≡ fold before (acknowledged_commands before input outcome)
+  pub is : bytes ≡ answer before.state input outcome
+  pub leaves : LeavesSession IsOpenOnHonestDisk (is_device_fault outcome)
+      (session_state state_of before) (session_state state_of now)
+      (acknowledged_commands before.state input outcome)
+      (reached_commands before.state input outcome)
 
--- These bytes may be told now: they are the first line of the session, or an answer whose command
--- the session has done; and on an honest disk, whatever a power cut leaves of an open session stands
--- for its state, with that command.
+-- These bytes may be told now: they are the first line of the session, or an answer to what the
+-- session has just met; and on an honest disk, whatever a power cut leaves of an open session
+-- stands for its state, with the command that is answered.
 pub record MayTell {D : Type 0} (state_of : D → DiskState) (session : SessionView D)
     (bytes : List ℕ) : Type 0 where
-  pub says : (bytes ≡ session_text session.state) ⊎ AnswersUpTo session.state bytes
-  pub kept : IsTrue session.live → (state_of session.disk).honest
+  pub says : (bytes ≡ session_text session.state) ⊎ AnswersUpTo state_of session bytes
+  pub stands : IsTrue session.live → (state_of session.disk).honest
       → DiskStandsFor (state_of session.disk) session.state

@@ -19,8 +19,8 @@ abbrev pub one_more : KnownFaults → KnownFaults
 one_more faults = option_map (λ n. min (n + 1) most_faults) faults
 
 -- the count rises by one where a call failed, and nowhere else
-abbrev pub CountsFault : {T E : Type 0} → KnownFaults → KnownFaults → Result T E → Type 0
-CountsFault old new result = MatchResult result (λ x. new ≡ old) (λ e. new ≡ one_more old)
+abbrev pub CountsKnownFault : {T E : Type 0} → KnownFaults → KnownFaults → Result T E → Type 0
+CountsKnownFault old new result = MatchResult result (λ x. new ≡ old) (λ e. new ≡ one_more old)
 
 -- how often the reader has failed once a shell ended so
 abbrev pub faults_read : ShellEnd → KnownFaults → KnownFaults

@@ -6,11 +6,11 @@ use Rattle.mcs_disk.specs.Disk.{DiskState, time_of}
 use Rattle.mcs_disk.specs.PowerCut.{IsLeftByCut}
 use Rattle.mcs_journal.specs.declared.fault.OpenFault.{OpenFault}
 use Rattle.mcs_journal.specs.declared.fault.OpenFault.TheVariants as open_fault
+use Rattle.mcs_model.specs.declared.command.Command.{Command}
 use Rattle.mcs_model.specs.BenchState.{BenchState}
 use Rattle.mcs_session.specs.Acknowledgements.{Acknowledgements, acknowledged_by}
 use Rattle.mcs_session.specs.Opening.{OpensSession, RefusesSession}
 use Rattle.mcs_session.specs.KeptCommands.{IsAfterPrefix}
-use Rattle.mcs_session.specs.SessionState.{SessionState, session_state}
 use Rattle.mcs_shell.specs.Inputs.{Input}
 use Rattle.mcs_shell.specs.declared.ends.ShellEnd.{ShellEnd}
 use Rattle.mcs_shell.specs.declared.ends.ShellEnd.TheVariants.{WriteFault, DeviceFault, NoMemory}
@@ -18,25 +18,7 @@ use Rattle.mcs_shell.specs.Shell.{ReadInput, ShellRun, inputs_read}
 use Rattle.mcs_shell.specs.ShellState.{KnownBytes, ShellState, shell_state}
 use Rattle.mcs_shell.specs.Transcript.{ArePossibleSteps, Step, answer, acknowledged_commands, in_turn, inputs_in, reached_commands}
 
--- A run that began in session `a` met these inputs, and left the disk `ran`. Each command that it
--- answered `ok` was acknowledged at its moment. A power cut at any time of the run left a disk
--- (`state_of` is what contracts see of one): opened, it gives the bench as it is after a prefix of
--- the commands answered `ok` and the one answered `no 53`, and the prefix holds each one
--- acknowledged by that time. Opening it is refused for lack of memory and for a device fault alone.
-pub record SurvivesPowerCuts
-    {E : Type 0} (state_of : E → DiskState) (a : SessionState) (ran : DiskState)
-    (met : List Step) : Type 0 where
-  pub acknowledged : Acknowledgements a.disk ran
-      (in_turn acknowledged_commands a.state met)
-  pub reopened : (t : ℕ) (found opened : E) (u : BenchState) → time_of a.disk ≤ t
-      → IsLeftByCut t ran (state_of found) → OpensSession (state_of found) (state_of opened) u
-      → IsAfterPrefix a.state (in_turn reached_commands a.state met)
-      (acknowledged_by t acknowledged.moments) u
-  pub not_refused : (t : ℕ) (found : E) (fault : OpenFault) → time_of a.disk ≤ t
-      → IsLeftByCut t ran (state_of found) → RefusesSession fault (state_of found)
-      → (fault ≡ open_fault.Device) ⊎ (fault ≡ open_fault.NoMemory)
-
--- ---- both halves
+-- ---- what a run answered
 
 -- A run met these inputs, the first of those that the bytes which it read spell. What it wrote is
 -- the first line of a session and then their answers, each that of the state after the commands
@@ -56,15 +38,50 @@ pub record AnswersInTurn
       ≡ session_text a.session.state ++ in_turn answer a.session.state met
   pub all_told : end ≢ WriteFault → end ≢ NoMemory → left_out ≡ []
 
--- The answers of a run are those of the inputs that it met, in turn, and what is found after a
--- power cut is the bench after a prefix of the commands among them that holds what was acknowledged
--- (`state_of` and `found_of` are what contracts see of the disks). The premise of the law is that
--- the session is open and its disk honest (`IsOpenOnHonestDisk`).
-pub record AnswersAndSurvives
-    {D E : Type 0} (state_of : D → DiskState) (found_of : E → DiskState)
-    (run : ShellRun state_of) : Type 0 where
+-- the commands that a run answered `ok`
+abbrev pub done_in : {D : Type 0} {state_of : D → DiskState} → ShellRun state_of → List Command
+done_in run = in_turn acknowledged_commands run.before.state run.ran.served.met
+
+-- these, and then the one that it answered `no 53`, if it did
+abbrev pub reached_in : {D : Type 0} {state_of : D → DiskState} → ShellRun state_of → List Command
+reached_in run = in_turn reached_commands run.before.state run.ran.served.met
+
+-- The answers of a run are those of the inputs that it met, in turn, and each command that it
+-- answered `ok` was acknowledged at its moment (`state_of` is what contracts see of its disk).
+pub record AnswersAndAcknowledges
+    {D : Type 0} {state_of : D → DiskState} (run : ShellRun state_of) : Type 0 where
   pub answers : AnswersInTurn run.end run.ran.read
       (shell_state state_of run.before run.out)
       (shell_state state_of run.after run.out') run.ran.served.met
-  pub survives : SurvivesPowerCuts found_of (session_state state_of run.before)
-      (state_of run.after.disk) run.ran.served.met
+  pub acknowledged : Acknowledgements (state_of run.before.disk) (state_of run.after.disk)
+      (done_in run)
+  pub failed : List Command
+  pub reached_are : reached_in run ≡ done_in run ++ failed
+
+-- ---- what is found again
+
+-- A power cut at any time of a run left a disk (`found_of` is what contracts see of one): opened,
+-- it gives the bench as it is after a prefix of the commands answered `ok` and the one answered `no
+-- 53`, and the prefix holds each one that had its moment by that time. Opening it is refused for
+-- lack of memory and for a device fault alone.
+pub record SurvivesPowerCuts
+    {D E : Type 0} {state_of : D → DiskState} (found_of : E → DiskState) (run : ShellRun state_of)
+    (moments : List ℕ) : Type 0 where
+  pub reopened : (time : ℕ) (found opened : E) (state : BenchState)
+      → time_of (state_of run.before.disk) ≤ time
+      → IsLeftByCut time (state_of run.after.disk) (found_of found)
+      → OpensSession (found_of found) (found_of opened) state
+      → IsAfterPrefix run.before.state (reached_in run) (acknowledged_by time moments) state
+  pub not_refused : (time : ℕ) (found : E) (fault : OpenFault)
+      → time_of (state_of run.before.disk) ≤ time
+      → IsLeftByCut time (state_of run.after.disk) (found_of found)
+      → RefusesSession fault (found_of found)
+      → (fault ≡ open_fault.Device) ⊎ (fault ≡ open_fault.NoMemory)
+
+-- What a run answered and acknowledged, and what of it survives. The premise of the law is that the
+-- session is open and its disk honest (`IsOpenOnHonestDisk`).
+pub record AnswersAndSurvives
+    {D E : Type 0} (state_of : D → DiskState) (found_of : E → DiskState)
+    (run : ShellRun state_of) : Type 0 where
+  pub answered : AnswersAndAcknowledges run
+  pub survives : SurvivesPowerCuts found_of run answered.acknowledged.moments

@@ -53,8 +53,8 @@ abbrev pub text_begun : Request → Option TextKind
 text_begun (Begin kind) = Some kind
 text_begun request = None
 
--- A text, by the lines after the one that began it: it is those before the first that is a dot, each
--- followed by a line feed. Where none is a dot it has no end, if input ended there.
+-- A text, by the lines after the one that began it: it is those before the first that is a dot,
+-- each followed by a line feed. Where none is a dot it has no end, if input ended there.
 abbrev pub text_input : Bool → TextKind → List (List ℕ) → List Input
 text_input whole kind ls =
     if list_any is_dot_line ls

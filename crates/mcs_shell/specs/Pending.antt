@@ -1,5 +1,5 @@
--- What a reader of pieces has not finished, and the inputs that come of it. It is cited by clauses of
--- private functions alone.
+-- What a reader of pieces has not finished, and the inputs that come of it. It is cited by clauses
+-- of private functions alone.
 use Rattle.std.specs.Prelude.{Bool, ℕ, List, [], ◌∷◌, ◌++◌, if◌then◌else◌, Some, None}
 use Rattle.mcs_lines.specs.declared.requests.TextKind.{TextKind}
 use Rattle.mcs_lines.specs.LineRequests.{request_of}

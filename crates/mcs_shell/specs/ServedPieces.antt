@@ -1,9 +1,11 @@
--- An input alone, and inputs that come in pieces. It is cited by clauses of private functions alone.
+-- An input alone, and inputs that come in pieces. It is cited by clauses of private functions
+-- alone.
 use Rattle.std.specs.Prelude.{◌≡◌, Bool, ℕ, List, ◌++◌, Option, None}
 use Rattle.mcs_session.specs.declared.fault.SessionFault.{SessionFault}
 use Rattle.mcs_session.specs.declared.fault.SessionFault.TheVariants as session_fault
-use Rattle.mcs_session.specs.KeptCommands.{IsIntact}
+use Rattle.mcs_session.specs.KeptCommands.{IsOpenOnHonestDisk}
 use Rattle.mcs_session.specs.SessionState.{SessionState}
+use Rattle.mcs_session.specs.StandsFor.{DiskStandsFor}
 use Rattle.mcs_shell.specs.declared.ends.ShellEnd.{ShellEnd}
 use Rattle.mcs_shell.specs.declared.outcome.Outcome.{Outcome}
 use Rattle.mcs_shell.specs.declared.outcome.Outcome.TheVariants.{Plain, Device, Closed}
@@ -13,6 +15,12 @@ use Rattle.mcs_shell.specs.Pending.{Pending, inputs_after}
 use Rattle.mcs_shell.specs.Serving.{LeavesSession, ServesSteps}
 use Rattle.mcs_shell.specs.ShellState.{ShellState}
 use Rattle.mcs_shell.specs.Transcript.{IsPossibleOutcome, Step, acknowledged_commands, answer, halt_after, inputs_in, is_device_fault, reached_commands}
+
+-- what each input of a run hands on to the next: the premise of the run, and that the disk stands
+-- for the state
+pub record IsIntact (a : SessionState) : Type 0 where
+  pub honest : IsOpenOnHonestDisk a
+  pub stands : DiskStandsFor a.disk a.state
 
 -- what comes of an input whose command was not recorded
 abbrev pub outcome_of : SessionFault → Outcome

@@ -5,7 +5,7 @@ use Rattle.std.specs.List.{list_any}
 use Rattle.mcs_disk.specs.Disk.{CountsFault}
 use Rattle.mcs_model.specs.declared.command.Command.{Command}
 use Rattle.mcs_model.specs.BenchState.{BenchState}
-use Rattle.mcs_model.specs.Fold.{fold}
+use Rattle.mcs_model.specs.Fold.{AreAccepted, fold}
 use Rattle.mcs_shell.specs.declared.ends.ShellEnd.{ShellEnd}
 use Rattle.mcs_shell.specs.Inputs.{Input}
 use Rattle.mcs_session.specs.SessionState.{Premise, SessionState}
@@ -35,21 +35,24 @@ WroteAnswers s (x ∷ rest) old new =
 
 -- ---- the session
 
--- The device failed, which closed the session. The commands `done` were answered `ok`;
--- `reached_too`, which holds them and the one at which the device failed, may all have reached the
+-- The device failed, which closed the session. The commands `done` were answered `ok`; all of
+-- `reached`, which are these and then the one at which the device failed, may have reached the
 -- disk.
 pub record ClosesSession
-    (Given : Premise) (a b : SessionState) (done reached_too : List Command) : Type 0 where
+    (Given : Premise) (a b : SessionState) (done reached : List Command) : Type 0 where
   pub closed : b.live ≡ false
+  pub failed : Command
+  pub reached_are : reached ≡ done ++ failed ∷ []
+  pub accepted : AreAccepted a.state reached
   pub state : b.state ≡ fold a.state done
   pub counts : CountsFault a.disk b.disk (Unit {0})
-  pub kept : Given a → KeepsCommands a.disk b.disk a.state done reached_too
+  pub kept : Given a → KeepsCommands a.disk b.disk a.state done reached
 
 -- what inputs leave of the session and its disk, by whether the device failed at the last of them
 abbrev pub LeavesSession : Premise → Bool → SessionState → SessionState → List Command
     → List Command → Type 0
-LeavesSession Given false a b done reached_too = RecordsCommands Given a b done
-LeavesSession Given true a b done reached_too = ClosesSession Given a b done reached_too
+LeavesSession Given false a b done reached = RecordsCommands Given a b done
+LeavesSession Given true a b done reached = ClosesSession Given a b done reached
 
 -- ---- inputs in turn
 

@@ -7,7 +7,7 @@ ghost use Rattle.mcs_model.specs.TextLines.{as_line};
 ghost use Rattle.mcs_answers.specs.AheadTexts.{count_answer, trace_answer};
 ghost use Rattle.mcs_shell.specs.Serving.{GotFirstBytes};
 ghost use Rattle.mcs_shell.specs.Answers.{MayTell};
-ghost use Rattle.mcs_shell.specs.Faults.{CountsFault};
+ghost use Rattle.mcs_shell.specs.Faults.{CountsKnownFault};
 ghost use Rattle.mcs_shell.specs.Spelling.{text_refusal};
 
 use crate::sending::WriteStopped;
@@ -182,7 +182,7 @@ impl Answer {
             (Appends (W.contents writer.old) (W.contents writer.new) self.now) }
         ensures err { OnErr result
             (GotFirstBytes (W.contents writer.old) (W.contents writer.new) self.now) }
-        ensures counted { CountsFault (W.faults writer.old) (W.faults writer.new) result }
+        ensures counted { CountsKnownFault (W.faults writer.old) (W.faults writer.new) result }
     {
         match &self.long {
             None => writer.tell(session, self.short.as_slice(), &[]),

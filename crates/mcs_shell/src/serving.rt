@@ -6,11 +6,10 @@ ghost use Rattle.mcs_shell.specs.LineFeeds.{HasNoFeed};
 ghost use Rattle.mcs_shell.specs.Inputs.{BadText, Line, judged_text};
 ghost use Rattle.mcs_shell.specs.ShellState.{shell_state};
 ghost use Rattle.mcs_shell.specs.Serving.{ServesInputs, WroteBytes};
-ghost use Rattle.mcs_shell.specs.ServedPieces.{ServesBytes};
+ghost use Rattle.mcs_shell.specs.ServedPieces.{IsIntact, ServesBytes};
 ghost use Rattle.mcs_shell.specs.Answers.{MayTell};
 ghost use Rattle.mcs_shell.specs.Faults.{faults_written};
 ghost use Rattle.mcs_shell.specs.Transcript.{halt_of};
-ghost use Rattle.mcs_session.specs.KeptCommands.{IsIntact};
 
 use crate::answer::Answer;
 use crate::answering::{answer_request, answer_text};
@@ -60,6 +59,7 @@ fn serve_request<W: AnswerSink, D: Disk + Drop>(
         (shell_state D.state session.new (W.contents writer.new)) (result_err result) }
     ensures counted { W.faults writer.new ≡ faults_written (result_err result) (W.faults writer.old) }
 {
+    let _before = session.bench();
     let mut answer = Answer::new();
     let outcome = answer_request(alloc, &request, session, &mut answer);
     let _bench = session.bench();
@@ -79,6 +79,7 @@ fn serve_text<W: AnswerSink, D: Disk + Drop>(
         (shell_state D.state session.new (W.contents writer.new)) (result_err result) }
     ensures counted { W.faults writer.new ≡ faults_written (result_err result) (W.faults writer.old) }
 {
+    let _before = session.bench();
     let mut answer = Answer::new();
     let outcome = answer_text(alloc, kind, text, session, &mut answer);
     let _bench = session.bench();

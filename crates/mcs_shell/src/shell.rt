@@ -2,13 +2,13 @@
 ghost use Rattle.std.specs.Prelude.{◌≡◌, ◌<◌, ◌≤◌, [], true, take, length, IfOk, OnErr};
 ghost use Rattle.std.specs.Result.{result_err};
 ghost use Rattle.std.specs.Io.KnownBytes.{Keeps};
-ghost use Rattle.mcs_shell.specs.Faults.{CountsFault, EndsByItsFault, faults_written};
+ghost use Rattle.mcs_shell.specs.Faults.{CountsKnownFault, EndsByItsFault, faults_written};
 ghost use Rattle.mcs_shell.specs.LineFeeds.{HasNoFeed};
 ghost use Rattle.mcs_shell.specs.ShellState.{shell_state};
 ghost use Rattle.mcs_shell.specs.Shell.{RanShell, RanShellGiven, ReadBytes};
+ghost use Rattle.mcs_shell.specs.ServedPieces.{IsIntact};
 ghost use Rattle.mcs_shell.specs.Serving.{ServesInputs};
 ghost use Rattle.mcs_shell.specs.Pending.{inputs_after};
-ghost use Rattle.mcs_session.specs.KeptCommands.{IsIntact};
 
 use crate::answer::Answer;
 use crate::ends::ShellEnd;
@@ -35,7 +35,7 @@ fn read_some<R: InputSource>(
     ensures ok { IfOk result (λ n.
         ReadBytes n most (R.remaining reader.old) (R.remaining reader.new) (take n buffer.new)) }
     ensures err { OnErr result (Keeps (R.remaining reader.old) (R.remaining reader.new)) }
-    ensures counted { CountsFault (R.faults reader.old) (R.faults reader.new) result }
+    ensures counted { CountsKnownFault (R.faults reader.old) (R.faults reader.new) result }
 {
     reader.read_some(&mut buffer[..most])
 }

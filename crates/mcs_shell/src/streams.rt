@@ -2,7 +2,7 @@
 ghost use Rattle.std.specs.Prelude.{◌<◌, ◌++◌, ℕ, List, Option, None, length, take, IfOk, OnErr, OnOk};
 ghost use Rattle.std.specs.Io.KnownBytes.{Appends, Keeps};
 ghost use Rattle.mcs_shell.specs.Answers.{MayTell};
-ghost use Rattle.mcs_shell.specs.Faults.{CountsFault};
+ghost use Rattle.mcs_shell.specs.Faults.{CountsKnownFault};
 ghost use Rattle.mcs_shell.specs.Serving.{GotFirstBytes};
 ghost use Rattle.mcs_shell.specs.Shell.{ReadBytes};
 
@@ -30,7 +30,7 @@ pub trait InputSource {
         ensures ok { IfOk result (λ n. ReadBytes n (length buffer.old)
             (remaining self.old) (remaining self.new) (take n buffer.new)) }
         ensures err { OnErr result (Keeps (remaining self.old) (remaining self.new)) }
-        ensures counted { CountsFault (faults self.old) (faults self.new) result };
+        ensures counted { CountsKnownFault (faults self.old) (faults self.new) result };
 }
 
 impl<R: Read> InputSource for R {
@@ -68,7 +68,7 @@ pub trait AnswerSink {
             (Appends (contents self.old) (contents self.new) (first.now ++ second.now)) }
         ensures err { OnErr result
             (GotFirstBytes (contents self.old) (contents self.new) (first.now ++ second.now)) }
-        ensures counted { CountsFault (faults self.old) (faults self.new) result };
+        ensures counted { CountsKnownFault (faults self.old) (faults self.new) result };
 }
 
 impl<W: Write> AnswerSink for W {

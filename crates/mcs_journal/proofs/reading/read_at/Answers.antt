@@ -1,6 +1,3 @@
-use Rattle.std.proofs.Common.{ap}
-use Rattle.std.proofs.lemmas.Result.{on_ok_weaker}
-use Rattle.mcs_disk.specs.Calls.{clock_of}
 use Rattle.mcs_disk.proofs.Composing.{read_reads}
 use Rattle.mcs_journal.proofs.reading.read_at.Goals as goal
 

@@ -1,4 +1,4 @@
-use Rattle.mcs_disk.specs.Moments.{ReadsOnly}
+use Rattle.mcs_disk.specs.Changes.{ReadsOnly}
 use Rattle.mcs_disk.proofs.CallLaws.{size_of-bytes}
 use Rattle.mcs_disk.proofs.Composing.{rests_bytes, sync_reads, rests_durable, rests_then, reads_then, reads_as, synced_durable}
 use Rattle.mcs_journal.proofs.Asked.{on_err, reads_more, reads_sum}
@@ -27,8 +27,8 @@ contents f snap slot records long header is_snap log = record {
 pub returns-clause-holds : goal.returns-clause-holds
 returns-clause-holds g c = λ h.
     let h1 = c.sync.ensures.call.honest.1 h in
-    let h2 = c.read_header.ensures.reads.tells.honest.1 h1 in
-    let h3 = c.read_snapshot.ensures.reads.tells.honest.1 h2 in
+    let h2 = c.read_header.ensures.reads.counts.honest.1 h1 in
+    let h3 = c.read_snapshot.ensures.reads.counts.honest.1 h2 in
     let same1 = rests_bytes _ _ (sync_reads _ _ _ c.sync.ensures.call c.sync.ensures.noted).rests in
     let same2 = rests_bytes _ _ c.read_header.ensures.reads.rests ∙ same1 in
     let same3 = rests_bytes _ _ c.read_snapshot.ensures.reads.rests ∙ same2 in
@@ -42,8 +42,8 @@ returns-clause-holds g c = λ h.
 pub returns-in_err-log-clause-damaged : goal.returns-in_err-log-clause-damaged
 returns-in_err-log-clause-damaged g c = λ h told snap records held.
     let h1 = c.sync.ensures.call.honest.1 h in
-    let h2 = c.read_header.ensures.reads.tells.honest.1 h1 in
-    let h3 = c.read_snapshot.ensures.reads.tells.honest.1 h2 in
+    let h2 = c.read_header.ensures.reads.counts.honest.1 h1 in
+    let h3 = c.read_snapshot.ensures.reads.counts.honest.1 h2 in
     let same1 = rests_bytes _ _ (sync_reads _ _ _ c.sync.ensures.call c.sync.ensures.noted).rests in
     let same2 = rests_bytes _ _ c.read_header.ensures.reads.rests ∙ same1 in
     let same3 = rests_bytes _ _ c.read_snapshot.ensures.reads.rests ∙ same2 in

@@ -22,7 +22,7 @@ pub returns-clause-found : goal.returns-clause-found
 returns-clause-found g c = λ h.
     let so_far = c.loop-records.invariant.walked h in
     let same = rests_bytes _ _ c.loop-records.invariant.reads.rests in
-    let shut = c.in_ok-record.ensures.closed (c.loop-records.invariant.reads.tells.honest.1 h) in
+    let shut = c.in_ok-record.ensures.closed (c.loop-records.invariant.reads.counts.honest.1 h) in
     let not_one : get_or (bytes_of (g.D.Disk.state c.loop-records.disk)) (c.args.at + c.loop-records.used) 0 ≢ 1 = search rules in
     (ends (bytes_of (g.D.Disk.state c.args.disk.now)) c.args.at (omega (arith, size_of-bytes (g.D.Disk.state c.args.disk.now), c.requires.inside)) _ _ so_far (λ one. not_one (ap (λ (b : List ℕ). get_or b (c.args.at + c.loop-records.used) 0) same ∙ one)) (omega arith), so_far.count)
 
@@ -31,7 +31,7 @@ returns-in_err-record-clause-damaged g c = λ h damaged records is_log.
     let so_far = c.loop-records.invariant.walked h in
     let same = rests_bytes _ _ c.loop-records.invariant.reads.rests in
     let told : IsErrOf c.read_record.result Damaged = search rules in
-    let said = c.read_record.ensures.damaged (c.loop-records.invariant.reads.tells.honest.1 h) told in
+    let said = c.read_record.ensures.damaged (c.loop-records.invariant.reads.counts.honest.1 h) told in
     no_log (bytes_of (g.D.Disk.state c.args.disk.now)) c.args.at (omega (arith, size_of-bytes (g.D.Disk.state c.args.disk.now), c.requires.inside)) _ _ so_far (omega arith) (subst (λ (b : List ℕ). IsNoRecord b (c.args.at + c.loop-records.used) (65536 - c.loop-records.used)) same said) records is_log
 
 pub loop-records-preserved : goal.loop-records-preserved
@@ -42,7 +42,7 @@ loop-records-preserved g c = record {
       ∙ ap (λ (n : ℕ). many_reads n ++ (g.D.Disk.state c.args.disk.now).calls) (omega (arith, length-append c.loop-records.records.items (c.in-Some.record ∷ []), ap length c.in_ok-push.ensures.items));
   walked = λ h.
       let same = rests_bytes _ _ c.loop-records.invariant.reads.rests in
-      let next = rw c.in-Some.is at c.in_ok-record.ensures.next (c.loop-records.invariant.reads.tells.honest.1 h) in
+      let next = rw c.in-Some.is at c.in_ok-record.ensures.next (c.loop-records.invariant.reads.counts.honest.1 h) in
       let more = one_more (bytes_of (g.D.Disk.state c.args.disk.now)) c.args.at (omega (arith, size_of-bytes (g.D.Disk.state c.args.disk.now), c.requires.inside)) c.loop-records.records.items c.loop-records.used c.in-Some.record (c.loop-records.invariant.walked h)
       (subst (λ (b : List ℕ). IsNext b (c.args.at + c.loop-records.used) c.in-Some.record) same next) room in
       let log = part c.args.at 65536 (bytes_of (g.D.Disk.state c.args.disk.now)) in

@@ -1,7 +1,7 @@
 use Rattle.std.proofs.Common.{◌≡◌, ◌≤◌, ◌+◌, ◌*◌, ◌-◌, ◌++◌, length}
 use Rattle.mcs_journal.specs.Calls.{many_reads}
 use Rattle.mcs_disk.specs.Disk.{part, bytes_of}
-use Rattle.mcs_disk.specs.Moments.{ReadsOnly}
+use Rattle.mcs_disk.specs.Changes.{ReadsOnly}
 use Rattle.mcs_journal.proofs.Walk.{IsPrefix}
 use Rattle.mcs_journal.proofs.reading.read_log.Given as goal
 

@@ -1,4 +1,4 @@
-use Rattle.mcs_disk.specs.Moments.{ReadsOnly}
+use Rattle.mcs_disk.specs.Changes.{ReadsOnly}
 use Rattle.mcs_disk.proofs.Composing.{rests_bytes, reads_then, reads_as}
 use Rattle.mcs_journal.specs.Calls.{OnlyRead}
 use Rattle.mcs_journal.proofs.Asked.{on_err, read_failed, reads_more, reads_sum}
@@ -14,7 +14,7 @@ returns-then-len-eq0-clause-damaged g c = λ h told.
     let f = bytes_of (g.D.Disk.state c.args.disk.now) in
     let commit_byte = c.in_ok-read_at.ensures.given h in
     let first = c.read_at.ensures.reads.rests in
-    let prefix = c.in_ok-read_at-2.ensures.given (c.read_at.ensures.reads.tells.honest.1 h) ∙ ap (part (c.args.at + 1) 2) (rests_bytes _ _ first) in
+    let prefix = c.in_ok-read_at-2.ensures.given (c.read_at.ensures.reads.counts.honest.1 h) ∙ ap (part (c.args.at + 1) 2) (rests_bytes _ _ first) in
     no_record f c.args.at c.args.room _ _ _ commit_byte (search rules) prefix refl (λ some few fits. elim c.then-len-eq0.branch [
       | then-len-eq0-via-then-len-eq0 w ↦ omega arith
       | then-len-eq0-via-else-len-eq0+then-len-gt-MOST_RECORD w ↦ omega arith
@@ -26,9 +26,9 @@ returns-clause-next g c = λ h.
     let f = bytes_of (g.D.Disk.state c.args.disk.now) in
     let commit_byte = c.in_ok-read_at.ensures.given h in
     let first = c.read_at.ensures.reads.rests in
-    let h1 = c.read_at.ensures.reads.tells.honest.1 h in
+    let h1 = c.read_at.ensures.reads.counts.honest.1 h in
     let second = c.read_at-2.ensures.reads.rests in
-    let h2 = c.read_at-2.ensures.reads.tells.honest.1 h1 in
+    let h2 = c.read_at-2.ensures.reads.counts.honest.1 h1 in
     let prefix = c.in_ok-read_at-2.ensures.given h1 ∙ ap (part (c.args.at + 1) 2) (rests_bytes _ _ first) in
     let payload = c.in_ok-read_at-3.ensures.given h2 in
     let n : ℕ = get_or c.read_at-2.new.into 0 0 * 256 + get_or c.read_at-2.new.into 1 0 in

@@ -20,10 +20,10 @@ invariant_of-result-in-Ok g c = record {
 pub returns-in-Ok-clause-version_1 : goal.returns-in-Ok-clause-version_1
 returns-in-Ok-clause-version_1 g c = λ e honest snap records held.
     let changes = c.in-Ok.ensures.replaces honest snap records held in
-    record { moments = changes.moments; held = changes.after; durable = changes.durable }
+    record { leaves = changes.leaves; held = changes.after; durable = changes.durable }
 
 pub returns-in-Err-clause-failed : goal.returns-in-Err-clause-failed
-returns-in-Err-clause-failed g c = λ honest snap records held. rw c.into_disk.ensures (c.in-Err.ensures.replaces honest snap records held).moments
+returns-in-Err-clause-failed g c = λ honest snap records held. rw c.into_disk.ensures (c.in-Err.ensures.replaces honest snap records held).leaves
 
 pub returns-then-not-version_1-clause-one_unsynced : goal.returns-then-not-version_1-clause-one_unsynced
 returns-then-not-version_1-clause-one_unsynced g c = none_added _

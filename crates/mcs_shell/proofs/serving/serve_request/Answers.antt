@@ -6,4 +6,4 @@ pub returns-clause-served : goal.returns-clause-served
 returns-clause-served g c = meets_one _ _ _ _ _ _ c.answer_request-outcome.ensures c.deliver.ensures.wrote
 
 pub deliver-requires : goal.deliver-requires
-deliver-requires g c = may_answer _ _ _ _ _ _ c.answer_request-outcome.ensures c.bench-bench.ensures.at
+deliver-requires g c = may_answer _ c.args.session.now _ _ _ _ c.answer_request-outcome.ensures c.bench-before.ensures.stands c.bench-bench.ensures.stands

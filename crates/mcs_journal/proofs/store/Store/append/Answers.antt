@@ -24,7 +24,7 @@ returns-in-Ok-clause-appends g c = rw (← c.self.view_is) (λ h snap records he
     let room : HasRoom c.self.inside.used (length c.args.payload.now) = subst (λ (v : StoreView g.row.D.Denot). HasRoom v.used (length c.args.payload.now)) (sym c.self.view_is) c.requires.room in
     let intact = c.self.invariant.intact live h in
     let changes = c.in-Ok.ensures.changes h intact.durable snap records held (commit_of _ _ _ _ _ snap records c.start.ensures intact room held) in
-    record { after = changes.after; durable = changes.durable; ticks = changes.ticks; moments = changes.moments })
+    record { after = changes.after; durable = changes.durable; ticks = changes.ticks; leaves = changes.leaves })
 
 pub returns-in-Err-clause-appends : goal.returns-in-Err-clause-appends
 returns-in-Err-clause-appends g c = rw (← c.self.view_is) (λ h snap records held.
@@ -32,7 +32,7 @@ returns-in-Err-clause-appends g c = rw (← c.self.view_is) (λ h snap records h
     let room : HasRoom c.self.inside.used (length c.args.payload.now) = subst (λ (v : StoreView g.row.D.Denot). HasRoom v.used (length c.args.payload.now)) (sym c.self.view_is) c.requires.room in
     let intact = c.self.invariant.intact live h in
     let changes = c.add_record.ensures.changes h intact.durable snap records held (commit_of _ _ _ _ _ snap records c.start.ensures intact room held) in
-    record { after = tt; durable = tt; ticks = tt; moments = changes.moments })
+    record { after = tt; durable = tt; ticks = tt; leaves = changes.leaves })
 
 pub invariant_of-self : goal.invariant_of-self
 invariant_of-self g c =

@@ -11,38 +11,38 @@ pub returns-then-size-ne-FILE_SIZE-clause-refused : goal.returns-then-size-ne-FI
 returns-then-size-ne-FILE_SIZE-clause-refused g c = λ h. (λ blank. c.if-size-ne-FILE_SIZE.true (c.size.ensures ∙ blank.0), rests_still _)
 
 pub returns-in-Err-check_blank-clause-refusal_counts : goal.returns-in-Err-check_blank-clause-refusal_counts
-returns-in-Err-check_blank-clause-refusal_counts g c = counts_err _ _ _ Device _ c.in-Err-check_blank.is c.check_blank.ensures.reads.tells
+returns-in-Err-check_blank-clause-refusal_counts g c = counts_err _ _ _ Device _ c.in-Err-check_blank.is c.check_blank.ensures.reads.counts
 
 pub returns-in-Err-check_blank-clause-refused : goal.returns-in-Err-check_blank-clause-refused
 returns-in-Err-check_blank-clause-refused g c = λ h. refuses_create _ _ _ c.check_blank.ensures.reads.rests (λ fault. c.check_blank.ensures.not_blank h (c.in-Err-check_blank.is ∙ ap Err fault))
 
 pub returns-in-Ok-write_first-clause-counts : goal.returns-in-Ok-write_first-clause-counts
 returns-in-Ok-write_first-clause-counts g c =
-    counts_then _ _ _ _ _ (λ failed. cc) c.in-Ok-check_blank.ensures.reads.tells (counts_as _ _ _ _ (λ failed. cc) (λ no. absurd no) c.in-Ok-write_first.ensures.call)
+    counts_then _ _ _ _ _ (λ failed. cc) c.in-Ok-check_blank.ensures.reads.counts (counts_as _ _ _ _ (λ failed. cc) (λ no. absurd no) c.in-Ok-write_first.ensures.call)
 
 pub returns-in-Ok-write_first-clause-created : goal.returns-in-Ok-write_first-clause-created
 returns-in-Ok-write_first-clause-created g c = λ h.
-    let mid = c.check_blank.ensures.reads.tells.honest.1 h in
+    let mid = c.check_blank.ensures.reads.counts.honest.1 h in
     record {
       blank = c.in-Ok-check_blank.ensures.blank h;
       holds = c.in-Ok-write_first.ensures.made mid;
       durable = c.in-Ok-write_first.ensures.durable mid;
       ticks = omega (arith, c.in-Ok-check_blank.ensures.ticks h, c.in-Ok-write_first.ensures.ticks mid);
-      moments = later_then _ _ _ c.check_blank.ensures.reads.rests.later (c.write_first.ensures.goes_on mid);
+      later = later_then _ _ _ c.check_blank.ensures.reads.rests.later (c.write_first.ensures.goes_on mid);
     }
 
 pub returns-in-Err-write_first-clause-refusal_counts : goal.returns-in-Err-write_first-clause-refusal_counts
 returns-in-Err-write_first-clause-refusal_counts g c =
-    counts_then _ _ _ _ _ (λ failed. cc) c.in-Ok-check_blank.ensures.reads.tells (counts_as _ _ _ _ (λ failed. refl) (λ same. refl) c.in-Err-write_first.ensures.call)
+    counts_then _ _ _ _ _ (λ failed. cc) c.in-Ok-check_blank.ensures.reads.counts (counts_as _ _ _ _ (λ failed. refl) (λ same. refl) c.in-Err-write_first.ensures.call)
 
 pub returns-in-Err-write_first-clause-refused : goal.returns-in-Err-write_first-clause-refused
 returns-in-Err-write_first-clause-refused g c = λ h.
-    let mid = c.check_blank.ensures.reads.tells.honest.1 h in
+    let mid = c.check_blank.ensures.reads.counts.honest.1 h in
     later_then _ _ _ c.check_blank.ensures.reads.rests.later (c.write_first.ensures.goes_on mid)
 
 pub invariant_of-result : goal.invariant_of-result
 invariant_of-result g c = record {
-  disk_size = ap length (c.write_first.ensures.call.start ∙ c.check_blank.ensures.reads.tells.start) ∙ sym c.size.ensures ∙ c.if-size-ne-FILE_SIZE.false;
+  disk_size = ap length (c.write_first.ensures.call.start ∙ c.check_blank.ensures.reads.counts.start) ∙ sym c.size.ensures ∙ c.if-size-ne-FILE_SIZE.false;
   within = omega arith;
   room = simp (length-take, length-append, length-drop) (omega (arith, c.as_mut_slice.ensures.len, ap length c.as_mut_slice.ensures.value, c.write_first.ensures.room, c.in-Ok.ensures.len, c.write_first.auto.buffer));
   synced = λ alive. ap unsynced c.in-Ok-write_first.ensures.calls.made.all;

@@ -12,7 +12,7 @@ pub returns-then-size-ne-FILE_SIZE-clause-refused : goal.returns-then-size-ne-FI
 returns-then-size-ne-FILE_SIZE-clause-refused g c = λ h. (inl (λ same. c.if-size-ne-FILE_SIZE.true (c.size.ensures ∙ same)), rests_still _)
 
 pub returns-in-Err-read_contents-clause-refusal_counts : goal.returns-in-Err-read_contents-clause-refusal_counts
-returns-in-Err-read_contents-clause-refusal_counts g c = counts_err _ _ _ Device _ c.in-Err-read_contents.is c.read_contents.ensures.reads.tells
+returns-in-Err-read_contents-clause-refusal_counts g c = counts_err _ _ _ Device _ c.in-Err-read_contents.is c.read_contents.ensures.reads.counts
 
 pub returns-in-Err-read_contents-clause-refused : goal.returns-in-Err-read_contents-clause-refused
 returns-in-Err-read_contents-clause-refused g c = λ h. (
@@ -24,19 +24,19 @@ returns-in-Err-read_contents-clause-refused g c = λ h. (
 )
 
 pub returns-in-Ok-read_contents-clause-counts : goal.returns-in-Ok-read_contents-clause-counts
-returns-in-Ok-read_contents-clause-counts g c = counts_ok _ _ _ Device _ c.in-Ok-read_contents.is c.read_contents.ensures.reads.tells
+returns-in-Ok-read_contents-clause-counts g c = counts_ok _ _ _ Device _ c.in-Ok-read_contents.is c.read_contents.ensures.reads.counts
 
 pub returns-in-Ok-read_contents-clause-opened : goal.returns-in-Ok-read_contents-clause-opened
 returns-in-Ok-read_contents-clause-opened g c = λ h. record { holds = c.in-Ok-read_contents.ensures.holds h; rests = c.read_contents.ensures.reads.rests; durable = c.in-Ok-read_contents.ensures.durable h }
 
 pub invariant_of-store : goal.invariant_of-store
 invariant_of-store g c = record {
-  disk_size = ap length c.read_contents.ensures.reads.tells.start ∙ sym c.size.ensures ∙ c.if-size-ne-FILE_SIZE.false;
+  disk_size = ap length c.read_contents.ensures.reads.counts.start ∙ sym c.size.ensures ∙ c.if-size-ne-FILE_SIZE.false;
   within = c.in-Ok-read_contents.ensures.within;
   room = search rules;
   synced = λ live. open_synced _ _ _ c.in-Ok-read_contents.ensures.calls;
   intact = λ live h.
-      let was = c.read_contents.ensures.reads.tells.honest.0 h in
+      let was = c.read_contents.ensures.reads.counts.honest.0 h in
       let same = rests_bytes _ _ c.read_contents.ensures.reads.rests in
       record {
         durable = c.in-Ok-read_contents.ensures.durable was;

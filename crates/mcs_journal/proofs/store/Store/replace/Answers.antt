@@ -10,14 +10,14 @@ returns-in-Ok-clause-replaces g c = rw (← c.self.view_is) (λ h snap records h
     let live : IsTrue c.self.inside.live = subst (λ (v : StoreView g.row.D.Denot). IsTrue v.live) (sym c.self.view_is) c.requires.live in
     let intact = c.self.invariant.intact live h in
     let changes = c.in-Ok.ensures.changes h intact.durable snap records held (c.other-other.ensures ∙ sym (ap other_slot intact.active)) in
-    record { after = changes.after; durable = changes.durable; ticks = changes.ticks; moments = changes.moments })
+    record { after = changes.after; durable = changes.durable; ticks = changes.ticks; leaves = changes.leaves })
 
 pub returns-in-Err-clause-replaces : goal.returns-in-Err-clause-replaces
 returns-in-Err-clause-replaces g c = rw (← c.self.view_is) (λ h snap records held.
     let live : IsTrue c.self.inside.live = subst (λ (v : StoreView g.row.D.Denot). IsTrue v.live) (sym c.self.view_is) c.requires.live in
     let intact = c.self.invariant.intact live h in
     let changes = c.replace_contents.ensures.changes h intact.durable snap records held (c.other-other.ensures ∙ sym (ap other_slot intact.active)) in
-    record { after = tt; durable = tt; ticks = tt; moments = changes.moments })
+    record { after = tt; durable = tt; ticks = tt; leaves = changes.leaves })
 
 pub invariant_of-self : goal.invariant_of-self
 invariant_of-self g c = record {

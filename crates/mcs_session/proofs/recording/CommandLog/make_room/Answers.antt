@@ -2,7 +2,7 @@ use Rattle.mcs_disk.proofs.Calling.{none_added}
 use Rattle.std.proofs.Common.{rules, arith, ◌+◌, ◌≤◌}
 use Rattle.mcs_journal.specs.File.{HasRoom}
 use Rattle.mcs_model.specs.declared.limits.TheConstants.{REPLAY_CYCLES}
-use Rattle.mcs_session.proofs.Room.{leaves_state, room_made, room_there}
+use Rattle.mcs_session.proofs.Room.{leaves_same, leaves_state, room_made, room_there}
 use Rattle.mcs_session.proofs.recording.CommandLog.make_room.Goals as goal
 use Rattle.mcs_session.proofs.recording.CommandLog.make_room.Goals.{else-has_room-via-then-has_room+else-more-self, else-has_room-via-else-has_room}
 
@@ -14,7 +14,7 @@ returns-then-more-self-clause-made g c = λ honest was command is_long is_more.
 
 pub returns-clause-moments : goal.returns-clause-moments
 returns-clause-moments g c = λ honest was.
-    leaves_state _ _ _ _ was (c.checkpoint.ensures.replaces honest was.stands.snap was.stands.records was.stands.holds).moments
+    leaves_state _ _ _ _ was (c.checkpoint.ensures.replaces honest was.stands.snap was.stands.records was.stands.holds).leaves
 
 pub returns-clause-made : goal.returns-clause-made
 returns-clause-made g c = λ honest was command is_long is_more.
@@ -27,3 +27,6 @@ returns-clause-made g c = λ honest was command is_long is_more.
 
 pub returns-then-more-self-clause-one_unsynced : goal.returns-then-more-self-clause-one_unsynced
 returns-then-more-self-clause-one_unsynced g c = none_added _
+
+pub returns-then-more-self-clause-moments : goal.returns-then-more-self-clause-moments
+returns-then-more-self-clause-moments g c = λ honest was. leaves_same _ _ _ was

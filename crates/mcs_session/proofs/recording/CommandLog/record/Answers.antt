@@ -13,7 +13,7 @@ returns-in_err-append-clause-moments g c = λ honest was.
     let still = c.in_ok-make_room.ensures.counts.honest.1 honest in
     let changes = c.in_err-append.ensures.appends still now.stands.snap now.stands.records now.stands.holds in
     appended _ _ _ _ _ _ _ now (rw (c.as_slice.ensures.value, c.in_ok-make_room.ensures.payload) c.encode_command-count.ensures.spells) c.requires.accepted (omega (arith, c.in_ok-make_room.ensures.room.1, c.replay_cycles-more.ensures))
-    (c.in_ok-make_room.ensures.moments honest was) changes.moments
+    (c.in_ok-make_room.ensures.moments honest was) changes.leaves
 
 pub returns-clause-moments : goal.returns-clause-moments
 returns-clause-moments g c = λ honest was.
@@ -22,7 +22,7 @@ returns-clause-moments g c = λ honest was.
     let still = c.in_ok-make_room.ensures.counts.honest.1 honest in
     let changes = c.in_ok-append.ensures.appends still now.stands.snap now.stands.records now.stands.holds in
     appended _ _ _ _ _ _ _ now (rw (c.as_slice.ensures.value, c.in_ok-make_room.ensures.payload) c.encode_command-count.ensures.spells) c.requires.accepted (omega (arith, c.in_ok-make_room.ensures.room.1, c.replay_cycles-more.ensures))
-    (c.in_ok-make_room.ensures.moments honest was) changes.moments
+    (c.in_ok-make_room.ensures.moments honest was) changes.leaves
 
 pub returns-clause-recorded : goal.returns-clause-recorded
 returns-clause-recorded g c = λ honest was.

@@ -23,10 +23,10 @@ returns-clause-settles g c = λ h.
     elim c.match-checkpoint.branch [
       | in-Ok w ↦
           let changes = w.in-Ok.ensures.replaces honest was.stands.snap was.stands.records was.stands.holds in
-          rw (w.result-is, ← c.self.view_is) (settles _ _ _ _ was changes.moments changes.after changes.durable changes.ticks)
+          rw (w.result-is, ← c.self.view_is) (settles _ _ _ _ was changes.leaves changes.after changes.durable changes.ticks)
       | in-Err w ↦
           let changes = w.in-Err.ensures.replaces honest was.stands.snap was.stands.records was.stands.holds in
-          rw (w.result-is, ← c.self.view_is) (was.stands, leaves_state _ _ _ _ was changes.moments)
+          rw (w.result-is, ← c.self.view_is) (was.stands, leaves_state _ _ _ _ was changes.leaves)
     ]
 
 pub returns-then-not-is_open-clause-one_unsynced : goal.returns-then-not-is_open-clause-one_unsynced
