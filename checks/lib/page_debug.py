@@ -104,7 +104,7 @@ def check_no_instruction(browser):
           f"Line {JUN} puts no bytes into ROM: its breakpoint is at the next instruction, line {JUN + 1}.")
     comes(browser, "it is at the next instruction", MARGIN, str(JUN + 1))
     comes(browser, "which stops the time that runs", STATUS, "Stopped at 00F, at a breakpoint.")
-    browser.click("#breakpoint-list .bar button[title='takes it away']")
+    browser.click("#breakpoint-list .bar button[title='removes it']")
     comes(browser, "it is taken away in the list", MARGIN, "")
     lines_answered(browser, "break 0x010")
     comes(browser, "one inside an instruction goes to the next one", MARGIN, str(JUN + 2))

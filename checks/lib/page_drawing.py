@@ -268,7 +268,7 @@ def check_by_keyboard(browser):
     browser.keys([ESCAPE])
     comes(browser, "and left by Escape", SAID, "No wire was drawn.")
     browser.keys([DELETE])
-    comes(browser, "a line cannot be deleted", SAID, re.compile("goes with its chip alone"))
+    comes(browser, "a line cannot be deleted", SAID, re.compile("is deleted only with its chip"))
     browser.chord(CONTROL, "z")
     comes(browser, "Ctrl Z takes the wire back", SAID, "Undone.")
     browser.chord(CONTROL, "z")

@@ -111,7 +111,7 @@ def check_added(browser):
     before = text_of(browser, "tests")
     test = browser.script(TEST_OF_FIND)
     browser.click(add)
-    verdict("the test is added", browser.script(TOLD), "It stands at the end of Tests, where Run the tests runs it.")
+    verdict("the test is added", browser.script(TOLD), "It is at the end of Tests, where Run the tests runs it.")
     verdict("behind those of before", text_of(browser, "tests"), f"{before.rstrip()}\n\n{test}\n")
     browser.click(add)
     verdict("once", (browser.script(TOLD), text_of(browser, "tests").count(test)), ("Tests has it already.", 1))

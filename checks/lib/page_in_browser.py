@@ -264,12 +264,12 @@ def check_hidden(browser):
     time.sleep(2.5)
     browser.close_tab(shown)
     comes(browser, "a page that was hidden says for how long it stood still", STATUS,
-          re.compile(r"^Time runs\. It stood still for \d+ seconds while hidden\.$"))
+          re.compile(r"^Time runs\. It was stopped for \d+ seconds while the page was hidden\.$"))
     comes(browser, "what is kept did not change meanwhile", KEPT_WHEN_HIDDEN, [2, 1])
     comes(browser, "and it runs on as fast as it should", RATE, re.compile("^9[0-4]...$"))
     browser.script(BLOCK, 1500)
     comes(browser, "the same where the browser did not run the page", STATUS,
-          re.compile(r"stood still for \d+ seconds while the page was held up\.$"))
+          re.compile(r"was stopped for \d+ seconds while the page could not work\.$"))
     check_hidden_at_full_speed(browser)
 
 

@@ -43,7 +43,7 @@ def check_failures(browser, page, folder):
     browser.keys([ESCAPE, "1", "2"])
     browser.until(DIGITS, "12")
     fail(browser, "trap")
-    comes(browser, "a trap is told", NOTICE, re.compile("the module stopped inside a call .unreachable. and was started anew"))
+    comes(browser, "a trap is told", NOTICE, re.compile("the module stopped inside a call .unreachable. and was started again"))
     verdict("the session is as it was", browser.script(DIGITS), "12")
     dismiss(browser)
     browser.click("#run")
@@ -76,7 +76,7 @@ def check_worker(browser):
     browser.click("#run")
     browser.until(STATUS, "Time runs.")
     fail(browser, "die")
-    comes(browser, "a worker that died is told", NOTICE, re.compile("worker has stopped and was started anew.*as it was before"), 40)
+    comes(browser, "a worker that died is told", NOTICE, re.compile("worker has stopped and was started again.*as it was before"), 40)
     comes(browser, "and the session is as it was", DIGITS, "123")
     dismiss(browser)
     browser.click("#run")
@@ -89,7 +89,7 @@ def check_worker(browser):
     browser.click("#send")
     comes(browser, "work that hangs can be cancelled", "return document.getElementById('work').hidden", False)
     browser.click("#cancel")
-    comes(browser, "then its worker is ended", NOTICE, re.compile("worker has stopped and was started anew"), 20)
+    comes(browser, "then its worker is ended", NOTICE, re.compile("worker has stopped and was started again"), 20)
     browser.script("document.getElementById('lines').value = ''")
     verdict("and the session is as it was then, too", lines_answered(browser, "seq"), before)
     dismiss(browser)
@@ -120,7 +120,7 @@ FLAGS = "return Object.keys(localStorage).filter((key) => key.startsWith('fethsa
 LONG_AGO = "for (const key of Object.keys(localStorage)) if (key.startsWith('fethsaim.opening')) localStorage.setItem(key, '1')"
 # Pages that were left in the middle of something may have left some.
 WITHOUT_FLAGS = "for (const key of Object.keys(localStorage)) if (key.startsWith('fethsaim.opening')) localStorage.removeItem(key)"
-UNENDED = 'The session "die" was not opened by itself: its last opening did not come to an end.'
+UNENDED = 'The session "die" was not opened automatically: when it was last opened, that did not end.'
 LAST_ENTRY = "return document.getElementById('log').lastElementChild.textContent"
 PROGRESS = "return document.querySelector('#work progress').value > 0"
 LONGEST = "clearInterval(window.ticking); return window.longest"

@@ -171,7 +171,7 @@ def check_marks(browser):
     choose_example(browser, "three lamps")
     stop_time(browser)
     lines_answered(browser, f"asm\n{SLOW}.\nreset\nbreak 12".replace("\\n", "\n"))
-    comes(browser, "after a reset the status is true", STATUS, "The board was reset; it stands at 000.")
+    comes(browser, "after a reset the status is true", STATUS, "The board was reset; it is at 000.")
     browser.script(COUNT_MARKS)
     browser.click("#run")
     comes(browser, "a long run ends at its breakpoint", STATUS, "Stopped at 00C, at a breakpoint.", 40)
@@ -182,7 +182,7 @@ def check_marks(browser):
     browser.until(STATUS, STEPPED)
     verdict("the next stop marks what it changed alone", "R5" in browser.script(MARKED).split(), False)
     browser.click("#reset")
-    comes(browser, "Reset says where the board stands", STATUS, "The board was reset; it stands at 000.")
+    comes(browser, "Reset says where the board stands", STATUS, "The board was reset; it is at 000.")
 
 
 EDITED = "return document.getElementById('cell-editor').hidden ? '' : document.querySelector('#cell-editor label').textContent"

@@ -70,7 +70,7 @@ def check_instant(browser):
     comes(browser, "time stands still", STATUS, re.compile("^Stopped"))
     marks = re.search(r"lamps ([.*]+)", lines_answered(browser, "lamps")).group(1)
     verdict("then lamps are as they are at this instant", browser.script(SHINES), [1 if mark == "*" else 0 for mark in marks])
-    verdict("and that is told", browser.script(TOLD), "Time stands still: what is lit at this instant.")
+    verdict("and that is told", browser.script(TOLD), "Time is stopped: this is what is lit now.")
     browser.click("#run")
 
 

@@ -79,7 +79,7 @@ def check_tone(browser):
 
 def check_speeds(browser):
     browser.script(SPEED, "tenth")
-    comes(browser, "at other speeds it is silent, which is told", TOLD, "silent: it sounds in real time alone")
+    comes(browser, "at other speeds it is silent, which is told", TOLD, "silent: there is sound only in real time")
     browser.script("window.played = []")
     comes(browser, "and stays on", PRESSED, "true")
     browser.script(SPEED, "real")

@@ -177,7 +177,7 @@ def check_notices(browser, folder):
     browser.click("#run")
     browser.until(STATUS, re.compile("at a breakpoint"))
     browser.click("#reset")
-    comes(browser, "the status after a reset", STATUS, "The board was reset; it stands at 000.")
+    comes(browser, "the status after a reset", STATUS, "The board was reset; it is at 000.")
 
 
 def open_link(browser, page, link):

@@ -209,7 +209,7 @@ def check_stopwatch(browser):
     comes(browser, "a line that the board lacks", STATUS, "Nothing was done: this board has no chain2.0.")
     browser.script(CHANGE, "#change-place", "r99")
     browser.click("#back-change")
-    comes(browser, "a name that is none", STATUS, re.compile("^Nothing was done: name what is to change: acc, cy"))
+    comes(browser, "a name that is none", STATUS, re.compile("^Nothing was done: give a place whose change is wanted: acc, cy"))
 
 
 def check_back(browser):

@@ -14,6 +14,7 @@ import { isDialogOpen } from "./ui/dom.js";
 import { Scope } from "./waves/scope.js";
 import { catalogOf } from "./waves/wave_catalog.js";
 import { lineOfChange } from "./worker/key_queue.js";
+import * as say from "./words/page.js";
 
 /** @typedef {import("./page.js").Page} Page */
 
@@ -140,10 +141,10 @@ export function scopeOf(page) {
       // What is recorded goes on from a moment that stands still.
       await page.running.stand();
       try {
-        return await page.work.show("The lines are recorded.",
+        return await page.work.show(say.RECORDING_LINES,
           (signal, progress) => page.bench.call("record", [cycles, isBefore, textsWith(values)], { signal, progress }));
       } catch (fault) {
-        if (fault instanceof Cancelled) scope.told.set("It was cancelled, and nothing was recorded.");
+        if (fault instanceof Cancelled) scope.told.set(say.NOTHING_RECORDED);
         else page.recovery.failed(fault);
         return null;
       }

@@ -16,6 +16,7 @@ import { StripView } from "./board/strip_view.js";
 import { StackView } from "./machine/stack_view.js";
 import { ToldAt } from "./ui/told_at.js";
 import { WiringView } from "./board/wiring_view.js";
+import * as say from "./words/page.js";
 
 /**
  * @typedef {import("./board/board_keys.js").BoardKey} BoardKey
@@ -85,7 +86,7 @@ export class LookView {
    */
   async toggleWatch(isSet, place, at) {
     const refusal = this.refusalOf(await this.calls.act(`${isSet ? "un" : ""}watch ${place}\n`));
-    if (refusal) this.told.show(`Not set: ${refusal}`, at);
+    if (refusal) this.told.show(say.notSet(refusal), at);
   }
 
   /**
@@ -93,7 +94,7 @@ export class LookView {
    * @param {string | null} answer
    */
   refusalOf(answer) {
-    if (answer === null) return "It was not done.";
+    if (answer === null) return say.NOT_DONE;
     const refusal = refusalOf(answer);
     return refusal ? `${this.calls.wordsOfRefusal(refusal.number)}.` : "";
   }

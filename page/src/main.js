@@ -13,6 +13,7 @@ import { SPEEDS, speedOf } from "./time/speeds.js";
 import { Stepping } from "./time/stepping.js";
 import { inTime, MemoryStore, Store } from "./session/store.js";
 import { Words } from "./bench/words.js";
+import * as say from "./words/page.js";
 
 /**
  * @typedef {import("./worker/examples.js").Example} Example
@@ -21,16 +22,14 @@ import { Words } from "./bench/words.js";
  * @typedef {{ refusals: Record<string, string>, examples: Example[], manual: ManualSection[] }} Data what page/build puts into the page
  */
 
-const NO_STORE = "This browser keeps nothing for this page: its store (IndexedDB) is missing, is blocked by the settings, or does not "
-  + "answer. All works, but save the session to a file before you leave.";
 /** A module that fills memory at once (bulk memory), which the bench's own does: a memory, and a function with `memory.fill`. */
 const BULK_MEMORY_TRIAL = Uint8Array.of(0, 97, 115, 109, 1, 0, 0, 0, 1, 4, 1, 96, 0, 0, 3, 2, 1, 0, 5, 3, 1, 0, 1, 10, 13, 1, 11, 0,
   65, 0, 65, 0, 65, 0, 252, 11, 0, 11);
 
 /** What the bench needs and this browser lacks, in words; "" where it has all. */
 function lackOfBrowser() {
-  if (typeof WebAssembly !== "object" || !WebAssembly.validate(BULK_MEMORY_TRIAL)) return "WebAssembly with bulk memory";
-  if (typeof BigInt !== "function") return "whole numbers of any size (BigInt)";
+  if (typeof WebAssembly !== "object" || !WebAssembly.validate(BULK_MEMORY_TRIAL)) return say.BULK_MEMORY;
+  if (typeof BigInt !== "function") return say.BIG_INTEGERS;
   if (typeof Worker !== "function") return "workers";
   if (typeof HTMLDialogElement !== "function") return "dialogs";
   return "";
@@ -138,7 +137,7 @@ async function start(words, notice, { examples, manual }) {
   const [store] = await Promise.all([openStore(locks.areThere), bench.start()]);
   const page = new Page({ bench, makeBench, store, locks, words, notice, examples, manual });
   bench.listener = page.listener();
-  if (!store.keeps) notice.show(NO_STORE, "store");
+  if (!store.keeps) notice.show(say.NO_STORE, "store");
   const guide = guideOf(page, manual);
   const story = storyOf(location.search);
   page.pressing.listenToKeyboard();
@@ -156,7 +155,7 @@ async function main() {
   block("needs").hidden = true;
   const lack = lackOfBrowser();
   if (lack) {
-    notice.show(`This browser has no ${lack}. ${textOf("needs")}`);
+    notice.show(say.hasNo(lack, textOf("needs")));
     return;
   }
   /** @type {Data} */
@@ -165,7 +164,7 @@ async function main() {
   try {
     await start(words, notice, data);
   } catch (fault) {
-    notice.show(`The bench could not be started: ${words.ofFault(fault)}. ${textOf("needs")}`);
+    notice.show(say.cannotStart(words.ofFault(fault), textOf("needs")));
   }
 }
 

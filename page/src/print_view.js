@@ -1,6 +1,7 @@
 // What is printed: the lamps as they are, and both texts whole, however much of them an editor shows.
 
 import { block, element } from "./ui/dom.js";
+import * as say from "./words/page.js";
 
 /** @typedef {{ name: string, board: string, program: string }} Printed */
 
@@ -18,7 +19,7 @@ export class PrintView {
 
   fill() {
     const { name, board, program } = this.printed();
-    this.block.replaceChildren(...textOf(`${name}: source`, program), ...textOf(`${name}: board`, board));
+    this.block.replaceChildren(...textOf(say.sourceOf(name), program), ...textOf(say.boardOf(name), board));
   }
 }
 

@@ -1,5 +1,7 @@
 // What is done where something fails: a call, or the worker that the bench is in.
 
+import * as say from "./words/page.js";
+
 /**
  * @typedef {import("./bench/bench.js").Bench} Bench
  * @typedef {import("./bench/protocol.js").Frame} Frame
@@ -42,7 +44,7 @@ export class Recovery {
     notice.show(words.ofFailure(fault));
     if (!calls.session()) return;
     const isRunning = calls.isRunning();
-    calls.halted("Stopped.");
+    calls.halted(say.STOPPED);
     // What time has done before is not lost.
     if (isRunning) bench.call("halt", []).then(calls.ran).catch(() => {});
   }
@@ -54,14 +56,14 @@ export class Recovery {
     calls.stopClock();
     try {
       await bench.start();
-      notice.show("The bench's worker has stopped and was started anew. The session is as it was before.");
+      notice.show(say.WORKER_RESTARTED);
       const session = calls.session();
       if (!session) return;
       await calls.openAgain(session.record);
       this.isRestarting = false;
-      calls.halted("Stopped.");
+      calls.halted(say.STOPPED);
     } catch (fault) {
-      notice.show(`The bench has stopped and could not be started anew: ${words.ofFault(fault)}. Save the session to a file.`);
+      notice.show(say.cannotRestart(words.ofFault(fault)));
     } finally {
       this.isRestarting = false;
     }

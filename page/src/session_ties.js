@@ -8,6 +8,7 @@ import { RomFiles } from "./session/rom_files.js";
 import { SessionsController } from "./session/sessions_controller.js";
 import { Sharing } from "./session/sharing.js";
 import { block, byId } from "./ui/dom.js";
+import * as say from "./words/page.js";
 
 /**
  * @typedef {import("./help/manual.js").ManualSection} ManualSection
@@ -35,7 +36,7 @@ export function sessionsControllerOf(page, parts) {
     },
     image: async (name, bytes) => {
       const words = await page.rom.load(name, bytes);
-      if (words) page.notice.show(words, "file", { word: "Take it from ROM", act: () => page.texts.takeFromRom() });
+      if (words) page.notice.show(words, "file", { word: say.TAKE_FROM_ROM, act: () => page.texts.takeFromRom() });
     },
   });
 }

@@ -11,6 +11,7 @@ import { newRecord } from "./session/kept_session.js";
 import { TextsController } from "./session/texts_controller.js";
 import { TestsTab } from "./testing/tests_tab.js";
 import { Editors } from "./text/editors.js";
+import * as say from "./words/page.js";
 
 /**
  * @typedef {import("./help/manual.js").ManualSection} ManualSection
@@ -111,7 +112,7 @@ export function testsOf(page, manual) {
     run: async (texts) => {
       // The worker does one thing at a time: time would stand still meanwhile, and nobody would know why.
       await running.stand();
-      return page.work.show("The tests are run.", (signal, progress) => bench.call("runTests", [texts], { signal, progress }));
+      return page.work.show(say.RUNNING_TESTS, (signal, progress) => bench.call("runTests", [texts], { signal, progress }));
     },
     wordsOfRefusal: (number) => words.ofRefusal(number),
     showCounts: (report, programText) => {
@@ -135,9 +136,9 @@ export function testsOf(page, manual) {
  */
 function addTest({ tests, texts }, test) {
   const { text } = tests.editor;
-  if (text.includes(test.trimEnd())) return "Tests has it already.";
-  texts.replace("tests", text.trim() === "" ? test : `${text.trimEnd()}\n\n${test}`, "A test was added.");
-  return "It stands at the end of Tests, where Run the tests runs it.";
+  if (text.includes(test.trimEnd())) return say.HAS_TEST;
+  texts.replace("tests", text.trim() === "" ? test : `${text.trimEnd()}\n\n${test}`, say.TEST_ADDED);
+  return say.TEST_AT_END;
 }
 
 /**

@@ -128,7 +128,7 @@ test("what cannot be read is told; one that is off is kept; hits are counted", a
   keeper.count({ hits: [[second.id, 2], [second.id, 1]], notes: [], noted: 0 });
   assert.equal(second.hits, 3);
   assert.deepEqual([...marksOf(keeper.list.all, keeper.faults).lines.values()].map(({ mark, words }) => `${mark} ${words}`),
-    ["\u25CB breakpoint where no: it stops nothing: it is none", "\u25CB breakpoint: it is switched off"]);
+    ["\u25CB breakpoint where no: it stops nothing: it is none", "\u25CB breakpoint: it is off"]);
   assert.deepEqual(keeper.list.kept[1], { line: 4, address: 2, isOn: false, condition: "", from: 1, note: "" });
 });
 

@@ -143,7 +143,7 @@ onBench("a buzzer comes from the shelf, is wired, named and deleted, and goes wi
   assert.deepEqual([first(moved), moved.words], ["# buzzer rom0.2: buzzer", "Line rom0.2 is wired to the buzzer."]);
   const named = check("buzzer", moved.text, { kind: "name", part: "buzzer", name: "the horn" });
   assert.deepEqual([first(named), named.words], ["# buzzer rom0.2: the horn", "The buzzer is called the horn."]);
-  assert.equal(actOn(named.text, { kind: "name", part: "buzzer", name: " " }).refusal, "A buzzer has a name.");
+  assert.equal(actOn(named.text, { kind: "name", part: "buzzer", name: " " }).refusal, "A buzzer needs a name.");
   const inputs = actOn(named.text, { kind: "add", part: "inputs" }).text;
   assert.match(actOn(inputs, { kind: "wire", line: "rom1.0", target: "buzzer 0" }).refusal, /rom1.0 is an input line: the buzzer takes/);
   assert.equal(check("buzzer", named.text, { kind: "delete", part: "buzzer" }).text, '[[rom]]\nchip = 0\nport = "0000"\n');
@@ -260,7 +260,7 @@ for (const { name, text } of BOARDS) {
       // A lamp may have the name that is the number of this one on the grid.
       const { grid, lamps } = new Face(text);
       const isTaken = grid.length > 0 && [...lamps].some(([at, told]) => at !== lamp && told.text === `${lamp}`);
-      if (isTaken) assert.match(actOn(text, unnamed).refusal, /Another lamp would stand/);
+      if (isTaken) assert.match(actOn(text, unnamed).refusal, /Another lamp would then stand/);
       else assert.equal(new Face(check(name, text, unnamed, board).text).lamps.has(lamp), false);
     });
     for (let row = 0; row < board.rows; row++) {
@@ -393,7 +393,7 @@ onBench("what a board has no room for is not offered, and says why", () => {
   const chain = fill("chain", 1);
   assert.equal(actOn(chain, { kind: "chips", chain: 0, chips: 8 }).refusal, "");
   assert.equal(actOn(chain, { kind: "chips", chain: 0, chips: 9 }).refusal, "A chain has at most 8 chips.");
-  assert.equal(actOn(chain, { kind: "chips", chain: 0, chips: 0 }).refusal, "A chain has a chip at least; delete the chain.");
+  assert.equal(actOn(chain, { kind: "chips", chain: 0, chips: 0 }).refusal, "A chain has at least one chip; or delete the chain.");
 });
 
 onBench("from nothing to four keys and four lamps", () => {
@@ -443,5 +443,5 @@ onBench("a name that the face cannot have is refused in its words", () => {
   assert.match(refusal("lamp 1", "alarm"), /^The lamp alarm is named/);
   assert.match(refusal("lamp 1", "**"), /pattern/);
   assert.match(refusal("key 0 0", "9"), /^The key 9 is named/);
-  assert.match(refusal("test", ""), /has a name/);
+  assert.match(refusal("test", ""), /needs a name/);
 });

@@ -95,8 +95,8 @@ test("what cannot be is refused in words, and the text stays", async () => {
   const desk = await drawn(boardOf("lock"));
   for (const [act, words] of [
     [{ kind: "delete", part: "clock 0" }, /wire it to another line, or delete the chain/],
-    [{ kind: "delete", part: "rom0.1" }, /goes with its chip/],
-    [{ kind: "delete", part: "processor" }, /on each board/],
+    [{ kind: "delete", part: "rom0.1" }, /only with its chip/],
+    [{ kind: "delete", part: "processor" }, /Each board has its processor/],
     [{ kind: "delete", part: "row 1" }, /delete the last one first/],
     [{ kind: "wire", line: "rom1.0", target: "clock 0" }, /is an input line/],
     [{ kind: "colour", lamp: 0, colour: "amber" }, /is so already/],
@@ -111,14 +111,14 @@ test("a text with faults is not drawn in; what was drawn last stays", async () =
   const desk = await drawn(boardOf("lock"));
   desk.text = `${desk.text}\n[[lamp]]\n`;
   await desk.drawing.look();
-  assert.match(desk.shown.fault, /^The bench refuses the board's text: refusal 2[02]\. Board says where\.$/);
+  assert.match(desk.shown.fault, /^The bench refuses the board's text: refusal 2[02]\. Board shows where\.$/);
   assert.equal(desk.shown.board.lamps.length, 3);
   const text = desk.text.replace("\n[[lamp]]\n", "");
   desk.text = text.replace('"rom1.0"', '"rom1\\u002e0"');
   await desk.drawing.look();
-  assert.match(desk.shown.fault, /cannot be drawn in/);
+  assert.match(desk.shown.fault, /the picture cannot change/);
   await desk.drawing.act({ kind: "add", part: "rom" });
-  assert.match(desk.shown.said, /^It was not done\. .* cannot be drawn in/);
+  assert.match(desk.shown.said, /^It was not done\. .* the picture cannot change/);
   desk.text = text;
   await desk.drawing.look();
   assert.equal(desk.shown.fault, "");

@@ -77,7 +77,7 @@ test("of several chips one is looked at in each frame, and of full speed a sampl
   assert.equal(calls.advance(50000).warmed, null);
   const { warmed } = calls.session.senseAhead();
   assert.deepEqual([warmed.chips, warmed.cycles, warmed.cells.length], [3, 2778, 1]);
-  assert.equal(wordsOfPassing(warmed, false), "Counted while time runs, in one of 3 chips at a time, of full speed in samples.");
+  assert.equal(wordsOfPassing(warmed, false), "Counted while time runs, in one of 3 chips at a time, at full speed in samples.");
   assert.equal(wordsOfPassing({ chips: 1 }, true), "Counted while time runs.");
 });
 
@@ -149,7 +149,7 @@ test("five steps of warmth, and words", () => {
   assert.equal(wordsOfHeat({ cycles: 9, cells: [] }, 9, String, null), "In the last 9 cycles, 0.097 ms, no character of RAM has changed.");
   assert.equal(wordsOfHeat({ cycles: 100, cells: [HEAT.cells[0]] }, 100, String, null), "In the last 100 cycles, 1.080 ms, one character "
     + "has changed: a, once by 000, 1,000 cycles, 10.800 ms ago.");
-  assert.match(wordsOfHeat({ cycles: 0, cells: [] }, 9, String, null), /^No cycle before/);
+  assert.match(wordsOfHeat({ cycles: 0, cells: [] }, 9, String, null), /^No earlier cycle/);
 });
 
 test("names: those of values, and those that FIM puts into a pair of an SRC", async () => {

@@ -14,6 +14,6 @@ test("names have their values in lines, but not in texts", () => {
 
 test("what is no name is refused in words", () => {
   assert.equal(putNames("break @going\nbreak @gone\n", MAP).words, "@going: the program has no such name.");
-  assert.equal(putNames("break @go\n", null).words, "@go: names are known while the source is what stands in ROM.");
+  assert.equal(putNames("break @go\n", null).words, "@go: names are known while the source is the same as ROM.");
   assert.equal(putNames("break @\n", MAP).words, "@: the program has no such name.");
 });

@@ -85,8 +85,8 @@ test("a text that is refused, or has no ROM to stand in, says so", async () => {
   now.checked = { map: MAP, refusal: null, difference: { address: 2, hasRom: false } };
   await sync.check();
   assert.deepEqual(seen.changed.map(([, words]) => words), ["The source has a fault in line 1: no 30: words of 30.",
-    "The source has a fault: no 13: words of 13.", "The source has a fault in line 1: a dot alone ends the text.",
-    "The board has no ROM at 0x002, where line 4 of the source stands."]);
+    "The source has a fault: no 13: words of 13.", "The source has a fault in line 1: a line with only a dot ends the text.",
+    "The board has no ROM at 0x002, where line 4 of the source goes."]);
 });
 
 test("a text that was edited is looked at where that is wanted", async () => {

@@ -72,7 +72,7 @@ test("without locks a record that is not the successor of what is there is refus
   await store.put(mine);
   const other = structuredClone(mine);
   await store.put(other);
-  await assert.rejects(store.put(mine), new NotKept("another tab has changed or deleted this session meanwhile"));
+  await assert.rejects(store.put(mine), new NotKept("another tab has changed or deleted this session"));
   assert.equal(mine.revision, 1);
   await store.put(other);
   await store.remove(other.id);
@@ -149,5 +149,5 @@ test("a browser without a store forgets, but not while the page is open", async 
 
 test("records have names of their own", () => {
   assert.notEqual(record().id, record().id);
-  assert.equal(wordsOfStoreFault(undefined), "the browser's store failed (without a word)");
+  assert.equal(wordsOfStoreFault(undefined), "the browser's store failed (for an unknown reason)");
 });

@@ -52,7 +52,7 @@ test("faults keep their kind from the worker to the page", () => {
 test("faults in words", () => {
   const words = new Words({ 90: "there was no memory" });
   assert.equal(words.ofFailure(new BenchRefusal(90)), "It was not done: no 90: there was no memory. The session is as it was before.");
-  assert.match(words.ofFailure(new BenchTrap("unreachable")), /the module stopped inside a call \(unreachable\) and was started anew/);
+  assert.match(words.ofFailure(new BenchTrap("unreachable")), /the module stopped inside a call \(unreachable\) and was started again/);
   assert.match(words.ofFailure(new WorkerDied()), /The session is as it was before/);
   assert.equal(words.ofFailure(new Cancelled()), "It was cancelled. The session is as it was before.");
   assert.equal(words.ofFailure(new Error("odd")), "The page failed: odd. What was answered ok is kept.");

@@ -1,5 +1,7 @@
 // What can go wrong with a call of the bench, on both sides of the worker.
 
+import * as say from "../words/bench.js";
+
 /** A call was answered by the number of a refusal (`no NN`). */
 export class BenchRefusal extends Error {
   /** @param {number} number */
@@ -15,14 +17,14 @@ export class BenchTrap extends Error {}
 /** A call was cancelled before it was done. */
 export class Cancelled extends Error {
   constructor() {
-    super("it was cancelled");
+    super(say.CANCELLED);
   }
 }
 
 /** The worker does not answer any more. */
 export class WorkerDied extends Error {
   constructor() {
-    super("the bench's worker has stopped");
+    super(say.WORKER_STOPPED);
   }
 }
 

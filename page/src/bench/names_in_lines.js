@@ -2,6 +2,7 @@
 
 import { opensText, withoutReturn } from "./inputs.js";
 import { hex } from "./numbers.js";
+import * as say from "../words/bench.js";
 
 /**
  * @typedef {import("../machine/source_map.js").SourceMap} SourceMap
@@ -24,7 +25,7 @@ export function putNames(lines, map) {
   const put = (line) => line.replace(NAME, (found, before, name) => {
     const value = map ? map.valueOf(name) : undefined;
     if (value !== undefined) return `${before}0x${hex(value, 3)}`;
-    words = words || `${found.trim()}: ${map ? "the program has no such name" : "names are known while the source is what stands in ROM"}.`;
+    words = words || `${found.trim()}: ${map ? say.NO_SUCH_NAME : say.NAMES_UNKNOWN}.`;
     return found;
   });
   const told = lines.split("\n").map((whole) => {

@@ -10,9 +10,6 @@ import { hex, numberOf, upTo } from "./numbers.js";
  *   where the board lacks it
  */
 
-export const PLACES_TOLD = "acc, cy, dcl, r0 to r15, ram.B.S, st.B.H.K, rom1.2, ram0.0.3, chain0.5, a whole port as rom1 or ram0.0, lamp 3 "
-  + "or lamps";
-
 /** @param {string[]} told */
 const first = ([told]) => told;
 

@@ -1,5 +1,7 @@
 // What time that runs has done, for the log: changes of keys one by one, and runs together.
 
+import * as say from "../words/bench.js";
+
 /**
  * Lines that were served, with the last answer; `runs` counts the lines of runs that stand together, 0 for another line.
  * @typedef {{ line: string, answer: string, runs: number, cycles: number }} RanEntry
@@ -41,5 +43,5 @@ export class Ran {
  * @param {RanEntry} entry
  */
 export function wordsOfRan({ line, runs, cycles }) {
-  return runs > 1 ? `run .. (${runs} lines, ${cycles.toLocaleString("en")} cycles); the last one was answered` : line;
+  return runs > 1 ? say.manyRuns(runs, cycles.toLocaleString("en")) : line;
 }

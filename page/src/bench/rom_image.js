@@ -2,6 +2,7 @@
 
 import { ADDRESSES, NONE } from "./rom_bytes.js";
 import { hex } from "./numbers.js";
+import * as say from "../words/bench.js";
 
 /** Why bytes are no image, in words. */
 export class NotAnImage extends Error {}
@@ -20,9 +21,9 @@ const STARTS = [3, 5];
  * @param {Uint8Array} file
  */
 export function readBytes(file) {
-  if (file.length === 0) throw new NotAnImage("it has no byte");
+  if (file.length === 0) throw new NotAnImage(say.NO_BYTE);
   if (file.length > ADDRESSES) {
-    throw new NotAnImage(`it has ${file.length.toLocaleString("en")} bytes, and ROM has ${ADDRESSES.toLocaleString("en")}`);
+    throw new NotAnImage(say.tooManyBytes(file.length.toLocaleString("en"), ADDRESSES.toLocaleString("en")));
   }
   const bytes = new Int16Array(ADDRESSES).fill(NONE);
   bytes.set(file);
@@ -35,14 +36,14 @@ export function readBytes(file) {
  * @returns {{ address: number, type: number, data: number[] }}
  */
 function readRecord(text) {
-  if (!text.startsWith(":")) throw new NotAnImage("a record of Intel HEX begins with `:`");
-  if (!/^:([0-9A-F]{2}){5,}$/i.test(text)) throw new NotAnImage("a record has `:`, ten hexadecimal digits and two for each byte");
+  if (!text.startsWith(":")) throw new NotAnImage(say.BEGINS_WITH_COLON);
+  if (!/^:([0-9A-F]{2}){5,}$/i.test(text)) throw new NotAnImage(say.RECORD_FORM);
   const bytes = (text.slice(1).match(/../g) || []).map((digits) => parseInt(digits, 16));
   const [count, high, low, type] = bytes;
-  if (bytes.length !== count + 5) throw new NotAnImage(`it announces ${count} bytes and has ${bytes.length - 5}`);
+  if (bytes.length !== count + 5) throw new NotAnImage(say.otherCount(count, bytes.length - 5));
   const right = -bytes.slice(0, -1).reduce((sum, byte) => sum + byte, 0) & 0xff;
   if (bytes[count + 4] !== right) {
-    throw new NotAnImage(`the checksum is ${hex(bytes[count + 4], 2)}, and ${hex(right, 2)} would be right`);
+    throw new NotAnImage(say.otherSum(hex(bytes[count + 4], 2), hex(right, 2)));
   }
   return { address: high * 256 + low, type, data: bytes.slice(4, -1) };
 }
@@ -54,14 +55,14 @@ function readRecord(text) {
  */
 function takeRecord({ address, type, data }, bytes) {
   if (type === DATA) {
-    if (address + data.length > ADDRESSES) throw new NotAnImage("past the last address, FFF");
+    if (address + data.length > ADDRESSES) throw new NotAnImage(say.PAST_LAST);
     const twice = data.findIndex((_, at) => bytes[address + at] !== NONE);
-    if (twice >= 0) throw new NotAnImage(`the address ${hex(address + twice, 3)}, which an earlier line has`);
+    if (twice >= 0) throw new NotAnImage(say.secondTime(hex(address + twice, 3)));
     bytes.set(data, address);
   } else if (BASES.includes(type)) {
-    if (data.some((byte) => byte !== 0)) throw new NotAnImage(`type 0${type} with another value than 0: an address past FFF`);
+    if (data.some((byte) => byte !== 0)) throw new NotAnImage(say.beyondAll(type));
   } else if (type !== LAST && !STARTS.includes(type)) {
-    throw new NotAnImage(`type ${hex(type, 2)}, which has no meaning for a 4004`);
+    throw new NotAnImage(say.noType(hex(type, 2)));
   }
 }
 
@@ -76,16 +77,16 @@ export function readHex(text) {
     const record = line.trim();
     if (record === "") return;
     try {
-      if (isEnded) throw new NotAnImage("a record after the last one (type 01)");
+      if (isEnded) throw new NotAnImage(say.AFTER_LAST);
       const read = readRecord(record);
       takeRecord(read, bytes);
       isEnded = read.type === LAST;
     } catch (fault) {
-      throw fault instanceof NotAnImage ? new NotAnImage(`line ${at + 1}: ${fault.message}`) : fault;
+      throw fault instanceof NotAnImage ? new NotAnImage(say.imageLine(at + 1, fault.message)) : fault;
     }
   });
-  if (!isEnded) throw new NotAnImage("it has no last record (:00000001FF), so a part of it is missing");
-  if (bytes.every((byte) => byte === NONE)) throw new NotAnImage("it has no byte");
+  if (!isEnded) throw new NotAnImage(say.NO_LAST_RECORD);
+  if (bytes.every((byte) => byte === NONE)) throw new NotAnImage(say.NO_BYTE);
   return bytes;
 }
 

@@ -2,6 +2,7 @@
 
 import { BenchRefusal, BenchTrap, Cancelled, WorkerDied } from "./faults.js";
 import { counted } from "./numbers.js";
+import * as say from "../words/bench.js";
 
 /** The words of refusals and of faults. */
 export class Words {
@@ -15,7 +16,7 @@ export class Words {
    * @param {number} number
    */
   ofRefusal(number) {
-    return this.refusals[number] || "a refusal that this page does not know; the manual has it";
+    return this.refusals[number] || say.UNKNOWN_REFUSAL;
   }
 
   /**
@@ -24,8 +25,8 @@ export class Words {
    */
   ofFault(fault) {
     if (fault instanceof BenchRefusal) return `${fault.message}: ${this.ofRefusal(fault.number)}`;
-    if (fault instanceof BenchTrap) return `the module stopped inside a call (${fault.message}) and was started anew`;
-    if (fault instanceof WorkerDied) return `${fault.message} and was started anew`;
+    if (fault instanceof BenchTrap) return say.moduleStopped(fault.message);
+    if (fault instanceof WorkerDied) return say.startedAgain(fault.message);
     return (fault instanceof Error && fault.message) || String(fault);
   }
 
@@ -34,11 +35,11 @@ export class Words {
    * @param {unknown} fault
    */
   ofFailure(fault) {
-    if (fault instanceof Cancelled) return "It was cancelled. The session is as it was before.";
+    if (fault instanceof Cancelled) return say.WAS_CANCELLED;
     if (fault instanceof BenchRefusal || fault instanceof BenchTrap || fault instanceof WorkerDied) {
-      return `It was not done: ${this.ofFault(fault)}. The session is as it was before.`;
+      return say.wasNotDone(this.ofFault(fault));
     }
-    return `The page failed: ${this.ofFault(fault)}. What was answered ok is kept.`;
+    return say.pageFailed(this.ofFault(fault));
   }
 }
 

@@ -1,5 +1,7 @@
 // The keys of a board: their places, their names, and what is typed for them.
 
+import * as say from "../words/board.js";
+
 /**
  * @typedef {import("../bench/answers.js").Board} Board
  * @typedef {import("./face.js").Face} Face
@@ -40,7 +42,7 @@ export function keysOf(board, face) {
       const place = `${row} ${column}`;
       const named = face.keys.get(place);
       const legend = named ? named.text.replace(/_/g, " ") : `${row}.${column}`;
-      const words = `key ${legend}, row ${row}, column ${column}`;
+      const words = say.keyPlace(legend, row, column);
       const letter = legend === "" ? "" : take(legend, named ? named.text : "");
       keys.push({ place, legend, words, isNamed: Boolean(named && legend), isSwitch: false, letter });
     }
@@ -54,7 +56,7 @@ export function keysOf(board, face) {
  */
 function keyOfTest({ kind, name, level }, take) {
   const legend = name.replace(/_/g, " ");
-  const words = `${kind} ${legend}, at TEST`;
+  const words = say.keyAtTest(kind, legend);
   return { place: `test ${level}`, legend, words, isNamed: true, isSwitch: kind === "switch", letter: take(legend, name) };
 }
 
@@ -86,7 +88,7 @@ export function keyOfKeyboard(keys, typed) {
  * @param {BoardKey[]} keys
  */
 export function hintOfKeys(keys) {
-  if (keys.length === 0) return "This board has no keys.";
-  const naming = keys.some((key) => key.isNamed) ? "" : " Lines such as # row 0: 7 8 9 in the board's text name them.";
-  return `Shift and a click keep a key down. While time stands still, a key stays as a click puts it.${naming}`;
+  if (keys.length === 0) return say.NO_KEYS;
+  const naming = keys.some((key) => key.isNamed) ? "" : say.NAMES_KEYS;
+  return say.keysHint(naming);
 }

@@ -2,6 +2,7 @@
 // tools/lib/face.awk reads the same; checks/faces has texts that both are tried with.
 
 import { COLOURS, fitsHead, fitsWords, headOf, isNumber, limit, said, sizeOf, wordsOf } from "./face_words.js";
+import * as say from "../words/board.js";
 
 /**
  * A fault; `isRefused` where it is one of names or displays, on which tests hang.
@@ -231,13 +232,13 @@ export class Face {
    * @param {Group} group
    */
   canBeScanned({ kind, first, rows, columns, by, line }) {
-    const [row, column] = kind === "display" ? ["digits", "a segment"] : ["rows", "a column"];
+    const [row, column] = kind === "display" ? ["digits", say.A_SEGMENT] : ["rows", say.A_COLUMN];
     const most = limit("scanned");
     const isSmall = rows <= most && columns <= most;
     const twice = Math.max(first, by);
     const isTwice = twice < Math.min(first + columns, by + rows);
     if (!isSmall) this.fault(line, said("too many scanned", row));
-    else if (isTwice) this.fault(line, said("scanned twice", twice, column, row === "digits" ? "a digit" : "a row"));
+    else if (isTwice) this.fault(line, said("scanned twice", twice, column, row === "digits" ? say.A_DIGIT : say.A_ROW));
     return isSmall && !isTwice;
   }
 
@@ -325,7 +326,7 @@ export function faceFaults(text) {
  * @param {number} most so many are told
  */
 export function moreThan(faults, most) {
-  return faults.length > most ? `And ${(faults.length - most).toLocaleString("en")} more.` : "";
+  return faults.length > most ? say.andMore((faults.length - most).toLocaleString("en")) : "";
 }
 
 /**

@@ -7,6 +7,7 @@ import { Cell, block, button, element, oneStop, pressedSwitch, setStop } from ".
 import { Face, moreThan, sorted } from "./face.js";
 import { missingOf } from "./face_board.js";
 import { LampsView } from "./lamps_view.js";
+import * as say from "../words/board.js";
 
 /**
  * @typedef {import("../bench/answers.js").Board} Board
@@ -15,7 +16,6 @@ import { LampsView } from "./lamps_view.js";
  * @typedef {BoardKey & { button: HTMLButtonElement, down: import("../ui/dom.js").Switch }} ShownKey
  */
 
-const TITLE = "Lamps and keys";
 /** So many faults are told. */
 const MOST_FAULTS = 20;
 
@@ -27,8 +27,7 @@ function isBare({ roms, banks, chains, lamps }) {
   return [roms, banks, chains, lamps].every((parts) => parts.length === 0);
 }
 
-const AS_SEEN = `What is lit shines by the part of the time for which it is lit, as an eye sees it: over ${PERSISTENCE} ms.`;
-const AT_INSTANT = "Time stands still: what is lit at this instant.";
+const AS_SEEN = say.asSeen(PERSISTENCE);
 
 /** Longer legends are written smaller. */
 const SHORT_LEGEND = 4;
@@ -95,7 +94,7 @@ export class FrontView {
    */
   drawFace(board, face) {
     const heading = block("front-title");
-    (heading.querySelector("button") || heading).textContent = face.title || TITLE;
+    (heading.querySelector("button") || heading).textContent = face.title || say.LAMPS_AND_KEYS;
     this.display.draw(board.lamps, face);
     this.lamps.draw(board.lamps, face);
     this.faces += 1;
@@ -115,7 +114,7 @@ export class FrontView {
   drawFaults(board, face) {
     const faults = sorted([...face.faults, ...missingOf(face, board)]);
     const root = block("face-faults");
-    const told = faults.slice(0, MOST_FAULTS).map(({ line, words }) => `line ${line} of the board's text: ${words}`);
+    const told = faults.slice(0, MOST_FAULTS).map(({ line, words }) => say.lineOfBoard(line, words));
     root.replaceChildren(...[...told, moreThan(faults, MOST_FAULTS)].filter(Boolean).map((words) => element("li", {}, words)));
     root.hidden = faults.length === 0;
   }
@@ -160,7 +159,7 @@ export class FrontView {
   showLamps(marks) {
     this.marks = marks;
     this.isShining = false;
-    this.shineTold.set(AT_INSTANT);
+    this.shineTold.set(say.AT_INSTANT);
     this.lamps.show(marks);
     this.display.show(marks);
   }

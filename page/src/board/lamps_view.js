@@ -5,6 +5,7 @@ import { SEEN_PART, shineOf } from "./brightness.js";
 import { isLit } from "./digit_patterns.js";
 import { fittingGroups, isScanned, lampsOf } from "./face_board.js";
 import { upTo } from "../bench/numbers.js";
+import * as say from "../words/board.js";
 
 /**
  * @typedef {import("./face.js").Face} Face
@@ -33,7 +34,7 @@ class Lamp {
     this.isLit = false;
     this.part = 0;
     this.shine = 0;
-    this.words = { lit: `${name}, lit`, dark: `${name}, dark` };
+    this.words = { lit: say.lit(name), dark: say.dark(name) };
     this.node = element("span", { className: `bulb ${colour}`, title: line });
     this.node.setAttribute("role", "img");
     this.node.setAttribute("aria-label", this.words.dark);
@@ -68,7 +69,7 @@ class Lamp {
  */
 function listOf({ kind, rows, columns }, lamp) {
   const cells = upTo(rows * columns).map((at) => {
-    const place = rows > 1 ? `row ${Math.floor(at / columns)}, column ${at % columns}` : `lamp ${at + 1} of ${columns}`;
+    const place = rows > 1 ? say.placeInGroup(Math.floor(at / columns), at % columns) : say.lampOfRow(at + 1, columns);
     return element("li", {}, lamp(at, place));
   });
   const list = element("ul", { className: `group ${kind}` }, ...cells);
@@ -165,7 +166,7 @@ export class LampsView {
       const seen = {
         isLit: (marks) => isLit(marks, column) && isLit(marks, row), part, isOn: (brightness) => part(brightness) >= SEEN_PART,
       };
-      return this.add(column, seen, place, `${this.lines[column]} and ${this.lines[row]}`);
+      return this.add(column, seen, place, say.both(this.lines[column], this.lines[row]));
     });
   }
 
@@ -173,7 +174,7 @@ export class LampsView {
   drawGrid(grid) {
     const named = grid.some(({ lamp }) => this.nameOf(lamp) !== "");
     const cells = grid.map(({ row, column, lamp }) => {
-      const node = element("li", {}, this.lamp(lamp, `row ${row}, column ${column}`));
+      const node = element("li", {}, this.lamp(lamp, say.placeInGroup(row, column)));
       if (named) node.append(element("span", {}, this.nameOf(lamp)));
       node.style.setProperty("grid-row", String(row + 1));
       node.style.setProperty("grid-column", String(column + 1));

@@ -3,6 +3,7 @@
 import { REAL_CYCLES } from "../time/real_time.js";
 import { Cell, block, button, onClick, pressedSwitch } from "../ui/dom.js";
 import { SoundPieces } from "./sound_samples.js";
+import * as say from "../words/board.js";
 
 /**
  * @typedef {import("../worker/sounding.js").Heard} Heard
@@ -19,8 +20,6 @@ const MOST_AHEAD = 0.4;
 const LOUDNESS = 0.12;
 /** What is lower is not heard, and a line that stands at 1 is none of it. */
 const LEAST_PITCH = 30;
-const NO_SOUND = "This browser has no sound (Web Audio). In a terminal, mcs4 wave --wav makes a file of it.";
-const SILENT = "silent: it sounds in real time alone";
 
 /** What plays samples one after the other. */
 class Player {
@@ -70,7 +69,7 @@ export class Sound {
   draw(buzzer) {
     const line = buzzer ? buzzer.place : "";
     block("sound").hidden = line === "";
-    button("sound-button").textContent = `Sound of ${buzzer ? buzzer.name : ""}`;
+    button("sound-button").textContent = say.soundOf(buzzer ? buzzer.name : "");
     this.line = line;
     if (line === "" && this.player) this.mute();
     else this.check();
@@ -80,12 +79,12 @@ export class Sound {
   turn() {
     if (this.player) this.mute();
     else if (typeof AudioContext === "function") this.begin();
-    else this.told.set(NO_SOUND);
+    else this.told.set(say.NO_SOUND);
   }
 
   begin() {
     this.player = new Player();
-    this.player.context.resume().catch(() => this.told.set(NO_SOUND));
+    this.player.context.resume().catch(() => this.told.set(say.NO_SOUND));
     this.check();
   }
 
@@ -99,7 +98,7 @@ export class Sound {
   check() {
     const isOn = this.player !== null;
     this.pressed.set(isOn);
-    this.told.set(isOn && !this.calls.isReal() ? SILENT : "");
+    this.told.set(isOn && !this.calls.isReal() ? say.SILENT : "");
     this.calls.listen(isOn && this.calls.isReal() ? this.line : "");
   }
 

@@ -1,6 +1,7 @@
 // The wiring of a board as a drawing: its parts with their pins, and the wires between them, each at its place. Nothing here draws.
 
 import { BITS } from "../bench/board_form.js";
+import * as say from "../words/board.js";
 
 /**
  * @typedef {import("../bench/answers.js").Board} Board
@@ -91,18 +92,18 @@ class Uses {
     /** @type {Map<string, number>} at which of all uses a line is used first */
     this.places = new Map();
     board.chains.forEach(({ clock, data }, at) => {
-      this.add(clock, `clocks chain ${at}`);
-      this.add(data, `is the data of chain ${at}`);
+      this.add(clock, say.clocksChain(at));
+      this.add(data, say.isData(at));
     });
     if (board.matrix) this.addMatrix(board.matrix);
-    board.lamps.forEach((line, at) => this.add(line, `lights lamp ${at}`));
-    if (buzzer) this.add(buzzer.place, "sounds the buzzer");
+    board.lamps.forEach((line, at) => this.add(line, say.lightsLamp(at)));
+    if (buzzer) this.add(buzzer.place, say.SOUNDS_BUZZER);
   }
 
   /** @param {NonNullable<Board["matrix"]>} matrix */
   addMatrix({ chain, first, rows, columns }) {
-    for (let row = 0; row < rows; row++) this.add(`chain${chain}.${first + row}`, `drives row ${row} of the keys`);
-    columns.forEach((line, at) => this.add(line, `reads column ${at} of the keys`));
+    for (let row = 0; row < rows; row++) this.add(`chain${chain}.${first + row}`, say.drivesRow(row));
+    columns.forEach((line, at) => this.add(line, say.readsColumn(at)));
   }
 
   /**
@@ -134,7 +135,7 @@ class Uses {
    */
   say(name, line) {
     const uses = this.of(line);
-    return `${name} ${uses.length > 0 ? uses.join(" and ") : "is not used"}`;
+    return `${name} ${uses.length > 0 ? uses.join(say.usesOf(name, uses.join(say.AND) || say.NOT_USED)) : "is not used"}`;
   }
 }
 
@@ -151,8 +152,8 @@ function linesOfPort(chip) {
  * @param {TestPin | null} test
  */
 function drawProcessor(column, test) {
-  const says = ["it reads the ROMs' bytes and ports, writes the ports, and reads and writes RAM",
-    test ? `its input TEST is at the ${test.kind} ${nameOf(test)}` : "TEST is its own input"];
+  const says = [say.DOES_PROCESSOR,
+    test ? say.testIsAt(test.kind, nameOf(test)) : say.TEST_IS_OWN];
   return column.add({ id: "processor", kind: "processor", title: "4004", says }, [], [{ id: "TEST", line: "", label: "TEST" }]);
 }
 
@@ -169,7 +170,7 @@ function nameOf({ name }) {
 function drawTest(column, test) {
   const name = nameOf(test);
   const title = name.length > LONGEST_NAME ? `${name.slice(0, LONGEST_NAME - 1)}…` : name;
-  const says = [`the ${test.kind} ${name} puts TEST to ${test.level} while it is pressed`];
+  const says = [say.putsTest(test.kind, name, test.level)];
   return column.add({ id: "test", kind: "test", title, says }, [], [{ id: "test", line: "", label: test.kind }]);
 }
 
@@ -180,8 +181,8 @@ function drawTest(column, test) {
  */
 function drawRom(column, { chip, port }, uses) {
   const pins = linesOfPort(`rom${chip}`).map((pin, at) => ({ ...pin, label: `${port[3 - at] === "i" ? "in" : "out"} ${at}` }));
-  const says = pins.map(({ line, label }) => uses.say(`line ${line}, ${label.startsWith("in") ? "an input" : "an output"},`, line));
-  return column.add({ id: `rom ${chip}`, kind: "rom", title: `ROM ${chip} · 4001`, says }, [], pins);
+  const says = pins.map(({ line, label }) => uses.say(say.lineOfPort(line, label.startsWith("in")), line));
+  return column.add({ id: `rom ${chip}`, kind: "rom", title: say.romTitle(chip), says }, [], pins);
 }
 
 /**
@@ -192,8 +193,8 @@ function drawRom(column, { chip, port }, uses) {
  */
 function drawRam(column, bank, chip, uses) {
   const pins = linesOfPort(`ram${bank}.${chip}`).map((pin) => ({ ...pin, label: `out ${pin.label}` }));
-  const says = pins.map(({ line }) => uses.say(`line ${line}, an output,`, line));
-  return column.add({ id: `ram ${bank}.${chip}`, kind: "ram", title: `RAM ${bank}.${chip} · 4002`, says }, [], pins);
+  const says = pins.map(({ line }) => uses.say(say.lineOfPort(line, false), line));
+  return column.add({ id: `ram ${bank}.${chip}`, kind: "ram", title: say.ramTitle(bank, chip), says }, [], pins);
 }
 
 /**
@@ -208,9 +209,9 @@ function drawChain(column, { clock, data, chips }, at, uses) {
     { id: `chain${at}.${bit}`, line: `chain${at}.${bit}`, label: `bit ${bit}` }));
   const used = bits.filter(({ line }) => uses.of(line).length > 0).sort((one, other) => uses.placeOf(one.line) - uses.placeOf(other.line));
   const free = bits.filter(({ line }) => uses.of(line).length === 0).slice(0, FREE_BITS);
-  const says = [`its clock is ${clock}`, `its data is ${data}`, ...used.map(({ line, label }) => uses.say(label, line))];
+  const says = [say.clockIs(clock), say.dataIs(data), ...used.map(({ line, label }) => uses.say(label, line))];
   const inputs = [{ id: `clock ${at}`, line: clock, label: "clock" }, { id: `data ${at}`, line: data, label: "data" }];
-  return column.add({ id: `chain ${at}`, kind: "chain", title: `Chain ${at} · ${chips} × 4003`, says }, inputs, [...used, ...free]);
+  return column.add({ id: `chain ${at}`, kind: "chain", title: say.chainTitle(at, chips), says }, inputs, [...used, ...free]);
 }
 
 /**
@@ -221,9 +222,9 @@ function drawKeys(column, { chain, first, rows, columns }) {
   const rowPins = Array.from({ length: rows }, (_, row) => (
     { id: `row ${row}`, line: `chain${chain}.${first + row}`, label: `row ${row}` }));
   const columnPins = columns.map((line, at) => ({ id: `column ${at}`, line, label: `column ${at}` }));
-  const says = [...rowPins.map(({ line, label }) => `${label} is driven by ${line}`), ...columnPins.map(({ line, label }) => (
-    `${label} is read at ${line}`))];
-  return column.add({ id: "keys", kind: "keys", title: `Keys · ${rows} × ${columns.length}`, says }, [...rowPins, ...columnPins], []);
+  const says = [...rowPins.map(({ line, label }) => say.drivenBy(label, line)), ...columnPins.map(({ line, label }) => (
+    say.readAt(label, line)))];
+  return column.add({ id: "keys", kind: "keys", title: say.keysTitle(rows, columns.length), says }, [...rowPins, ...columnPins], []);
 }
 
 /**
@@ -233,8 +234,8 @@ function drawKeys(column, { chain, first, rows, columns }) {
  */
 function drawLamps(column, lamps, { names, colours }) {
   const pins = lamps.map((line, at) => ({ id: `lamp ${at}`, line, label: names[at] || `lamp ${at}`, colour: colours[at] || "red" }));
-  const says = pins.map(({ line, label }) => `${label} is at ${line}`);
-  return column.add({ id: "lamps", kind: "lamps", title: `Lamps · ${lamps.length}`, says }, pins, []);
+  const says = pins.map(({ line, label }) => say.isAt(label, line));
+  return column.add({ id: "lamps", kind: "lamps", title: say.lampsTitle(lamps.length), says }, pins, []);
 }
 
 /**
@@ -242,8 +243,8 @@ function drawLamps(column, lamps, { names, colours }) {
  * @param {Buzzer} buzzer
  */
 function drawBuzzer(column, { place, name }) {
-  const says = [`${name} sounds the edges of ${place}`];
-  return column.add({ id: "buzzer", kind: "buzzer", title: "Buzzer", says }, [{ id: "buzzer 0", line: place, label: name }], []);
+  const says = [say.soundsEdges(name, place)];
+  return column.add({ id: "buzzer", kind: "buzzer", title: say.BUZZER, says }, [{ id: "buzzer 0", line: place, label: name }], []);
 }
 
 /**

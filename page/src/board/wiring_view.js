@@ -6,6 +6,7 @@ import { upTo } from "../bench/numbers.js";
 import { drawn } from "../ui/svg.js";
 import { pathText, routeOf } from "./routes.js";
 import { HEAD, drawBoard, isHigh, isHighAtRom } from "./wiring.js";
+import * as say from "../words/board.js";
 
 /**
  * @typedef {import("../bench/answers.js").Board} Board
@@ -102,7 +103,7 @@ export class WiringView {
       this.viewBox = `0 0 ${width} ${height}`;
       this.root.style.setProperty("--picture-width", `${width}px`);
     }
-    const picture = drawn("svg", { viewBox: this.viewBox, role: "group", "aria-label": "The board's parts and wires" });
+    const picture = drawn("svg", { viewBox: this.viewBox, role: "group", "aria-label": say.PARTS_AND_WIRES });
     picture.append(...wireNodes, ...partNodes, this.pencil);
     this.root.replaceChildren(picture);
     this.words.replaceChildren(...parts.map(({ title, says }) => element("li", {}, `${title}: ${says.join("; ")}.`)));
@@ -177,7 +178,7 @@ export class WiringView {
     const reach = drawn("circle", { class: "reach", ...place, r: REACH });
     const words = `${part.title}, ${pin.label}, ${this.wordsOfPin(pin)}`;
     const node = drawn("g", { "class": "at-pin", "role": "button", "tabindex": -1, "aria-label": words },
-      drawn("title", {}, pin.line || "the TEST pin"), dot, label, reach);
+      drawn("title", {}, pin.line || say.TEST_PIN), dot, label, reach);
     this.name(node, pin.id);
     return node;
   }
@@ -187,9 +188,9 @@ export class WiringView {
    * @param {Pin} pin
    */
   wordsOfPin({ id, line }) {
-    if (line !== "" && id !== line) return `at ${line}`;
+    if (line !== "" && id !== line) return say.at(line);
     const takers = (this.takers.get(line) || []).filter((taker) => taker !== id);
-    return takers.length > 0 ? `wired to ${takers.join(" and ")}` : "not wired";
+    return takers.length > 0 ? say.wiredTo(takers.join(say.AND)) : say.NOT_WIRED;
   }
 
   /**

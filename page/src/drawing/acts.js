@@ -14,6 +14,7 @@ import { deletePart, displayAt, lampsWith } from "./deleting.js";
 import { COLOURS, colourLamp, moveBuzzer, nameKey, nameLamp, setWhole, wordOf } from "./face_edits.js";
 import { setValue, setWritten } from "./part_edits.js";
 import { ActRefusal, Sketch } from "./sketch.js";
+import * as say from "../words/drawing.js";
 
 /**
  * @typedef {import("./text_edits.js").TextEdit} TextEdit
@@ -69,7 +70,7 @@ function addFromShelf(sketch, { part, line, digits = 1 }) {
  * @param {"button" | "switch"} kind
  */
 function addTest(sketch, kind) {
-  if (new Face(sketch.text).test) throw new ActRefusal("TEST has its button or switch: delete that one first.");
+  if (new Face(sketch.text).test) throw new ActRefusal(say.TEST_TAKEN);
   needRom(sketch);
   sketch.edit(setWhole(sketch.draft, "test", "", `${kind} ${kind === "button" ? "PUSH" : "RUN"}`));
   return "test";
@@ -83,7 +84,7 @@ function addTest(sketch, kind) {
 function wire(sketch, name, target) {
   const { board, draft } = sketch;
   const line = linesOf(board).find((each) => each.name === name);
-  if (!line || !wiringOf(board).has(target)) throw new ActRefusal(`The board has no ${line ? target : name}.`);
+  if (!line || !wiringOf(board).has(target)) throw new ActRefusal(say.boardHasNo(line ? target : name));
   if (!mayWire(board, line, target)) throw new ActRefusal(whyNot(line, target));
   const [kind, number] = readTarget(target);
   if (kind === "clock" || kind === "data") sketch.edit([setValue(draft, draft.entry("chain", number), kind, name)]);
@@ -107,10 +108,10 @@ function wire(sketch, name, target) {
  */
 function whyNot({ name, kind, isInput }, target) {
   const [what] = readTarget(target);
-  if (what === "column") return `${name} is an output line: ${nameOfTarget(target)} is read at an input line of a ROM.`;
-  if (isInput) return `${name} is an input line: ${nameOfTarget(target)} takes an output line.`;
-  if (what === "row") return `The rows of the keys are driven by bits of a chain that follow one another: ${name} cannot drive this one.`;
-  return `${name} is a ${kind} of a chain: ${nameOfTarget(target)} takes an output line of a ROM or a RAM chip.`;
+  if (what === "column") return say.needsInput(name, nameOfTarget(target));
+  if (isInput) return say.needsOutput(name, nameOfTarget(target));
+  if (what === "row") return say.cannotDrive(name);
+  return say.needsChipLine(name, kind, nameOfTarget(target));
 }
 
 /**
@@ -126,7 +127,7 @@ function setPort(sketch, line, as) {
   const takers = [...wiringOf(board)].filter(([target, name]) => name === line && target !== BUZZER).map(([target]) => target);
   const isTurned = (port[3 - at] === "i") !== (as === "i");
   if (isTurned && takers.length > 0) {
-    throw new ActRefusal(`${line} is wired to ${takers.map(nameOfTarget).join(" and ")}: wire that to another line first.`);
+    throw new ActRefusal(say.takenLine(line, takers.map(nameOfTarget).join(say.AND)));
   }
   keepOutputs(sketch, (each) => isTurned && each === line);
   sketch.edit([setValue(draft, entry, "port", port.slice(0, 3 - at) + as + port.slice(4 - at))]);
@@ -144,14 +145,13 @@ function copy(sketch, part) {
   if (kind === "rom") return addRom(sketch, (board.roms.find(({ chip }) => Number(chip) === number) || { port: OUTPUTS }).port);
   if (kind === "ram") return addRam(sketch);
   if (kind === "chain") return addChain(sketch, board.chains[number].chips);
-  if (kind !== "lamp") throw new ActRefusal("A board has this once.");
+  if (kind !== "lamp") throw new ActRefusal(say.ONLY_ONCE);
   const display = displayAt(face, number);
   if (display) return addDisplay(sketch, display.columns < 7 ? "digit" : "segments", display.rows);
-  if (lampsWith(face, number).length > 1) throw new ActRefusal("Lamps that belong together are copied in the board's text.");
+  if (lampsWith(face, number).length > 1) throw new ActRefusal(say.COPY_IN_TEXT);
   return addLamp(sketch, "", (face.colours.get(number) || { text: "" }).text);
 }
 
-const GRID_DIFFERS = "Another lamp would stand at its place of the grid then: choose another name.";
 
 /**
  * A lamp that is called otherwise stays at its place of the grid.
@@ -164,7 +164,7 @@ function renameLamp(sketch, lamp, name) {
   const gridOf = (text) => new Face(text).grid.map((place) => `${place.row} ${place.column} ${place.lamp}`).join();
   const grid = gridOf(sketch.text);
   sketch.edit(nameLamp(sketch.draft, lamp, name));
-  if (gridOf(sketch.text) !== grid) throw new ActRefusal(GRID_DIFFERS);
+  if (gridOf(sketch.text) !== grid) throw new ActRefusal(say.GRID_DIFFERS);
 }
 
 /**
@@ -180,13 +180,13 @@ function rename(sketch, part, name) {
   else if (kind === "title") sketch.edit(setWhole(draft, "title", "", name));
   else if (kind === "test") {
     const { test } = new Face(text);
-    if (!test || wordOf(name) === "") throw new ActRefusal("What is at TEST has a name.");
+    if (!test || wordOf(name) === "") throw new ActRefusal(say.TEST_NEEDS_NAME);
     sketch.edit(setWhole(draft, "test", "", `${test.kind} ${wordOf(name)}${test.level ? " to 1" : ""}`));
   } else if (kind === "buzzer") {
-    if (!board.buzzer || name.trim() === "") throw new ActRefusal("A buzzer has a name.");
+    if (!board.buzzer || name.trim() === "") throw new ActRefusal(say.BUZZER_NEEDS_NAME);
     sketch.edit(setWhole(draft, "buzzer", board.buzzer, name));
   } else if (["rom", "ram", "chain"].includes(kind)) sketch.edit(setWhole(draft, "port", part.replace(" ", ""), name));
-  else throw new ActRefusal("This has no name of its own.");
+  else throw new ActRefusal(say.NO_OWN_NAME);
 }
 
 /**
@@ -195,7 +195,7 @@ function rename(sketch, part, name) {
  * @param {string} colour
  */
 function setColour(sketch, lamp, colour) {
-  if (colour !== "" && !COLOURS.has(colour)) throw new ActRefusal(`${colour} is no colour; there are ${[...COLOURS].join(", ")}.`);
+  if (colour !== "" && !COLOURS.has(colour)) throw new ActRefusal(say.noColour(colour, [...COLOURS].join(", ")));
   sketch.edit(colourLamp(sketch.draft, lamp, colour));
 }
 
@@ -225,35 +225,35 @@ function perform(sketch, act) {
       const part = addFromShelf(sketch, act);
       const isDisplay = ["digit", "segments", "scanned"].includes(act.part);
       const digits = act.digits || 1;
-      return [part, isDisplay ? `A display of ${counted(digits, "digit")} was added` : doneTo(part, "added")];
+      return [part, isDisplay ? say.displayAdded(counted(digits, "digit")) : doneTo(part, "added")];
     }
     case "copy": {
       const part = copy(sketch, act.part);
-      return [part, `${capital(nameOfPart(part))} was added, a copy of ${nameOfPart(act.part)}`];
+      return [part, say.copyAdded(capital(nameOfPart(part)), nameOfPart(act.part))];
     }
     case "wire":
       wire(sketch, act.line, act.target);
-      return [act.target, `Line ${act.line} is wired to ${nameOfTarget(act.target)}`];
+      return [act.target, say.lineWired(act.line, nameOfTarget(act.target))];
     case "port":
       setPort(sketch, act.line, act.as);
-      return [act.line, `Line ${act.line} is an ${act.as === "i" ? "input" : `output that reads as ${act.as}`}`];
+      return [act.line, say.lineIs(act.line, act.as === "i" ? say.INPUT : say.outputReadsAs(act.as))];
     case "chips":
-      return [setChips(sketch, act.chain, act.chips), `Chain ${act.chain} has ${counted(act.chips, "chip")}`];
+      return [setChips(sketch, act.chain, act.chips), say.chainHas(act.chain, counted(act.chips, "chip"))];
     case "rows":
       if (board.matrix && act.rows < board.matrix.rows) deletePart(sketch, `row ${act.rows}`);
       else setRows(sketch, act.rows);
-      return ["keys", `The keys have ${counted(act.rows, "row")}`];
-    case "column": return [addColumn(sketch), "The keys have another column"];
+      return ["keys", say.keysHave(counted(act.rows, "row"))];
+    case "column": return [addColumn(sketch), say.MORE_COLUMNS];
     case "delete": {
       const words = deletePart(sketch, act.part);
-      return ["", `${doneTo(act.part, "deleted")}${words && `, and with it ${words}`}`];
+      return ["", `${doneTo(act.part, "deleted")}${words && say.andWithIt(words)}`];
     }
     case "name":
       rename(sketch, act.part, act.name);
-      return [act.part, `${capital(nameOfPart(act.part))} ${act.name.trim() ? `is called ${act.name.trim()}` : "has no name"}`];
+      return [act.part, say.named(capital(nameOfPart(act.part)), act.name.trim())];
     case "colour":
       setColour(sketch, act.lamp, act.colour);
-      return [`lamp ${act.lamp}`, `Lamp ${act.lamp} is ${act.colour || "red, as usual"}`];
+      return [`lamp ${act.lamp}`, say.lampIs(act.lamp, act.colour || say.USUAL_RED)];
   }
 }
 
@@ -267,7 +267,7 @@ function newFault(before, after) {
   const { faults } = new Face(after);
   if (faults.length <= old.length) return "";
   const [found] = faults.filter(({ words }) => !old.includes(words.replace(/\d+/g, "")));
-  return found ? `${capital(found.words)}.` : "The face of the board cannot be read then.";
+  return found ? `${capital(found.words)}.` : say.FACE_UNREADABLE;
 }
 
 /**
@@ -279,12 +279,12 @@ function newFault(before, after) {
 export function actOn(text, act) {
   const nothing = { edits: [], text, part: "", words: "", goneChains: [] };
   const sketch = new Sketch(text);
-  if (!sketch.draft.isToml || !sketch.draft.told) return { ...nothing, refusal: "The board's text has faults: see Board." };
+  if (!sketch.draft.isToml || !sketch.draft.told) return { ...nothing, refusal: say.TEXT_HAS_FAULTS };
   try {
     const [part, words] = perform(sketch, act);
     const fault = newFault(text, sketch.text);
     if (fault) return { ...nothing, refusal: fault };
-    const also = sketch.added.length > 0 ? `, with ${sketch.added.join(", ").replace(/, ([^,]*)$/, " and $1")}` : "";
+    const also = sketch.added.length > 0 ? say.withAlso(say.listOf(sketch.added)) : "";
     return { edits: sketch.edits, text: sketch.text, part, words: `${words}${also}.`, goneChains: sketch.goneChains, refusal: "" };
   } catch (fault) {
     if (!(fault instanceof ActRefusal)) throw fault;

@@ -9,6 +9,7 @@ import { addGroup, colourLamp, setWhole } from "./face_edits.js";
 import { BUZZER, bitOf, freeLines, wiringOf } from "./board_lines.js";
 import { addPart, appendElement, setValue, written } from "./part_edits.js";
 import { ActRefusal } from "./sketch.js";
+import * as say from "../words/drawing.js";
 
 /**
  * @typedef {import("./sketch.js").Sketch} Sketch
@@ -34,7 +35,7 @@ function freeNumber(taken, most) {
  */
 export function addRom(sketch, port) {
   const chip = freeNumber(sketch.board.roms.map((rom) => Number(rom.chip)), MOST.rom);
-  if (chip === undefined) throw new ActRefusal(`A board has at most ${MOST.rom} ROMs.`);
+  if (chip === undefined) throw new ActRefusal(say.mostRoms(MOST.rom));
   sketch.edit(addPart(sketch.draft, "rom", { chip, port }));
   return `rom ${chip}`;
 }
@@ -49,7 +50,7 @@ export function addRam(sketch) {
     return `ram ${open.bank}.${open.chips}`;
   }
   const bank = freeNumber(banks.map((each) => each.bank), MOST.ram);
-  if (bank === undefined) throw new ActRefusal(`A board has at most ${MOST.ram} banks of ${most} RAM chips.`);
+  if (bank === undefined) throw new ActRefusal(say.mostRams(MOST.ram, most));
   sketch.edit(addPart(sketch.draft, "ram", { bank, chips: 1 }));
   return `ram ${bank}.0`;
 }
@@ -70,10 +71,10 @@ function alsoAdd(sketch, add) {
  * @param {string} part
  */
 export function nameOfPart(part) {
-  if (part === "test") return "what is at TEST";
-  if (part === "title") return "the board";
-  if (part === "keys" || part === "lamps") return `the ${part}`;
-  if (part === BUZZER || part === "buzzer") return "the buzzer";
+  if (part === "test") return say.AT_TEST;
+  if (part === "title") return say.THE_BOARD;
+  if (part === "keys" || part === "lamps") return say.thePart(part);
+  if (part === BUZZER || part === "buzzer") return say.THE_BUZZER;
   return part.replace(/^(rom|ram) /, (kind) => kind.toUpperCase());
 }
 
@@ -125,7 +126,7 @@ function freeForLamps(board) {
  */
 export function addChain(sketch, chips = 1) {
   const at = sketch.board.chains.length;
-  if (at >= MOST.chain) throw new ActRefusal(`A board has at most ${MOST.chain} chains.`);
+  if (at >= MOST.chain) throw new ActRefusal(say.mostChains(MOST.chain));
   const [clock, data] = need(sketch, 2, freeOutputs, () => addRom(sketch, OUTPUTS));
   sketch.edit(addPart(sketch.draft, "chain", { clock, data, chips }));
   return `chain ${at}`;
@@ -160,7 +161,7 @@ function needBits(sketch, count) {
  * @param {Sketch} sketch
  */
 export function addKeys(sketch) {
-  if (sketch.board.matrix) throw new ActRefusal("A board has one key matrix: give it more rows and columns.");
+  if (sketch.board.matrix) throw new ActRefusal(say.ONE_MATRIX);
   needRom(sketch);
   const { chain, first } = needBits(sketch, 1);
   if (freeInputs(sketch.board).length === 0) alsoAdd(sketch, () => addRom(sketch, INPUTS));
@@ -175,12 +176,12 @@ export function addKeys(sketch) {
  */
 export function setRows(sketch, rows) {
   const { matrix, chains } = sketch.board;
-  if (!matrix) throw new ActRefusal("The board has no keys.");
+  if (!matrix) throw new ActRefusal(say.NO_KEYS);
   const { from, to } = RANGES["keys.rows"];
-  if (rows > to) throw new ActRefusal(`A key matrix has at most ${to} rows.`);
-  if (rows < from) throw new ActRefusal("A key matrix has a row at least; delete the keys.");
+  if (rows > to) throw new ActRefusal(say.mostRows(to));
+  if (rows < from) throw new ActRefusal(say.LEAST_ROWS);
   if (matrix.first + rows > BITS * chains[matrix.chain].chips) {
-    throw new ActRefusal(`Chain ${matrix.chain} has no bit for another row: give it another chip.`);
+    throw new ActRefusal(say.noBitForRow(matrix.chain));
   }
   sketch.edit([setValue(sketch.draft, sketch.draft.entry("keys", 0), "rows", rows)]);
   return "keys";
@@ -189,8 +190,8 @@ export function setRows(sketch, rows) {
 /** @param {Sketch} sketch */
 export function addColumn(sketch) {
   const { matrix } = sketch.board;
-  if (!matrix) throw new ActRefusal("The board has no keys.");
-  if (matrix.columns.length >= MOST_COLUMNS) throw new ActRefusal(`A key matrix has at most ${MOST_COLUMNS} columns.`);
+  if (!matrix) throw new ActRefusal(say.NO_KEYS);
+  if (matrix.columns.length >= MOST_COLUMNS) throw new ActRefusal(say.mostColumns(MOST_COLUMNS));
   const [line] = need(sketch, 1, freeInputs, () => addRom(sketch, INPUTS));
   const { draft } = sketch;
   sketch.edit(appendElement(draft, draft.keyOf(draft.entry("keys", 0), "columns").value, written(line)));
@@ -203,7 +204,7 @@ export function addColumn(sketch) {
  * @param {number} count
  */
 function needRoom({ board }, count) {
-  if (board.lamps.length + count > MOST.lamp) throw new ActRefusal(`A board has at most ${MOST.lamp} lamps; it has ${board.lamps.length}.`);
+  if (board.lamps.length + count > MOST.lamp) throw new ActRefusal(say.mostLamps(MOST.lamp, board.lamps.length));
 }
 
 /**
@@ -238,7 +239,7 @@ export function addLamp(sketch, line = "", colour = "") {
  * @param {string} [line]
  */
 export function addBuzzer(sketch, line = "") {
-  if (new Face(sketch.text).buzzer) throw new ActRefusal("A board has one buzzer: delete that one first.");
+  if (new Face(sketch.text).buzzer) throw new ActRefusal(say.ONE_BUZZER);
   needRom(sketch);
   const place = line || need(sketch, 1, freeOutputs, () => addRam(sketch))[0];
   sketch.edit(setWhole(sketch.draft, "buzzer", place, "buzzer"));
@@ -252,7 +253,7 @@ export function addBuzzer(sketch, line = "") {
  * @param {number} digits
  */
 export function addDisplay(sketch, kind, digits) {
-  if (!Number.isInteger(digits) || digits < 1) throw new ActRefusal("A display has a whole number of digits, 1 at least.");
+  if (!Number.isInteger(digits) || digits < 1) throw new ActRefusal(say.LEAST_DIGITS);
   needRoom(sketch, digits * LINES_OF_DIGIT[kind]);
   needRom(sketch);
   const at = sketch.board.lamps.length;
@@ -270,7 +271,7 @@ export function addDisplay(sketch, kind, digits) {
  */
 export function addScanned(sketch, digits) {
   const most = limit("scanned");
-  if (!Number.isInteger(digits) || digits < 1 || digits > most) throw new ActRefusal(`Digits that are lit by turns are 1 to ${most}.`);
+  if (!Number.isInteger(digits) || digits < 1 || digits > most) throw new ActRefusal(say.mostScanned(most));
   const count = LINES_OF_DIGIT.segments + digits;
   needRoom(sketch, count);
   needRom(sketch);
@@ -315,9 +316,9 @@ function bitsOfSegments(sketch, count) {
  */
 export function keepOutputs({ text }, goes) {
   const { buzzer, printer } = new Face(text);
-  if (buzzer && goes(buzzer.place)) throw new ActRefusal(`The buzzer is at ${buzzer.place}: give it another line first.`);
+  if (buzzer && goes(buzzer.place)) throw new ActRefusal(say.buzzerIsAt(buzzer.place));
   const line = printer && linesOfPrinter(printer).find(goes);
-  if (line) throw new ActRefusal(`The printer is at ${line}: give it other lines first, in Board.`);
+  if (line) throw new ActRefusal(say.printerIsAt(line));
 }
 
 /**
@@ -328,13 +329,13 @@ export function keepOutputs({ text }, goes) {
  */
 export function setChips(sketch, chain, chips) {
   const { from, to } = RANGES["chain.chips"];
-  if (chips > to) throw new ActRefusal(`A chain has at most ${to} chips.`);
-  if (chips < from) throw new ActRefusal("A chain has a chip at least; delete the chain.");
+  if (chips > to) throw new ActRefusal(say.mostChips(to));
+  if (chips < from) throw new ActRefusal(say.LEAST_CHIPS);
   /** @type {(line: string) => boolean} */
   const isBeyond = (line) => line.startsWith(`chain${chain}.`) && bitOf(line).bit >= BITS * chips;
   keepOutputs(sketch, isBeyond);
   const beyond = [...wiringOf(sketch.board).values()].find(isBeyond);
-  if (beyond) throw new ActRefusal(`${beyond} is in use: wire what is there to another line first.`);
+  if (beyond) throw new ActRefusal(say.inUse(beyond));
   sketch.edit([setValue(sketch.draft, sketch.draft.entry("chain", chain), "chips", chips)]);
   return `chain ${chain}`;
 }

@@ -4,6 +4,7 @@
 import { BITS, linesOf } from "../bench/board_form.js";
 import { upTo } from "../bench/numbers.js";
 import { buzzerOf } from "../board/face_board.js";
+import * as say from "../words/drawing.js";
 
 /**
  * @typedef {import("../bench/answers.js").Board & { buzzer?: string }} Board with the line of its buzzer, "" for none
@@ -61,8 +62,8 @@ export function readTarget(target) {
 export function nameOfTarget(target) {
   const [kind, number] = readTarget(target);
   if (kind === "lamp") return target;
-  if (target === BUZZER) return "the buzzer";
-  return kind === "clock" || kind === "data" ? `the ${kind} of chain ${number}` : `${target} of the keys`;
+  if (target === BUZZER) return say.THE_BUZZER;
+  return kind === "clock" || kind === "data" ? say.ofChain(kind, number) : say.ofKeys(target);
 }
 
 /**

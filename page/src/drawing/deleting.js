@@ -8,6 +8,7 @@ import { BUZZER, readTarget } from "./board_lines.js";
 import { nameOfPart, setRows } from "./adding.js";
 import { removeElement, removePart, setValue, setWritten } from "./part_edits.js";
 import { ActRefusal } from "./sketch.js";
+import * as say from "../words/drawing.js";
 
 /**
  * @typedef {import("./board_lines.js").Board} Board
@@ -189,9 +190,9 @@ function mark(board, gone, part) {
  * @param {string} part
  */
 function whyItStays(part) {
-  if (part === "processor" || part === "TEST") return "The processor is on each board.";
-  if (/^(clock|data)/.test(part)) return "A chain has a clock and its data: wire it to another line, or delete the chain.";
-  return "A line goes with its chip alone.";
+  if (part === "processor" || part === "TEST") return say.PROCESSOR_STAYS;
+  if (/^(clock|data)/.test(part)) return say.CHAIN_NEEDS_LINES;
+  return say.LINE_STAYS;
 }
 
 /**
@@ -202,7 +203,7 @@ function whyItStays(part) {
 function markRam({ banks }, gone, ram) {
   const [bank, chip] = ram.split(".").map(Number);
   const { chips } = banks.find((each) => each.bank === bank) || { chips: 0 };
-  if (chip !== chips - 1) throw new ActRefusal(`The chips of a bank are numbered from 0 on: delete RAM ${bank}.${chips - 1} first.`);
+  if (chip !== chips - 1) throw new ActRefusal(say.deleteChipFirst(bank, chips - 1));
   gone.rams.add(ram);
 }
 
@@ -239,7 +240,7 @@ export function deletePart(sketch, part) {
  */
 function deleteRow(sketch, row) {
   const { matrix } = sketch.board;
-  if (!matrix || row !== matrix.rows - 1) throw new ActRefusal("The rows of the keys are numbered from 0 on: delete the last one first.");
+  if (!matrix || row !== matrix.rows - 1) throw new ActRefusal(say.DELETE_LAST_ROW);
   setRows(sketch, row);
   sketch.edit(removeRows(sketch.draft, row));
   return "";
@@ -256,8 +257,8 @@ function wordsOfGone({ buzzer }, gone, part) {
   const others = [...chains].map((chain) => `chain ${chain}`).filter((name) => name !== part);
   const further = part === "lamps" || (part.startsWith("lamp ") && lamps.size === 1) ? 0 : lamps.size;
   if (keys && part !== "keys") others.push(nameOfPart("keys"));
-  else if (!keys && columns.size > 0 && !part.startsWith("column")) others.push(`${counted(columns.size, "column")} of the keys`);
-  if (further > 0) others.push(part.startsWith("lamp ") ? `all ${further} lamps of its display` : counted(further, "lamp"));
-  if (buzzer && isLineGone(gone, buzzer)) others.push("the buzzer");
-  return others.join(", ").replace(/, ([^,]*)$/, " and $1");
+  else if (!keys && columns.size > 0 && !part.startsWith("column")) others.push(say.ofKeys(counted(columns.size, "column")));
+  if (further > 0) others.push(part.startsWith("lamp ") ? say.allLampsOf(further) : counted(further, "lamp"));
+  if (buzzer && isLineGone(gone, buzzer)) others.push(say.THE_BUZZER);
+  return say.listOf(others);
 }

@@ -10,6 +10,7 @@ import { SHELF, actOn, isReadAlike, whyNotAdded } from "./acts.js";
 import { nameOfTarget, sourcesOf, targetsOf, wiringOf, withBuzzer } from "./board_lines.js";
 import { fieldsOf } from "./fields.js";
 import { PartPlaces } from "./part_places.js";
+import * as say from "../words/drawing.js";
 
 /**
  * @typedef {import("./board_lines.js").Board} Board
@@ -29,7 +30,6 @@ import { PartPlaces } from "./part_places.js";
  *   fields: import("./fields.js").Fields, begun: string, ends: Set<string>, said: string }} Shown
  */
 
-const CANNOT_READ = "The board's text is written in a way that cannot be drawn in; it can be edited in Board.";
 
 export class Drawing {
   /**
@@ -95,7 +95,7 @@ export class Drawing {
     if (text !== this.text) {
       const { refused, answers } = await this.ask(text);
       if (refused || isReadAlike(text, answers)) this.take(text, refused ? this.answers : answers, refused);
-      else this.take(text, answers, CANNOT_READ);
+      else this.take(text, answers, say.CANNOT_READ);
     }
     this.tell();
   }
@@ -124,7 +124,7 @@ export class Drawing {
   async ask(text) {
     const [first, ...answers] = await this.calls.ask(`wire\n${sentText(text, "#")}.\nboard\n`);
     const refusal = refusalOf(first);
-    const words = refusal ? `The bench refuses the board's text: ${this.calls.wordsOfRefusal(refusal.number)}. Board says where.` : "";
+    const words = refusal ? say.benchRefuses(this.calls.wordsOfRefusal(refusal.number)) : "";
     return { refused: words, answers };
   }
 
@@ -179,7 +179,7 @@ export class Drawing {
     this.begun = isAgain ? "" : name;
     if (this.ends.size === 0) this.begun = "";
     const count = this.ends.size;
-    this.say(this.begun ? `A wire begins at ${nameOfPin(name)}: it can end at ${counted(count, "pin")}.` : "");
+    this.say(this.begun ? say.wireBegins(nameOfPin(name), counted(count, "pin")) : "");
     return Promise.resolve();
   }
 
@@ -195,7 +195,7 @@ export class Drawing {
 
   /** The wire that is begun is none; nothing is chosen. */
   leave() {
-    const said = this.begun ? "No wire was drawn." : "";
+    const said = this.begun ? say.NO_WIRE : "";
     if (!this.begun) this.chosen = "";
     this.begun = "";
     this.say(said);
@@ -214,9 +214,9 @@ export class Drawing {
     const text = this.calls.text();
     const done = actOn(text, act);
     if (done.refusal) return this.say(done.refusal);
-    if (done.edits.length === 0) return this.say("That is so already.");
+    if (done.edits.length === 0) return this.say(say.ALREADY_SO);
     const { refused, answers } = await this.ask(done.text);
-    if (refused || !isReadAlike(done.text, answers)) return this.say(`It was not done. ${refused || CANNOT_READ}`);
+    if (refused || !isReadAlike(done.text, answers)) return this.say(say.notDone(refused || say.CANNOT_READ));
     // The text may have been edited while the bench was asked.
     if (this.calls.text() !== text) return this.perform(act);
     this.calls.edit(done.edits);
@@ -233,8 +233,8 @@ export class Drawing {
   step(which) {
     return this.inTurn(async () => {
       const isDone = this.calls[which]();
-      this.said = which === "undo" ? "Undone." : "Done again.";
-      if (!isDone) this.said = which === "undo" ? "There is nothing to undo." : "There is nothing to do again.";
+      this.said = which === "undo" ? say.UNDONE : say.REDONE;
+      if (!isDone) this.said = which === "undo" ? say.NOTHING_TO_UNDO : say.NOTHING_TO_REDO;
       await this.readText();
     });
   }

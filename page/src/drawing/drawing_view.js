@@ -3,6 +3,7 @@
 import { Cell, block, button, element, field, onClick } from "../ui/dom.js";
 import { buzzerOf, lampColours } from "../board/face_board.js";
 import { lampLabels } from "./lamp_labels.js";
+import * as say from "../words/drawing.js";
 
 /**
  * @typedef {import("./acts.js").Act} Act
@@ -14,24 +15,6 @@ import { lampLabels } from "./lamp_labels.js";
  *   tidy: () => void }} ViewCalls
  */
 
-/**
- * What the shelf calls its parts, and says of them.
- * @type {Record<Shelved, [string, string]>}
- */
-const SHELF = {
-  rom: ["ROM", "a 4001: 256 bytes of program, and a port of four output lines"],
-  inputs: ["ROM, inputs", "a 4001 whose port reads four lines"],
-  ram: ["RAM", "a 4002: 80 characters, and a port of four output lines"],
-  chain: ["Shift register", "a chain of one 4003: ten bits, shifted by a clock line and a data line"],
-  keys: ["Keys", "a matrix: rows driven by a chain, columns read by a ROM"],
-  lamp: ["Lamp", "at the chosen output line, else at the next free one"],
-  digit: ["Digits", "a display whose digits are numbers of four lines each"],
-  segments: ["7 segments", "a display whose digits are seven lines each"],
-  scanned: ["Scanned", "digits that are lit by turns: seven lines for all of them, and a line for each"],
-  button: ["Button", "at the processor's TEST pin; it springs back"],
-  switch: ["Switch", "at the processor's TEST pin; it stays"],
-  buzzer: ["Buzzer", "at the chosen output line, else at the next free one; the edges of its line are sound"],
-};
 const WITH_DIGITS = new Set(["digit", "segments", "scanned"]);
 
 export class DrawingView {
@@ -66,7 +49,7 @@ export class DrawingView {
   }
 
   makeShelf() {
-    for (const [part, [word, title]] of /** @type {[Shelved, [string, string]][]} */ (Object.entries(SHELF))) {
+    for (const [part, [word, title]] of /** @type {[Shelved, [string, string]][]} */ (Object.entries(say.SHELF))) {
       const node = element("button", { type: "button", id: `shelf-${part}`, title }, word);
       onClick(node, () => this.add(part));
       this.shelf.set(part, node);
@@ -99,7 +82,7 @@ export class DrawingView {
 
   /** @param {Shown} shown */
   showState({ fault, isWired }) {
-    this.state.set(fault || (isWired ? "" : "Not wired yet."));
+    this.state.set(fault || (isWired ? "" : say.NOT_WIRED));
     button("drawing-wire").classList.toggle("due", fault === "" && !isWired);
   }
 
@@ -121,7 +104,7 @@ export class DrawingView {
     for (const [part, node] of this.shelf) {
       const why = fault || shelf.get(part) || "";
       node.disabled = why !== "";
-      node.title = why || SHELF[part][1];
+      node.title = why || say.SHELF[part][1];
     }
   }
 
@@ -163,7 +146,7 @@ export class DrawingView {
     this.fields = fields.map((each, at) => this.fieldNode(each, at, disabled));
     const rows = this.fields.map((node, at) => element("label", {}, `${fields[at].label} `, node));
     const ends = buttons.map(({ word, act }) => this.buttonNode(word, () => this.calls.act(act), disabled));
-    if (part) ends.push(this.buttonNode("Show in Board", () => this.calls.find(part), false));
+    if (part) ends.push(this.buttonNode(say.SHOW_IN_BOARD, () => this.calls.find(part), false));
     root.replaceChildren(head, ...rows, ...ends);
     const nodes = [...root.querySelectorAll("input, select, button")];
     const again = focused && nodes.find((each) => each.getAttribute("aria-label") === focused);

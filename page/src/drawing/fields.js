@@ -6,6 +6,7 @@ import { COLOURS } from "../board/face_words.js";
 import { RANGES, linesOf } from "../bench/board_form.js";
 import { displayAt, lampsWith } from "./deleting.js";
 import { BUZZER, nameOfTarget, readTarget, sourcesOf, wiringOf } from "./board_lines.js";
+import * as say from "../words/drawing.js";
 
 /**
  * @typedef {import("./board_lines.js").Board} Board
@@ -60,7 +61,7 @@ function numbers({ from, to }) {
  */
 function lineField(board, target, label = nameOfTarget(target)) {
   const now = wiringOf(board).get(target) || "";
-  return choice(`${label} at`, now, sourcesOf(board, target), (line) => ({ kind: "wire", line, target }));
+  return choice(say.lineOf(label), now, sourcesOf(board, target), (line) => ({ kind: "wire", line, target }));
 }
 
 /**
@@ -70,7 +71,7 @@ function lineField(board, target, label = nameOfTarget(target)) {
  */
 function portField(face, part) {
   const told = face.ports.get(part.replace(" ", ""));
-  return text("what is there", told ? told.text : "", (name) => ({ kind: "name", part, name }));
+  return text(say.WHAT_IS_THERE, told ? told.text : "", (name) => ({ kind: "name", part, name }));
 }
 
 /**
@@ -80,14 +81,14 @@ function portField(face, part) {
  */
 function directionField(line, port) {
   const at = Number(line.split(".")[1]);
-  const options = [["i", "an input"], ["0", "an output"], ["1", "an output that reads as 1"]].map(([value, words]) => ({ value, words }));
-  return choice(`line ${at} is`, port[3 - at], options, (as) => ({ kind: "port", line, as }));
+  const options = say.DIRECTIONS.map(([value, words]) => ({ value, words }));
+  return choice(say.lineIsA(at), port[3 - at], options, (as) => ({ kind: "port", line, as }));
 }
 
 /** @type {(part: string) => Button} */
-const copyOf = (part) => ({ word: "Copy", act: { kind: "copy", part } });
+const copyOf = (part) => ({ word: say.COPY, act: { kind: "copy", part } });
 /** @type {(part: string, word?: string) => Button} */
-const deletionOf = (part, word = "Delete") => ({ word, act: { kind: "delete", part } });
+const deletionOf = (part, word = say.DELETE) => ({ word, act: { kind: "delete", part } });
 
 /**
  * @param {Board} board
@@ -101,7 +102,7 @@ function ofRom(board, face, part) {
   const port = rom ? rom.port : "0000";
   const lines = upTo(4).map((at) => directionField(`rom${chip}.${at}`, port));
   const fields = [portField(face, part), ...lines];
-  return { title: `ROM ${chip}, a 4001 with a port`, part, fields, buttons: [copyOf(part), deletionOf(part)] };
+  return { title: say.romWithPort(chip), part, fields, buttons: [copyOf(part), deletionOf(part)] };
 }
 
 /**
@@ -116,7 +117,7 @@ function ofChain(board, face, part) {
     { kind: "chips", chain: at, chips: Number(value) }));
   const lines = [lineField(board, `clock ${at}`, "clock"), lineField(board, `data ${at}`, "data")];
   const fields = [portField(face, part), ...lines, chips];
-  return { title: `Chain ${at} of 4003`, part, fields, buttons: [copyOf(part), deletionOf(part)] };
+  return { title: say.chainOf(at), part, fields, buttons: [copyOf(part), deletionOf(part)] };
 }
 
 /**
@@ -131,9 +132,9 @@ function ofKeys(board, face) {
     const told = face.keys.get(`${row} ${column}`);
     return text(`key ${row}.${column}`, told ? told.text : "", (name) => ({ kind: "name", part: `key ${row} ${column}`, name }));
   }));
-  const more = { word: "Another column", act: /** @type {Act} */ ({ kind: "column" }) };
+  const more = { word: say.ANOTHER_COLUMN, act: /** @type {Act} */ ({ kind: "column" }) };
   const fields = [rows, lineField(board, "row 0", "row 0"), ...columns, ...names];
-  return { title: "Keys", part: "keys", fields, buttons: [more, deletionOf("keys")] };
+  return { title: say.KEYS, part: "keys", fields, buttons: [more, deletionOf("keys")] };
 }
 
 /**
@@ -153,9 +154,9 @@ function ofLamp(board, face, lamp) {
     choice("colour", colour ? colour.text : "red", [...COLOURS], (value) => ({ kind: "colour", lamp: all[0], colour: value })),
     lineField(board, part, "lamp"),
   ];
-  const copies = displayAt(face, all[0]) ? [{ ...copyOf(`lamp ${all[0]}`), word: "Copy the display" }] : [];
-  const buttons = isOne ? [copyOf(part), deletionOf(part)] : [...copies, deletionOf(part, `Delete its ${all.length} lamps`)];
-  return { title: `Lamp ${lamp}`, part, fields, buttons };
+  const copies = displayAt(face, all[0]) ? [{ ...copyOf(`lamp ${all[0]}`), word: say.COPY_DISPLAY }] : [];
+  const buttons = isOne ? [copyOf(part), deletionOf(part)] : [...copies, deletionOf(part, say.deleteLamps(all.length))];
+  return { title: say.lampTitle(lamp), part, fields, buttons };
 }
 
 /**
@@ -165,7 +166,8 @@ function ofLamp(board, face, lamp) {
  */
 function ofBuzzer(board, { buzzer }) {
   const name = text("name", buzzer ? buzzer.name : "", (value) => ({ kind: "name", part: "buzzer", name: value }));
-  return { title: "The buzzer", part: "buzzer", fields: [name, lineField(board, BUZZER, "buzzer")], buttons: [deletionOf("buzzer")] };
+  const fields = [name, lineField(board, BUZZER, "buzzer")];
+  return { title: say.THE_BUZZER_TITLE, part: "buzzer", fields, buttons: [deletionOf("buzzer")] };
 }
 
 /**
@@ -174,7 +176,7 @@ function ofBuzzer(board, { buzzer }) {
  * @returns {Fields}
  */
 function ofRam(face, part) {
-  const title = `RAM ${part.slice(4)}, a 4002 with a port`;
+  const title = say.ramWithPort(part.slice(4));
   return { title, part: part.split(".")[0], fields: [portField(face, part)], buttons: [copyOf(part), deletionOf(part)] };
 }
 
@@ -188,11 +190,11 @@ function ofLine(board, name) {
   const rom = line && line.kind === "rom" ? board.roms.find(({ chip }) => name.startsWith(`rom${chip}.`)) : null;
   const isInput = line !== undefined && line.isInput;
   /** @type {Button[]} */
-  const buttons = line && !isInput ? [{ word: "A lamp here", act: { kind: "add", part: "lamp", line: name } }] : [];
-  if (line && !isInput && !board.buzzer) buttons.push({ word: "A buzzer here", act: { kind: "add", part: "buzzer", line: name } });
+  const buttons = line && !isInput ? [{ word: say.LAMP_HERE, act: { kind: "add", part: "lamp", line: name } }] : [];
+  if (line && !isInput && !board.buzzer) buttons.push({ word: say.BUZZER_HERE, act: { kind: "add", part: "buzzer", line: name } });
   const [, kind, number] = /^([a-z]+)(\d+)/.exec(name) || ["", "", ""];
   const fields = rom ? [directionField(name, rom.port)] : [];
-  return { title: `Line ${name}, an ${isInput ? "input" : "output"}`, part: `${kind} ${number}`, fields, buttons };
+  return { title: say.lineTitle(name, isInput), part: `${kind} ${number}`, fields, buttons };
 }
 
 /**
@@ -206,7 +208,7 @@ function ofTarget(board, target) {
   const name = nameOfTarget(target);
   const title = name.charAt(0).toUpperCase() + name.slice(1);
   const part = kind === "row" || kind === "column" ? "keys" : `chain ${number}`;
-  return { title, part, fields: [lineField(board, target, "it is")], buttons: canGo ? [deletionOf(target)] : [] };
+  return { title, part, fields: [lineField(board, target, say.IT_IS)], buttons: canGo ? [deletionOf(target)] : [] };
 }
 
 /**
@@ -224,13 +226,13 @@ export function fieldsOf(board, face, chosen) {
   if (kind === "lamp") return ofLamp(board, face, number);
   if (kind === "ram") return ofRam(face, chosen);
   if (kind === "buzzer" && board.buzzer) return ofBuzzer(board, face);
-  if (kind === "lamps") return { title: "All lamps", part: "lamp 0", fields: [], buttons: [deletionOf("lamps", "Delete all lamps")] };
+  if (kind === "lamps") return { title: say.ALL_LAMPS, part: "lamp 0", fields: [], buttons: [deletionOf("lamps", say.DELETE_ALL_LAMPS)] };
   if (kind === "test" && face.test) {
     const name = text("name", face.test.name, (value) => ({ kind: "name", part: "test", name: value }));
-    return { title: `The ${face.test.kind} at TEST`, part: "test", fields: [name], buttons: [deletionOf("test")] };
+    return { title: say.atTest(face.test.kind), part: "test", fields: [name], buttons: [deletionOf("test")] };
   }
   if (wiringOf(board).has(chosen)) return ofTarget(board, chosen);
   if (chosen.includes(".")) return ofLine(board, chosen);
   const title = text("title", face.title, (name) => ({ kind: "name", part: "title", name }));
-  return { title: "The board", part: "", fields: [title], buttons: [] };
+  return { title: say.BOARD_TITLE, part: "", fields: [title], buttons: [] };
 }

@@ -2,6 +2,7 @@
 
 import { isScanned, lampNames, lampsOf } from "../board/face_board.js";
 import { upTo } from "../bench/numbers.js";
+import * as say from "../words/drawing.js";
 
 /** @typedef {import("../board/face.js").Face} Face */
 
@@ -33,6 +34,6 @@ export function lampLabels(face, count) {
 function labelsOf(group) {
   const { rows, columns } = group;
   const lamps = [...(columns < SEGMENTS.length ? OF_NUMBER : SEGMENTS), POINT].slice(0, columns);
-  if (isScanned(group)) return [...lamps.map((lamp) => `all digits: ${lamp}`), ...upTo(rows).map((digit) => `digit ${digit}`)];
+  if (isScanned(group)) return [...lamps.map((lamp) => say.allDigits(lamp)), ...upTo(rows).map((digit) => `digit ${digit}`)];
   return upTo(rows).flatMap((digit) => lamps.map((lamp) => `digit ${digit}: ${lamp}`));
 }

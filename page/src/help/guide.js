@@ -8,6 +8,7 @@ import { doAct } from "./story_acts.js";
 import { stepsOfStory } from "./story.js";
 import { isOfTour } from "./tour.js";
 import { TourView } from "./tour_view.js";
+import * as say from "../words/help.js";
 
 /**
  * @typedef {import("../lines/lines_view.js").LinesCalls} LinesCalls
@@ -71,7 +72,7 @@ export class Guide {
     const { story = "" } = examples.find((each) => each.name === name) || {};
     const steps = stepsOfStory(story);
     if (steps.length > 0) this.tour.open(steps);
-    else this.calls.refuse(`The address names a story, "${shortName(name)}", that this page does not have.`);
+    else this.calls.refuse(say.noSuchStory(shortName(name)));
   }
 
   /** Another session is shown: the story is not of it. */
@@ -84,6 +85,6 @@ export class Guide {
     const { calls } = this;
     calls.showSource();
     if (isOfTour(calls.program())) calls.edit(program);
-    else calls.replace(program, "The program of this step stands in Source.");
+    else calls.replace(program, say.PROGRAM_IN_SOURCE);
   }
 }

@@ -2,6 +2,7 @@
 
 import { Cell, below, block, button, element, field, onClick } from "../ui/dom.js";
 import { piecesOf, searched } from "./manual.js";
+import * as say from "../words/help.js";
 
 /**
  * @typedef {import("./manual.js").ManualSection} ManualSection
@@ -76,6 +77,6 @@ export class HelpView {
     this.sections.replaceChildren(...found.map(({ title, tables }) => (
       element("details", { open: wanted !== "" }, element("summary", {}, title), ...tables.map((table) => tableOf(table, title))))));
     const count = found.reduce((sum, { tables }) => sum + tables.reduce((rows, table) => rows + table.rows.length, 0), 0);
-    this.told.set(wanted === "" ? "" : `${count} ${count === 1 ? "row has" : "rows have"} it.`);
+    this.told.set(wanted === "" ? "" : say.rowsHaveIt(count));
   }
 }

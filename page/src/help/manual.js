@@ -1,5 +1,7 @@
 // What the page shows of the manual: its tables, which page/build takes out of docs/MANUAL.md and page/help.md.
 
+import * as say from "../words/help.js";
+
 /**
  * A table: the line in bold type before it ("" for none), its head and its rows. In a cell, code stands between backticks.
  * @typedef {{ caption: string, head: string[], rows: string[][] }} ManualTable
@@ -12,10 +14,10 @@
  * @typedef {{ form: string, code: string, words: string, cycles: string, does: string }} Instruction
  */
 
-export const INSTRUCTIONS = "The 45 instructions";
-export const CELLS = "What the cells show";
+export const INSTRUCTIONS = say.INSTRUCTIONS;
+export const CELLS = say.CELLS;
 /** The sections whose rows begin with a line for the bench. */
-const LINES = ["Commands", "Queries"];
+const LINES = say.SECTIONS_OF_LINES;
 
 /**
  * The pieces of a cell: plain text and code in turn.

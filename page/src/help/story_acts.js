@@ -1,6 +1,7 @@
 // What the places of a story do: each is one act of the page, by the page's own calls.
 
 import { TEXTS } from "./story.js";
+import * as say from "../words/help.js";
 
 /**
  * @typedef {import("../board/board_keys.js").BoardKey} BoardKey
@@ -24,7 +25,7 @@ import { TEXTS } from "./story.js";
  */
 async function atLabel(label, calls, act) {
   const address = calls.addressOf(label);
-  if (address === undefined) return `Nothing was done: the source is not what stands in ROM, or it has no label ${label}.`;
+  if (address === undefined) return say.noLabel(label);
   await act(address);
   return "";
 }
@@ -36,7 +37,7 @@ async function atLabel(label, calls, act) {
  */
 function atKey(legend, calls, act) {
   const key = calls.keys().find((each) => each.legend === legend);
-  if (!key) return `Nothing was done: the board has no key ${legend}.`;
+  if (!key) return say.noKey(legend);
   act(key);
   return "";
 }

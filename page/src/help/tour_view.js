@@ -2,6 +2,7 @@
 
 import { Cell, block, button, element, onClick } from "../ui/dom.js";
 import { FIRST_PROGRAM, TOUR, TourWatch } from "./tour.js";
+import * as say from "../words/help.js";
 
 /**
  * @typedef {import("../worker/examples.js").Example} Example
@@ -14,11 +15,8 @@ import { FIRST_PROGRAM, TOUR, TourWatch } from "./tour.js";
  *   act: (act: import("./story.js").Act) => Promise<string>, left: () => void }} TourCalls
  */
 
-const BACK_TO_STORY = "Back to the story";
-const BACK_TO_STEPS = "Back to the first program";
 /** What bars that stick may cover is not seen. */
 const BESIDE_BARS = "-60px 0px -100px";
-const LAST_DONE = "Done: that was the last step. Help has all instructions and lines.";
 
 export class TourView {
   /** @param {TourCalls} calls */
@@ -79,12 +77,12 @@ export class TourView {
   show(at) {
     this.watch.begin(at);
     const { title, words, program } = this.watch.step;
-    this.title.set(`${at + 1} of ${this.watch.steps.length}: ${title}`);
+    this.title.set(say.stepOf(at + 1, this.watch.steps.length, title));
     this.words.replaceChildren(...words.map((paragraph) => element("p", {}, ...[paragraph].flat().map((part) => this.nodeOf(part)))));
     this.program.set(program);
     this.program.node.hidden = program === "";
     this.put.hidden = program === "";
-    this.next.textContent = this.isLast ? "End" : "Next step";
+    this.next.textContent = this.isLast ? say.END : say.NEXT_STEP;
     this.showDone();
   }
 
@@ -105,7 +103,7 @@ export class TourView {
    */
   scrolled(isInView) {
     this.isInView = isInView;
-    this.back.textContent = this.isStory ? BACK_TO_STORY : BACK_TO_STEPS;
+    this.back.textContent = this.isStory ? say.BACK_TO_STORY : say.BACK_TO_STEPS;
     this.back.hidden = !this.isOn || isInView;
   }
 
@@ -117,7 +115,7 @@ export class TourView {
 
   showDone() {
     const { isDone } = this.watch;
-    this.told.set(isDone ? (this.isLast ? LAST_DONE : "Done.") : "");
+    this.told.set(isDone ? (this.isLast ? say.LAST_DONE : say.DONE) : "");
     this.root.classList.toggle("done", isDone);
   }
 

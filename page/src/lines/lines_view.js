@@ -2,6 +2,7 @@
 
 import { Cell, block, button, byId, onClick } from "../ui/dom.js";
 import { fittingLines } from "../help/manual.js";
+import * as say from "../words/page.js";
 
 /**
  * What it calls: lines are sent, which gives the first answer, or null where they failed; that answer in words; the help is wanted.
@@ -13,7 +14,6 @@ import { fittingLines } from "../help/manual.js";
 const MOST_LINES = 200;
 /** So many lines of the bench are shown below the box. */
 const MOST_HINTS = 4;
-const HINT = "Enter sends, Shift and Enter begin another line, the arrow up brings back what was sent. help shows all lines.";
 
 export class LinesView {
   /**
@@ -25,7 +25,7 @@ export class LinesView {
     this.calls = calls;
     this.area = byId("lines", HTMLTextAreaElement);
     this.hint = new Cell(block("lines-hint"));
-    this.hint.set(HINT);
+    this.hint.set(say.LINES_HINT);
     /** The answer to what was sent last, for those who do not see the log. */
     this.told = new Cell(block("answer-told"));
     /** @type {string[]} what was sent, the newest last */
@@ -104,7 +104,7 @@ export class LinesView {
     const found = fittingLines(this.lines, this.lastLine);
     const shown = found.slice(0, MOST_HINTS).map(({ form, does }) => `${form}: ${does}`);
     if (found.length > MOST_HINTS) shown.push(found.slice(MOST_HINTS).map(({ form }) => form).join(", "));
-    this.hint.set(shown.length > 0 ? shown.join("\n") : HINT);
+    this.hint.set(shown.length > 0 ? shown.join("\n") : say.LINES_HINT);
   }
 
   async send() {

@@ -3,6 +3,7 @@
 import { refusalOf } from "../bench/answers.js";
 import { block, element } from "../ui/dom.js";
 import { Ran, wordsOfRan } from "../bench/ran.js";
+import * as say from "../words/page.js";
 
 /**
  * @typedef {import("../worker/worker_session.js").Answered} Answered
@@ -65,7 +66,7 @@ export class LogView {
    */
   show(entries, fault) {
     this.add(entries.map(({ line, textLines, answers }) => (
-      this.entry(textLines > 0 ? `${line} .. (${textLines} lines)` : line, answers, fault))));
+      this.entry(textLines > 0 ? say.textLines(line, textLines) : line, answers, fault))));
   }
 
   /** @param {HTMLElement[]} entries */
@@ -84,7 +85,7 @@ export class LogView {
    */
   entry(line, answers, fault) {
     const entry = element("div", {}, element("p", { className: "sent" }, line), ...answers.map((answer) => this.answer(answer)));
-    if (fault) entry.append(element("p", { className: "refused" }, `not kept: ${fault}`));
+    if (fault) entry.append(element("p", { className: "refused" }, say.notKept(fault)));
     return entry;
   }
 

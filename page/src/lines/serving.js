@@ -3,6 +3,7 @@
 import { refusalOf } from "../bench/answers.js";
 import { Cancelled } from "../bench/faults.js";
 import { putNames } from "../bench/names_in_lines.js";
+import * as say from "../words/page.js";
 
 /**
  * @typedef {import("../worker/worker_session.js").Answered} Answered
@@ -47,7 +48,7 @@ export class Serving {
    * @returns {Promise<string | null>}
    */
   async act(lines) {
-    const told = await this.change("Lines are served.", (ways) => this.bench.call("serve", [lines], ways));
+    const told = await this.change(say.SENDING_LINES, (ways) => this.bench.call("serve", [lines], ways));
     return told && told.first;
   }
 
@@ -62,12 +63,12 @@ export class Serving {
       this.notice.show(words);
       return null;
     }
-    const told = await this.change("Lines are served.", (ways) => this.bench.call("serveTyped", [lines], ways));
+    const told = await this.change(say.SENDING_LINES, (ways) => this.bench.call("serveTyped", [lines], ways));
     if (!told) return null;
     const { id, cut, cycles, tally } = told.typed;
     calls.counted(tally);
     if (id !== 0 && !calls.isRunning()) {
-      calls.tell(`${calls.reasonOf({ why: "break", id, cycles, returns: false })} The line ${cut} ended there.`);
+      calls.tell(say.lineEnded(calls.reasonOf({ why: "break", id, cycles, returns: false }), cut));
     }
     return told.first;
   }
@@ -101,7 +102,7 @@ export class Serving {
     this.tellCounter(counter, told.entries);
     if (told.touchesRom) calls.checkSource();
     const fault = await calls.keep();
-    if (told.status !== 0) this.notice.show("Not all lines were served: at most 16,777,216 bytes are read at once.");
+    if (told.status !== 0) this.notice.show(say.LINES_TOO_LONG);
     calls.log(told.entries, fault);
   }
 
@@ -116,7 +117,7 @@ export class Serving {
     const isReset = entries.some(({ line, answers }) => line.trim() === "reset" && refusalOf(answers[0]) === null);
     const isRunning = calls.isRunning();
     if (isReset) calls.forgetGoal();
-    if (isReset) calls.tell(isRunning ? "Time runs. The board was reset." : `The board was reset; it stands at ${counter}.`);
-    else if (counter !== before && !isRunning) calls.tell(`Stopped at ${counter}.`);
+    if (isReset) calls.tell(isRunning ? say.RESET_RUNNING : say.wasReset(counter));
+    else if (counter !== before && !isRunning) calls.tell(say.stoppedAt(counter));
   }
 }

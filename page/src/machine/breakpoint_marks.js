@@ -1,5 +1,7 @@
 // The marks of breakpoints, in the margin of the source and in the listing, with words about each.
 
+import * as say from "../words/machine.js";
+
 /**
  * @typedef {import("../debug/breakpoints.js").Breakpoint} Breakpoint
  * @typedef {{ mark: string, words: string }} BreakpointMark
@@ -16,9 +18,9 @@ const NEVER = "\u25CB";
  * @param {Pick<Breakpoint, "condition" | "from" | "note">} breakpoint
  */
 export function wordsOfBreakpoint({ condition, from, note }) {
-  const when = condition.trim() ? ` where ${condition.trim()}` : "";
-  const since = from > 1 ? ` from hit ${from} on` : "";
-  return `breakpoint${when}${since}${note.trim() ? `: logs "${note.trim()}", and does not stop` : ""}`;
+  const when = condition.trim() ? say.whereHolds(condition.trim()) : "";
+  const since = from > 1 ? say.fromHit(from) : "";
+  return say.breakpointThat(when, since, note.trim() && say.logs(note.trim()));
 }
 
 /**
@@ -28,9 +30,9 @@ export function wordsOfBreakpoint({ condition, from, note }) {
  */
 export function markOf(breakpoint, fault) {
   const words = wordsOfBreakpoint(breakpoint);
-  if (fault) return { mark: NEVER, words: `${words}: it stops nothing: ${fault}` };
-  if (!breakpoint.isOn) return { mark: NEVER, words: `${words}: it is switched off` };
-  if (breakpoint.address < 0) return { mark: NEVER, words: `${words}: it stops once the source is assembled` };
+  if (fault) return { mark: NEVER, words: say.neverStops(words, fault) };
+  if (!breakpoint.isOn) return { mark: NEVER, words: say.isOff(words) };
+  if (breakpoint.address < 0) return { mark: NEVER, words: say.stopsLater(words) };
   if (breakpoint.note.trim()) return { mark: LOGS, words };
   return { mark: breakpoint.condition.trim() || breakpoint.from > 1 ? SOMETIMES : ALWAYS, words };
 }

@@ -6,6 +6,7 @@ import { wordsOfPlace } from "../debug/stop_words.js";
 import { Cell, Switch, block, button, element, onClick } from "../ui/dom.js";
 import { countOf, counted, hex } from "../bench/numbers.js";
 import { markOf } from "./breakpoint_marks.js";
+import * as say from "../words/machine.js";
 
 /**
  * @typedef {import("../debug/breakpoints.js").Breakpoint} Breakpoint
@@ -99,7 +100,7 @@ export class BreakpointsView {
     const fields = [[row.condition, condition], [row.from, String(from)], [row.note, note]];
     for (const [field, value] of fields) if (field !== document.activeElement) field.value = value;
     row.hits.set(hits > 0 ? counted(hits, "hit") : "");
-    row.fault.set(fault && `It stops nothing: ${fault}.`);
+    row.fault.set(fault && say.stopsNothing(fault));
     row.isBroken.set(fault !== "");
   }
 
@@ -120,11 +121,11 @@ export class BreakpointsView {
     const isOn = element("input", { "type": "checkbox", "aria-label": "on", "autocomplete": "off" });
     const [mark, place, hits, fault] = [element("i", { "aria-hidden": "true" }), element("button", { type: "button", className: "place" }),
       element("span", { className: "hits" }), element("p", { className: "fault", role: "alert" })].map((node) => new Cell(node));
-    const words = "stops where this holds, in the words of tests: r9 = 9, lamp 3 on, display 42";
-    const condition = makeField("where", "such as r9 = 9", 12, words);
-    const from = makeField("from hit", "1", 3, "stops from this hit on");
-    const note = makeField("log", "such as R4 is {r4}", 12, "is logged in place of a stop; {r9}, {lamps} stand for values");
-    const remove = element("button", { "type": "button", "aria-label": "take this breakpoint away", "title": "takes it away" }, "\u00D7");
+    const words = say.STOPS_WHERE;
+    const condition = makeField("where", say.SUCH_AS_CONDITION, 12, words);
+    const from = makeField(say.FROM_HIT, "1", 3, say.STOPS_FROM_HIT);
+    const note = makeField("log", say.SUCH_AS_NOTE, 12, say.LOGGED);
+    const remove = element("button", { "type": "button", "aria-label": say.REMOVE_BREAKPOINT, "title": say.REMOVES_IT }, "\u00D7");
     const root = element("li", {}, element("div", { className: "bar" }, isOn, mark.node, place.node, hits.node, remove),
       element("div", { className: "words" }, condition.label, from.label, note.label), fault.node);
     isOn.addEventListener("change", () => this.calls.change(id, { isOn: isOn.checked }));
@@ -173,7 +174,8 @@ export class BreakpointsView {
       const place = found ? placeOfBreakpoint(found, keeper.map) : "";
       return element("p", { title: `at ${wordsOfCycles(cycles)}` }, element("b", {}, place), ` ${words}`);
     });
-    if (noted > notes.length) lines.unshift(element("p", { className: "hint" }, `${(noted - notes.length).toLocaleString("en")} more`));
+    const more = (noted - notes.length).toLocaleString("en");
+    if (noted > notes.length) lines.unshift(element("p", { className: "hint" }, say.moreNotes(more)));
     this.notes.hidden = false;
     this.notes.append(...lines);
     while (this.notes.children.length > MOST_NOTES) this.notes.children[0].remove();

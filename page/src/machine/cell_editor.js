@@ -2,6 +2,7 @@
 
 import { element } from "../ui/dom.js";
 import { putBelow } from "../ui/told_at.js";
+import * as say from "../words/machine.js";
 
 /**
  * A cell that can be poked: the place of `poke`, how it is called, and how many digits it has.
@@ -11,7 +12,6 @@ import { putBelow } from "../ui/told_at.js";
  * @typedef {{ poke: (place: string, value: string) => Promise<string>, tell: (words: string, at: HTMLElement) => void }} EditorCalls
  */
 
-const NOT_HEXADECIMAL = "Write it in hexadecimal digits, as it is shown: 0 to 9, A to F.";
 
 /**
  * A value as a line takes it; "" where a text has none.
@@ -80,7 +80,7 @@ export class CellEditor {
     const poked = this.poked.get(cell);
     if (!poked) return;
     this.cell = cell;
-    this.label.textContent = `${poked.name}, in hexadecimal digits`;
+    this.label.textContent = say.inHexadecimal(poked.name);
     this.field.value = cell.textContent || "";
     this.field.size = Math.max(2, poked.digits);
     this.tell("");
@@ -120,7 +120,7 @@ export class CellEditor {
     const poked = cell && this.poked.get(cell);
     if (!poked) return;
     const value = valueOf(this.field.value);
-    const refusal = value === "" ? NOT_HEXADECIMAL : await this.calls.poke(poked.place, value);
+    const refusal = value === "" ? say.NOT_HEXADECIMAL : await this.calls.poke(poked.place, value);
     // It may have been left meanwhile.
     if (this.cell !== cell) return;
     if (refusal === "") this.close(true);

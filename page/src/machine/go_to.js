@@ -2,6 +2,7 @@
 // write it.
 
 import { LAST_ADDRESS, numberOf } from "../bench/numbers.js";
+import * as say from "../words/machine.js";
 
 /**
  * @typedef {import("./source_map.js").SourceMap} SourceMap
@@ -36,9 +37,8 @@ export function goalOf(text, map) {
   if (value !== undefined && value + numberOf(added) <= LAST_ADDRESS) return { address: value + numberOf(added), words: "" };
   const address = OF_LISTING.test(word) ? parseInt(word, 16) : numberOf(word);
   if (address <= LAST_ADDRESS) return { address, words: "" };
-  if (NUMBER.test(word)) return refused(`${word} is no address: the last one is FFF, or 4095.`);
-  const forms = "write an address as the listing does (01E), as 0x01E or in decimal (30)";
-  if (word === "") return refused(`Nothing to go to: ${forms}.`);
-  if (map) return refused(`${word} is neither a name of the program nor an address: ${forms}.`);
-  return refused(`${word} is no address: ${forms}. Names are known while the source is what stands in ROM.`);
+  if (NUMBER.test(word)) return refused(say.beyondLast(word));
+    if (word === "") return refused(say.nothingToGoTo(say.ADDRESS_FORMS));
+  if (map) return refused(say.noNameOrAddress(word, say.ADDRESS_FORMS));
+  return refused(say.noAddress(word, say.ADDRESS_FORMS));
 }

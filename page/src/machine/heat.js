@@ -3,6 +3,7 @@
 import { hex } from "../bench/numbers.js";
 import { wordsOfPlace } from "../debug/stop_words.js";
 import { wordsOfCycles } from "../time/cycles.js";
+import * as say from "../words/machine.js";
 
 /**
  * @typedef {import("../worker/heat.js").Heat} Heat
@@ -90,7 +91,7 @@ function addTo(all, newer) {
  * @param {SourceMap | null} map
  */
 function whoOf({ address, line }, map) {
-  return line ? `the line ${line}` : wordsOfPlace(hex(address, 3), map);
+  return line ? say.theLine(line) : wordsOfPlace(hex(address, 3), map);
 }
 
 /**
@@ -99,12 +100,12 @@ function whoOf({ address, line }, map) {
  */
 function lastOf(cell, map) {
   const who = whoOf(cell, map);
-  return cell.ago === 0 ? `by ${who}` : `by ${who}, ${wordsOfCycles(cell.ago)} ago`;
+  return cell.ago === 0 ? say.by(who) : say.byAgo(who, wordsOfCycles(cell.ago));
 }
 
 /** @param {number} count */
 function times(count) {
-  return count === 1 ? "once" : `${count.toLocaleString("en")} times`;
+  return count === 1 ? say.ONCE : say.manyTimes(count.toLocaleString("en"));
 }
 
 /**
@@ -113,7 +114,7 @@ function times(count) {
  * @param {SourceMap | null} map
  */
 export function wordsOfHeated(cell, map) {
-  return `${times(cell.count)}${cell.count === 1 ? "" : ", last"} ${lastOf(cell, map)}`;
+  return `${times(cell.count)}${cell.count === 1 ? "" : say.LAST} ${lastOf(cell, map)}`;
 }
 
 /**
@@ -122,7 +123,7 @@ export function wordsOfHeated(cell, map) {
  * @param {SourceMap | null} map
  */
 export function wordsOfSeen(cell, map) {
-  return `${times(cell.count)} as seen while time runs, last seen by ${whoOf(cell, map)}`;
+  return say.seenBy(times(cell.count), whoOf(cell, map));
 }
 
 /**
@@ -131,7 +132,7 @@ export function wordsOfSeen(cell, map) {
  * @param {boolean} isAll whether all cycles are looked at
  */
 export function wordsOfPassing({ chips }, isAll) {
-  return `Counted while time runs${chips > 1 ? `, in one of ${chips} chips at a time` : ""}${isAll ? "" : ", of full speed in samples"}.`;
+  return say.heatCounted(chips, isAll);
 }
 
 /**
@@ -142,12 +143,12 @@ export function wordsOfPassing({ chips }, isAll) {
  * @param {SourceMap | null} map
  */
 export function wordsOfHeat({ cycles, cells }, wanted, nameOf, map) {
-  if (cycles === 0) return "No cycle before this one is remembered.";
-  const reach = `In the last ${wordsOfCycles(cycles)}${cycles < wanted ? " (no more is remembered)" : ""},`;
-  if (cells.length === 0) return `${reach} no character of RAM has changed.`;
+  if (cycles === 0) return say.NOTHING_EARLIER;
+  const reach = say.inTheLast(wordsOfCycles(cycles), cycles >= wanted);
+  if (cells.length === 0) return say.noneChanged(reach);
   const most = cells.reduce((one, other) => (other.count > one.count ? other : one));
-  if (cells.length === 1) return `${reach} one character has changed: ${nameOf(most.place)}, ${wordsOfHeated(most, map)}.`;
+  if (cells.length === 1) return say.oneChanged(reach, nameOf(most.place), wordsOfHeated(most, map));
   const last = cells.reduce((one, other) => (other.ago < one.ago ? other : one));
-  const often = `most often ${nameOf(most.place)}, ${times(most.count)}`;
-  return `${reach} ${cells.length} characters have changed: ${often}; last ${nameOf(last.place)}, ${lastOf(last, map)}.`;
+  const often = say.mostOften(nameOf(most.place), times(most.count));
+  return say.manyChanged(reach, cells.length, often, nameOf(last.place), lastOf(last, map));
 }

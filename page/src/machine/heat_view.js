@@ -4,6 +4,7 @@
 import { block, byId, field } from "../ui/dom.js";
 import { countOf } from "../bench/numbers.js";
 import { PassingHeat, warmthOf, wordsOfHeat, wordsOfHeated, wordsOfPassing, wordsOfSeen } from "./heat.js";
+import * as say from "../words/machine.js";
 
 /**
  * @typedef {import("../worker/heat.js").Heat} Heat
@@ -72,7 +73,7 @@ export class HeatView {
     this.cycles.setAttribute("aria-invalid", String(cycles === 0));
     if (cycles === 0) {
       this.clear();
-      this.tell(`How many cycles? A number from 1 to ${MOST_CYCLES.toLocaleString("en")}.`);
+      this.tell(say.howManyCycles(MOST_CYCLES.toLocaleString("en")));
     }
     return cycles;
   }
@@ -137,7 +138,7 @@ export class HeatView {
     if (cycles === 0) return;
     const asked = new AbortController();
     this.asked = asked;
-    if (!this.heat) this.tell("The past is looked through.");
+    if (!this.heat) this.tell(say.SEARCHING_PAST);
     const heat = await this.calls.count(cycles, asked.signal);
     if (!heat || asked.signal.aborted || this.calls.isRunning() || this.kind.value === "") return;
     this.heat = heat;
@@ -162,6 +163,6 @@ export class HeatView {
     const map = this.calls.map();
     const warmth = warmthOf(heat, /** @type {HeatKind} */ (this.kind.value));
     this.calls.show(new Map(heat.cells.map((cell) => (
-      [cell.place, { warmth: warmth.get(cell.place) || 0, words: `changed ${wordsOf(cell, map)}` }]))));
+      [cell.place, { warmth: warmth.get(cell.place) || 0, words: say.changedHow(wordsOf(cell, map)) }]))));
   }
 }

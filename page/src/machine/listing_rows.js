@@ -1,6 +1,7 @@
 // The rows of the listing that are seen: as many buttons as have room, each for the line that it shows.
 
 import { Cell, Switch, element, onClick, pressedSwitch } from "../ui/dom.js";
+import * as say from "../words/machine.js";
 
 /**
  * @typedef {import("./listing_names.js").NamedLine} NamedLine
@@ -20,7 +21,7 @@ import { Cell, Switch, element, onClick, pressedSwitch } from "../ui/dom.js";
  */
 function insideMark(place, breakpoints) {
   if (!breakpoints.has(place)) return undefined;
-  const words = `breakpoint at ${place}, inside this instruction: a run that comes here does not stop; a click clears it`;
+  const words = say.insideBreakpoint(place);
   return { mark: "\u25CB", words };
 }
 

@@ -2,6 +2,7 @@
 
 import { Cell, Switch, block, element, oneStop, setStop } from "../ui/dom.js";
 import { upTo } from "../bench/numbers.js";
+import * as say from "../words/machine.js";
 
 /**
  * @typedef {import("../bench/answers.js").Board} Board
@@ -61,7 +62,7 @@ export class RegistersView {
       const value = element("button", { type: "button", id: `value-${name}` });
       value.setAttribute("aria-labelledby", `${title.id} ${value.id}`);
       this.cells.set(name, new Cell(value));
-      if (name === "owed") this.editor.refuse(value, "No line changes what is owed: a step or a run does.");
+      if (name === "owed") this.editor.refuse(value, say.OWED_STAYS);
       else this.editor.offer(value, { place: name.toLowerCase(), name, digits: DIGITS.get(name) || 1 });
       return element("div", {}, title, element("dd", {}, value));
     }));
@@ -83,7 +84,6 @@ export class RegistersView {
   }
 }
 
-const PORT_WORDS = "No line changes a port: a program writes its latch, by WRR, and what it reads comes from keys and wires.";
 
 export class PortsView {
   /**
@@ -115,7 +115,7 @@ export class PortsView {
     this.sources = element("dl", { className: "cells" });
     this.sourceCells.clear();
     this.roms = board.roms.map(() => cells(2));
-    for (const cell of this.roms.flat()) this.editor.refuse(cell.node, PORT_WORDS);
+    for (const cell of this.roms.flat()) this.editor.refuse(cell.node, say.PORTS_STAY);
     this.chains = board.chains.map((chain) => {
       const bits = upTo(chain.chips * 10).map(() => new Cell(element("i")));
       const ones = bits.map(({ node }) => new Switch((isOne) => node.classList.toggle("one", isOne)));
@@ -134,8 +134,8 @@ export class PortsView {
       element("th", { scope: "row" }, String(rom.chip), element("small", {}, nameOf(`rom${rom.chip}`))),
       element("td", {}, rom.port),
       ...nodesOf(this.roms[at]).map((node) => element("td", {}, node))));
-    const head = headOf(["ROM", "lines 3 to 0", "latch", "reads"], this.explain);
-    return element("table", { className: "roms", "aria-label": "Ports of the ROMs" }, head, element("tbody", {}, ...rows));
+    const head = headOf(["ROM", say.LINES_3_TO_0, "latch", "reads"], this.explain);
+    return element("table", { className: "roms", "aria-label": say.PORTS_OF_ROMS }, head, element("tbody", {}, ...rows));
   }
 
   /**
@@ -156,7 +156,7 @@ export class PortsView {
   showSources(sources) {
     for (const source of sources) {
       const [first, second] = source.split(".");
-      const name = second === undefined ? "SRC, ROMs" : `bank ${first}`;
+      const name = second === undefined ? say.SRC_OF_ROMS : `bank ${first}`;
       const cell = this.sourceCells.get(name) || this.newSource(name);
       this.changes.set(cell, second === undefined ? first : second);
     }

@@ -2,6 +2,7 @@
 
 import { Cell, block, element, oneStop, pressedSwitch, setStop } from "../ui/dom.js";
 import { hex, upTo } from "../bench/numbers.js";
+import * as say from "../words/machine.js";
 
 /**
  * @typedef {import("../bench/answers.js").Board} Board
@@ -16,11 +17,10 @@ import { hex, upTo } from "../bench/numbers.js";
 
 const CHARACTERS = 16;
 const STATUS = 4;
-const PORT_WORDS = "No line changes what a port of a RAM chip puts out: a program does, by WMP.";
 
 /** @param {Register} register */
 function wordsOf({ bank, chip, register }) {
-  return `bank ${bank}, chip ${chip}, register ${register}`;
+  return say.registerPlace(bank, chip, register);
 }
 
 /**
@@ -77,14 +77,14 @@ export class RamView {
     this.warm = new Map();
     this.block.replaceChildren(...board.banks.map((bank) => this.drawBank(bank)));
     block("memory-hint").hidden = board.banks.length === 0;
-    if (board.banks.length === 0) this.block.textContent = "This board has no RAM.";
+    if (board.banks.length === 0) this.block.textContent = say.NO_RAM;
     setStop(this.block);
   }
 
   /** @param {{ bank: number, chips: number }} bank */
   drawBank({ bank, chips }) {
     const rows = upTo(chips).flatMap((chip) => upTo(4).map((register) => this.drawRegister({ bank, chip, register })));
-    const heads = ["characters 0 to F", "status", "port"].map((word) => element("th", { scope: "col" }, word));
+    const heads = [say.CHARACTERS, "status", "port"].map((word) => element("th", { scope: "col" }, word));
     const head = element("thead", {}, element("tr", {}, element("td"), ...heads));
     return element("table", { className: "ram" }, element("caption", {}, `bank ${bank}`), head, element("tbody", {}, ...rows));
   }
@@ -110,7 +110,7 @@ export class RamView {
   drawCharacter(at, character) {
     const { bank } = at;
     const source = at.chip * 64 + at.register * 16 + character;
-    const button = element("button", { type: "button", title: `${wordsOf(at)}, character ${character}: SRC byte ${hex(source, 2)}` });
+    const button = element("button", { type: "button", title: say.characterTitle(wordsOf(at), character, hex(source, 2)) });
     const watched = pressedSwitch(button);
     this.watched.set(`${bank}.${hex(source, 2)}`, watched);
     this.offer(`ram.${bank}.0x${hex(source, 2)}`, button);
@@ -130,7 +130,7 @@ export class RamView {
    * @param {number} character
    */
   drawStatus(at, character) {
-    const button = element("button", { type: "button", className: "status", title: `${wordsOf(at)}, status character ${character}` });
+    const button = element("button", { type: "button", className: "status", title: say.statusTitle(wordsOf(at), character) });
     const place = `st.${at.bank}.${at.chip * 4 + at.register}.${character}`;
     this.offer(place, button);
     return new Cell(button);
@@ -151,8 +151,8 @@ export class RamView {
    * @param {number} chip
    */
   drawPort(bank, chip) {
-    const cell = new Cell(element("span", { title: `bank ${bank}, chip ${chip}: what its output port holds` }));
-    this.editor.refuse(cell.node, PORT_WORDS);
+    const cell = new Cell(element("span", { title: say.portTitle(bank, chip) }));
+    this.editor.refuse(cell.node, say.RAM_PORTS_STAY);
     this.ports.set(`${bank}.${chip}`, cell);
     return element("td", { rowSpan: 4, className: "port" }, cell.node);
   }

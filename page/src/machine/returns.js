@@ -1,6 +1,7 @@
 // Which return addresses wait for a BBL, as far as they tell: a call leaves the address after its JMS, and a BBL the address after itself.
 
 import { LAST_ADDRESS } from "../bench/numbers.js";
+import * as say from "../words/machine.js";
 
 /**
  * @typedef {import("./source_map.js").SourceMap} SourceMap
@@ -51,10 +52,10 @@ export function noteOfCounter(address, map) {
  * @returns {Note}
  */
 export function noteOfReturn(address, isLive, map) {
-  if (!isLive) return { isLive, words: "left over", title: "No call waits for a BBL with this address." };
+  if (!isLive) return { isLive, words: say.LEFT_OVER, title: say.NO_CALL_WAITS };
   const line = map ? map.lineOf(callBefore(address)) : 0;
   if (!map || line === 0) return { isLive, words: "", title: "" };
-  return { isLive, words: joined([map.nameOf(address), `call in line ${line}`]), title: map.sources[line - 1].trim() };
+  return { isLive, words: joined([map.nameOf(address), say.callInLine(line)]), title: map.sources[line - 1].trim() };
 }
 
 /** @param {string[]} words */

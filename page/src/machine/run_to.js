@@ -1,6 +1,8 @@
 // Run to here: to a line of the listing by Control and a click, by the second button, or by Control and Enter; to the line of the source
 // that the caret is in by Control and F10.
 
+import * as say from "../words/machine.js";
+
 /**
  * @param {HTMLElement} root the listing
  * @param {(node: Node) => number | null} addressAt the address of a line that a node belongs to
@@ -24,7 +26,6 @@ export function listenToHere(root, addressAt, runTo) {
   }, { capture: true });
 }
 
-const NO_ADDRESS = "Nothing was done: the source is not what stands in ROM, or this line of it puts nothing there.";
 
 /**
  * @param {HTMLElement} root the editor of the source
@@ -37,7 +38,7 @@ export function listenToCaret(root, addressOfCaret, runTo, tell) {
     if (event.key !== "F10" || !event.ctrlKey || event.shiftKey || event.altKey) return;
     event.preventDefault();
     const address = addressOfCaret();
-    if (address === undefined) tell(NO_ADDRESS);
+    if (address === undefined) tell(say.NO_ADDRESS);
     else runTo(address);
   }, { capture: true });
 }

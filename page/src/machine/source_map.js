@@ -1,6 +1,7 @@
 // Where a program's text stands in ROM, as the bench answers the line `map`: the address and the bytes of each line, and the names.
 
 import { hex } from "../bench/numbers.js";
+import * as say from "../words/machine.js";
 
 /**
  * A name with its value. A label is the address of a statement; any other name is a number of the program's own.
@@ -140,7 +141,7 @@ export class SourceMap {
     if (!name) return "";
     if (!name.isLabel) return `${word} = 0x${hex(name.value, 2)}, ${name.value}`;
     const line = this.lineOf(name.value);
-    return `${word}: address 0x${hex(name.value, 3)}${line > 0 ? `, line ${line}` : ""}`;
+    return say.addressOf(word, hex(name.value, 3), line > 0 ? say.inLine(line) : "");
   }
 
   /**

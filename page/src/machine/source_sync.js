@@ -3,6 +3,7 @@
 
 import { hex } from "../bench/numbers.js";
 import { SourceMap } from "./source_map.js";
+import * as say from "../words/machine.js";
 
 /**
  * @typedef {import("../worker/program_check.js").Checked} Checked
@@ -88,14 +89,14 @@ export class SourceSync {
    */
   wordsOf({ refusal, difference }, map) {
     if (refusal) {
-      const where = refusal.line > 0 ? ` in line ${refusal.line}` : "";
-      const what = refusal.number > 0 ? `no ${refusal.number}: ${this.calls.wordsOfRefusal(refusal.number)}` : "a dot alone ends the text";
-      return `The source has a fault${where}: ${what}.`;
+      const where = refusal.line > 0 ? say.inThatLine(refusal.line) : "";
+      const what = refusal.number > 0 ? `no ${refusal.number}: ${this.calls.wordsOfRefusal(refusal.number)}` : say.DOT_ENDS;
+      return say.sourceHasFault(where, what);
     }
     if (!difference) return "";
     const line = map.lineOf(difference.address);
-    if (!difference.hasRom) return `The board has no ROM at ${written(difference.address)}, where line ${line} of the source stands.`;
-    return `The source differs from ROM at ${written(difference.address)}, line ${line}: assemble it.`;
+    if (!difference.hasRom) return say.noRomAt(written(difference.address), line);
+    return say.differsAt(written(difference.address), line);
   }
 
   /**

@@ -4,6 +4,7 @@ import { Cell, Switch, block, element, onClick, oneStop, setStop } from "../ui/d
 import { linesOf, matchAnswers, readInputs } from "../bench/inputs.js";
 import { hex } from "../bench/numbers.js";
 import { areLive, callBefore, noteOfCounter, noteOfReturn } from "./returns.js";
+import * as say from "../words/machine.js";
 
 /**
  * @typedef {import("../bench/answers.js").Registers} Registers
@@ -39,7 +40,7 @@ export class StackView {
       this.makeRow(name, explain(name), () => goTo(this.placeOf(at)))));
     const root = element("div", { className: "stack" }, ...this.rows.map((row) => row.button));
     root.setAttribute("role", "group");
-    root.setAttribute("aria-label", "Counter and return addresses");
+    root.setAttribute("aria-label", say.COUNTER_AND_RETURNS);
     oneStop(root, () => 1);
     setStop(root);
     block("registers").append(root);

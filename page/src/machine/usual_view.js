@@ -3,6 +3,7 @@
 
 import { block, element, onClick } from "../ui/dom.js";
 import { KINDS } from "../debug/usual_faults.js";
+import * as say from "../words/machine.js";
 
 /**
  * @typedef {import("../debug/usual_faults.js").Kind} Kind
@@ -44,7 +45,7 @@ export class UsualView {
     onClick(place, () => this.calls.goTo(address));
     const stops = element("input", { type: "checkbox", checked: this.stops.has(kind), autocomplete: "off" });
     stops.addEventListener("change", () => this.choose(kind, stops.checked));
-    const label = element("label", { className: "check", title: `time stops before ${KINDS[kind]}` }, stops, " stop at this");
+    const label = element("label", { className: "check", title: say.stopsBefore(KINDS[kind]) }, stops, say.STOP_AT_THIS);
     return element("li", {}, element("span", { className: "words" }, place, ` ${words}`), label);
   }
 

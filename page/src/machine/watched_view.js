@@ -2,6 +2,7 @@
 
 import { block, element, field, onClick } from "../ui/dom.js";
 import { MOST_WATCHED, readAllWatched, readWatched } from "../debug/watched.js";
+import * as say from "../words/machine.js";
 
 /**
  * @typedef {import("../debug/standing.js").Standing} Standing
@@ -40,7 +41,7 @@ export class WatchedView {
     const written = field("watched-field");
     const { watched, fault } = readWatched(written.value);
     const isFull = this.all.length >= MOST_WATCHED;
-    this.told.textContent = isFull ? `${MOST_WATCHED} is the most.` : fault;
+    this.told.textContent = isFull ? say.mostWatched(MOST_WATCHED) : fault;
     written.setAttribute("aria-invalid", String(this.told.textContent !== ""));
     if (!watched || isFull) return;
     written.value = "";
@@ -67,7 +68,7 @@ export class WatchedView {
    */
   rowOf(watched) {
     const value = element("span", { className: "values" });
-    const remove = element("button", { "type": "button", "className": "small", "aria-label": `watch ${watched.name} no more` }, "Remove");
+    const remove = element("button", { "type": "button", "className": "small", "aria-label": say.stopWatching(watched.name) }, say.REMOVE);
     onClick(remove, () => {
       this.take(this.all.filter((each) => each !== watched));
       this.keep();

@@ -4,7 +4,8 @@
 //     const prompt = new Prompt(launched, dataOfPage, { print, complain, pause, source, isByHand });   (adapter/launching.js launches)
 //     await prompt.begin(); await prompt.take("break show"); prompt.isEnded; prompt.complete("br")
 
-import { placeOf, PLACES_TOLD } from "../bench/places.js";
+import { placeOf } from "../bench/places.js";
+import { PLACES_TOLD } from "../words/bench.js";
 import { Face } from "../board/face.js";
 import { instructionsOf } from "../help/manual.js";
 import { Console } from "../adapter/console.js";

@@ -1,6 +1,7 @@
 // Sessions that are deleted: several at once, and as long as the page is there each can be brought back.
 
 import { wordsOfStoreFault } from "./store.js";
+import * as say from "../words/session.js";
 
 /**
  * @typedef {import("./locks.js").Locks} Locks
@@ -10,7 +11,7 @@ import { wordsOfStoreFault } from "./store.js";
 
 /** @param {SessionRecord[]} records */
 export function namesOf(records) {
-  return records.length === 1 ? `"${records[0].name}"` : `${records.length} sessions`;
+  return records.length === 1 ? `"${records[0].name}"` : say.manySessions(records.length);
 }
 
 export class Bin {
@@ -42,7 +43,7 @@ export class Bin {
   async removeOne(record) {
     const release = await this.locks.take(record.id);
     if (!release) {
-      this.refuse(`The session "${record.name}" is open in another tab, so it was not deleted.`);
+      this.refuse(say.openElsewhere(record.name));
       return false;
     }
     try {
@@ -52,7 +53,7 @@ export class Bin {
       await this.store.remove(record.id);
       return true;
     } catch (fault) {
-      this.refuse(`The session "${record.name}" was not deleted: ${wordsOfStoreFault(fault)}.`);
+      this.refuse(say.notDeleted(record.name, wordsOfStoreFault(fault)));
       return false;
     } finally {
       release();
@@ -71,7 +72,7 @@ export class Bin {
         await this.store.put(record);
         this.deleted = this.deleted.filter((each) => each !== record);
       } catch (fault) {
-        this.refuse(`The session "${record.name}" was not brought back: ${wordsOfStoreFault(fault)}.`);
+        this.refuse(say.notBroughtBack(record.name, wordsOfStoreFault(fault)));
       }
     }
   }

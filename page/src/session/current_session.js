@@ -6,6 +6,7 @@ import { NONE } from "../time/cycles.js";
 import { addressOf } from "./address.js";
 import { KeptSession } from "./kept_session.js";
 import { shortName } from "./names.js";
+import * as say from "../words/session.js";
 
 /**
  * @typedef {import("./locks.js").Release} Release
@@ -65,7 +66,7 @@ export class CurrentSession {
     await this.keep();
     const { goal, runs } = record;
     if (runs && !goal) calls.run();
-    else calls.halted(goal ? wordsOfBroken(goal, runs, calls.place()) : "Stopped.");
+    else calls.halted(goal ? wordsOfBroken(goal, runs, calls.place()) : say.STOPPED);
     await this.remember();
   }
 
@@ -91,7 +92,7 @@ export class CurrentSession {
     try {
       return await this.callOpen(record);
     } catch (fault) {
-      if (this.session) this.calls.halted("Stopped.");
+      if (this.session) this.calls.halted(say.STOPPED);
       throw fault;
     }
   }
@@ -110,7 +111,7 @@ export class CurrentSession {
 
   showTitle() {
     field("name").value = this.name;
-    document.title = `${this.name} - Fethsaim`;
+    document.title = say.titleOfPage(this.name);
   }
 
   /** Its name stands in its field and in the title of the tab; its address is the one of this session, or of the example that it is yet. */
@@ -166,7 +167,7 @@ export class CurrentSession {
     const ran = calls.ran();
     const fault = await this.session.keep();
     calls.showRan(ran, fault);
-    calls.notKept(fault && `This session is not kept: ${fault}. It is still in this page; save it to a file.`);
+    calls.notKept(fault && say.notKept(fault));
     return fault;
   }
 

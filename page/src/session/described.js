@@ -3,6 +3,7 @@
 import { counted } from "../bench/numbers.js";
 import { Face } from "../board/face.js";
 import { headOf } from "../board/face_words.js";
+import * as say from "../words/session.js";
 
 /** @typedef {import("../bench/answers.js").Board} Board */
 
@@ -38,7 +39,6 @@ export function titleOf(boardText, programText) {
 export function wordsOfBoard({ roms, banks, chains, lamps, rows, columns }) {
   const chips = banks.reduce((sum, bank) => sum + bank.chips, 0);
   const shifts = chains.reduce((sum, chain) => sum + chain.chips, 0);
-  /** @type {[number, string][]} */
-  const parts = [[roms.length, "ROM"], [chips, "RAM chip"], [shifts, "shift register"], [lamps.length, "lamp"], [rows * columns, "key"]];
-  return parts.filter(([count]) => count > 0).map(([count, word]) => counted(count, word)).join(", ") || "no chip yet";
+  const counts = [roms.length, chips, shifts, lamps.length, rows * columns];
+  return counts.map((count, at) => count > 0 && counted(count, say.PARTS[at])).filter(Boolean).join(", ") || say.NO_CHIP;
 }

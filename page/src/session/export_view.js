@@ -2,6 +2,7 @@
 
 import { button, element, onClick } from "../ui/dom.js";
 import { download } from "./download.js";
+import * as say from "../words/session.js";
 
 /**
  * What it calls: the session's name; its texts; what stands in ROM, in Intel HEX and byte by byte; a call failed.
@@ -17,10 +18,10 @@ export class ExportView {
   constructor(calls) {
     this.calls = calls;
     this.told = element("p", { className: "told", role: "status" });
-    const close = element("button", { type: "button" }, "Close");
+    const close = element("button", { type: "button" }, say.CLOSE);
     this.dialog = element("dialog", { "id": "export", "aria-labelledby": "export-title" },
-      element("div", { className: "bar" }, element("h2", { id: "export-title" }, "Export"), close),
-      element("ul", { "aria-label": "Files" }, ...this.files().map((file) => this.row(file))), this.told);
+      element("div", { className: "bar" }, element("h2", { id: "export-title" }, say.EXPORT), close),
+      element("ul", { "aria-label": say.FILES }, ...this.files().map((file) => this.row(file))), this.told);
     document.body.append(this.dialog);
     onClick(close, () => this.dialog.close());
     onClick(button("export-button"), () => this.open());
@@ -30,16 +31,16 @@ export class ExportView {
   files() {
     const { calls } = this;
     return [
-      { ending: ".asm", what: "the source, with its comments", make: calls.program },
-      { ending: ".toml", what: "the board's text, with its comments", make: calls.board },
-      { ending: ".hex", what: "what stands in ROM, in Intel HEX, for an EPROM programmer", make: calls.hex },
-      { ending: ".bin", what: "what stands in ROM, byte by byte from 000 on", make: calls.image },
+      { ending: ".asm", what: say.SOURCE_FILE, make: calls.program },
+      { ending: ".toml", what: say.BOARD_FILE, make: calls.board },
+      { ending: ".hex", what: say.HEX_FILE, make: calls.hex },
+      { ending: ".bin", what: say.BIN_FILE, make: calls.image },
     ];
   }
 
   /** @param {ExportedFile} file */
   row(file) {
-    const save = element("button", { type: "button" }, `Save ${file.ending}`);
+    const save = element("button", { type: "button" }, say.saveAs(file.ending));
     onClick(save, () => this.save(file).catch(this.calls.failed));
     return element("li", {}, save, element("span", { className: "grow" }, file.what));
   }
@@ -53,7 +54,7 @@ export class ExportView {
   async save({ ending, what, make }) {
     const made = await make();
     if (made.length === 0) {
-      this.told.textContent = `Nothing was saved: there is nothing in it (${what}).`;
+      this.told.textContent = say.nothingSaved(what);
       return;
     }
     download(this.calls.name(), ending, new Blob([made], { type: "application/octet-stream" }));

@@ -4,6 +4,7 @@ import { ProjectFault, readProject } from "../project/project_folder.js";
 import { LONGEST_PROJECT_FILE, PROJECT_FILE } from "../project/project_toml.js";
 import { NotForTheBench, openedFile } from "./opened_file.js";
 import { LONGEST_PROJECT } from "./project_file.js";
+import * as say from "../words/session.js";
 
 /**
  * @typedef {import("./folder_files.js").Folder} Folder
@@ -33,7 +34,7 @@ async function textIn(files, path, kind) {
   if (!file) return "";
   const opened = openedFile(path, await bytesOf(file, LONGEST_PROJECT));
   const text = opened.kind === "texts" ? opened.texts[kind] : null;
-  if (text === null) throw new NotForTheBench(`${path} has no text of ${kind.endsWith("s") ? kind : `a ${kind}`}`);
+  if (text === null) throw new NotForTheBench(say.noText(path, kind.endsWith("s") ? kind : `a ${kind}`));
   return text;
 }
 
@@ -43,7 +44,7 @@ async function textIn(files, path, kind) {
  */
 function leftOut(lists) {
   const rest = lists.flatMap((paths) => paths.slice(1));
-  return rest.length === 0 ? "" : `The page has one text of each kind: ${rest.join(", ")} ${rest.length === 1 ? "is" : "are"} left out.`;
+  return rest.length === 0 ? "" : say.leftOut(rest.join(", "), rest.length === 1);
 }
 
 /**
@@ -53,9 +54,9 @@ function leftOut(lists) {
  */
 export async function textsOfFolder({ name, files }) {
   const own = files.get(PROJECT_FILE);
-  if (!own) throw new ProjectFault(PROJECT_FILE, "there is no such file; it names the files of a project");
+  if (!own) throw new ProjectFault(PROJECT_FILE, say.NO_PROJECT_FILE);
   /** @type {(path: string) => string} */
-  const look = (path) => (files.has(path) ? "" : `there is no file ${path}`);
+  const look = (path) => (files.has(path) ? "" : say.noFile(path));
   const { board, program, tests, properties, speed } = readProject(await bytesOf(own, LONGEST_PROJECT_FILE), look);
   const texts = {
     name: name || program.replace(/^.*\//, "").replace(/\.[^.]*$/, ""),

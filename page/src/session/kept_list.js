@@ -2,6 +2,7 @@
 
 import { block, button, element, field } from "../ui/dom.js";
 import { pictureOf } from "./gallery_view.js";
+import * as say from "../words/session.js";
 
 /**
  * @typedef {import("./store.js").SessionRecord} SessionRecord
@@ -48,7 +49,7 @@ export class KeptList {
   showChosen() {
     const remove = button("delete-chosen");
     remove.disabled = this.chosen.size === 0;
-    remove.textContent = this.chosen.size === 0 ? "Delete the chosen ones" : `Delete ${this.chosen.size} chosen`;
+    remove.textContent = this.chosen.size === 0 ? say.DELETE_CHOSEN : say.deleteSome(this.chosen.size);
     field("choose-all").checked = this.chosen.size > 0 && this.chosen.size === this.removable.length;
   }
 
@@ -62,10 +63,10 @@ export class KeptList {
   line(record) {
     const isHere = this.calls.isShown(record.id);
     const { name, id } = record;
-    const open = this.calls.button(isHere ? "Shown" : "Open", `open ${name}`, () => this.calls.choose(() => this.calls.open(id)));
+    const open = this.calls.button(isHere ? say.SHOWN : say.OPEN, say.openNamed(name), () => this.calls.choose(() => this.calls.open(id)));
     open.disabled = isHere;
-    const copy = this.calls.button("Copy", `copy ${name}`, () => this.calls.choose(() => this.calls.copy(id)));
-    const remove = this.calls.button("Delete", `delete ${name}`, () => this.remove([record]));
+    const copy = this.calls.button(say.COPY, say.copyNamed(name), () => this.calls.choose(() => this.calls.copy(id)));
+    const remove = this.calls.button(say.DELETE, say.deleteNamed(name), () => this.remove([record]));
     remove.disabled = isHere;
     return element("li", {}, this.tick(record, isHere), pictureOf(record.boardText), nameAndTime(record), open, copy, remove);
   }
@@ -76,7 +77,7 @@ export class KeptList {
    */
   tick({ id, name }, isHere) {
     const made = element("input", { type: "checkbox", checked: this.chosen.has(id), disabled: isHere, autocomplete: "off" });
-    made.setAttribute("aria-label", `choose ${name}`);
+    made.setAttribute("aria-label", say.chooseNamed(name));
     made.addEventListener("change", () => {
       if (made.checked) this.chosen.add(id);
       else this.chosen.delete(id);
@@ -87,7 +88,7 @@ export class KeptList {
 
   /** @param {SessionRecord} record */
   deletedLine(record) {
-    const back = this.calls.button("Bring back", `bring back ${record.name}`, async () => {
+    const back = this.calls.button(say.BRING_BACK, say.bringBackNamed(record.name), async () => {
       await this.calls.bringBack([record]);
       this.giveFocus(0);
     });
@@ -123,6 +124,6 @@ export class KeptList {
  */
 function nameAndTime({ name, changed, cycles }) {
   const when = new Date(changed).toLocaleString([], { dateStyle: "medium", timeStyle: "short" });
-  const counted = cycles && cycles.total > 0 ? `, ${cycles.total.toLocaleString("en")} cycles` : "";
+  const counted = cycles && cycles.total > 0 ? say.withCycles(cycles.total.toLocaleString("en")) : "";
   return element("span", { className: "grow" }, name, element("small", {}, `${when}${counted}`));
 }

@@ -2,6 +2,7 @@
 // gathered from what the worker tells, and written once the page goes, where the browser keeps words for a tab.
 
 import { fromBase64, toBase64 } from "./base64.js";
+import * as say from "../words/session.js";
 
 /**
  * @typedef {import("../worker/timeline.js").News} News
@@ -44,7 +45,7 @@ function isEntry(entry) {
  * @returns {Recalled}
  */
 function segmentOf({ file, total, reset, entries }) {
-  if (typeof total !== "number" || typeof reset !== "number" || !entries.every(isEntry)) throw new Error("it is no past");
+  if (typeof total !== "number" || typeof reset !== "number" || !entries.every(isEntry)) throw new Error(say.NO_PAST);
   return { file: fromBase64(file), total, reset, entries };
 }
 

@@ -1,6 +1,7 @@
 // The lines of an example or of a file, put where they can be sent. What a user has typed there is not lost by it.
 
 import { byId } from "../ui/dom.js";
+import * as say from "../words/session.js";
 
 /** @typedef {import("../ui/notice.js").Notice} Notice */
 
@@ -21,8 +22,8 @@ export class OfferedLines {
     if (isOwn && lines === "") return;
     this.put(lines);
     if (!isOwn) return;
-    this.notice.show("Other lines stand in the place of lines that were not sent.", "undo",
-      { word: "Undo", act: () => this.put(typed) });
+    this.notice.show(say.OTHER_LINES, "undo",
+      { word: say.UNDO, act: () => this.put(typed) });
   }
 
   /** @param {string} lines */

@@ -6,6 +6,7 @@ import { PROJECT_FILE } from "../project/project_toml.js";
 import { NotAnImage, readBytes, readHex } from "../bench/rom_image.js";
 import { LONGEST_KEPT } from "../text/text_fault.js";
 import { isProject } from "./project_file.js";
+import * as say from "../words/session.js";
 
 /**
  * Texts of a file: null where it has none of that kind. `lines` are those for the bench that are left.
@@ -33,8 +34,7 @@ const TEXTS = /(^[^.]*|\.(txt|text))$/i;
  * @returns {NotForTheBench}
  */
 function refusal(why) {
-  return new NotForTheBench(`${why}; the page opens projects (.mcsp), sessions (.mcs), programs (.asm), boards (.toml), tests (.test), `
-    + "properties (.props), lines (.txt) and ROM (.hex, .bin)");
+  return new NotForTheBench(say.opens(why));
 }
 
 /**
@@ -91,19 +91,19 @@ function readTexts(name, text) {
  * @returns {Opened}
  */
 function openText(name, text) {
-  if (name === PROJECT_FILE) throw new NotForTheBench("it names files of a project: drop its folder on the page, or choose all of them");
+  if (name === PROJECT_FILE) throw new NotForTheBench(say.NAMES_FILES);
   if (![HEX_FILES, BOARDS, PROGRAMS, TESTS, PROPERTIES, TEXTS].some((ending) => ending.test(name)) && !/^\s*(:|S)[0-9A-F]{9}/i.test(text)) {
-    throw refusal("not a kind of text that the bench has");
+    throw refusal(say.NOT_A_KIND);
   }
   if (HEX_FILES.test(name) || /^\s*:[0-9A-F]{10}/i.test(text)) return { kind: "image", bytes: readHex(text) };
   if (/^\s*S[0-9][0-9A-F]{8}/.test(text)) {
-    throw new NotAnImage("S-records are not read: make Intel HEX of them (srec_cat FILE -o image.hex -intel)");
+    throw new NotAnImage(say.S_RECORDS);
   }
   const texts = readTexts(name, text);
   for (const each of [texts.board, texts.program, texts.tests, texts.properties]) {
     if (each === null || each.length <= LONGEST_KEPT) continue;
     const [size, most] = [each.length, LONGEST_KEPT].map((count) => count.toLocaleString("en"));
-    throw new NotForTheBench(`a text of ${size} characters, and ${most} is the most`);
+    throw new NotForTheBench(say.tooLong(size, most));
   }
   return { kind: "texts", texts };
 }
@@ -121,5 +121,5 @@ export function openedFile(name, bytes) {
   if (IMAGES.test(name)) return { kind: "image", bytes: readBytes(bytes) };
   const text = textOf(bytes);
   if (text !== null && text.trim() !== "") return openText(name, text);
-  throw refusal(text === null ? "not a text, a session or a project" : "it is empty");
+  throw refusal(text === null ? say.NOT_A_TEXT : say.EMPTY);
 }

@@ -6,6 +6,7 @@ import { shortName } from "./names.js";
 import { hex } from "../bench/numbers.js";
 import { breakpointOfLine, linesOfBreakpoints, mostBreakpoints } from "../debug/breakpoint_lines.js";
 import { LONGEST_KEPT } from "../text/text_fault.js";
+import * as say from "../words/session.js";
 
 /**
  * @typedef {{ name: string, boardText: string, programText: string, testText?: string, propertiesText?: string }} Texts without tests
@@ -20,7 +21,6 @@ const ABOUT = "# A board, its program and a session of the bench Fethsaim. Its p
 /** A text ends at a line with a dot alone, as one that is sent to the bench does. */
 const DOT = ".";
 const LAST_LINE = "end";
-const OF_HEAD = "one of the head: `name`, `unended`, `break`, `#`, or `wire`, which begins the board's text";
 const SUM_LINE = /^cksum \d+$/;
 /** So many bytes stand in a line of the session; a line of zeros is left out. */
 const BYTES_OF_LINE = 16;
@@ -38,11 +38,11 @@ export class TextTooLong extends NotAProject {}
  * @param {{ boardText: string, programText: string, testText?: string, propertiesText?: string }} texts
  */
 export function wordsOfLength({ boardText, programText, testText = "", propertiesText = "" }) {
-  const named = [["the board's text", boardText], ["the source", programText], ["the tests' text", testText],
-    ["the properties' text", propertiesText]];
+  const named = [[say.BOARD_TEXT, boardText], [say.SOURCE_TEXT, programText], [say.TESTS_TEXT, testText],
+    [say.PROPERTIES_TEXT, propertiesText]];
   const [what, text] = named.find(([, each]) => each.length > LONGEST_KEPT) || named[0];
   const [size, most] = [text.length, LONGEST_KEPT].map((count) => count.toLocaleString("en"));
-  return text.length > LONGEST_KEPT ? `${what} has ${size} characters, and ${most} is the most` : "";
+  return text.length > LONGEST_KEPT ? say.textTooLong(what, size, most) : "";
 }
 
 // --- writing ---
@@ -142,7 +142,7 @@ export class Lines {
    * @returns {NotAProject}
    */
   fault(wanted) {
-    return new NotAProject(`line ${this.at + 1} of the project has to be ${wanted}`);
+    return new NotAProject(say.hasToBe(this.at + 1, wanted));
   }
 
   /**
@@ -152,7 +152,7 @@ export class Lines {
   upToDot(word) {
     if (this.next !== word) throw this.fault(`\`${word}\``);
     const end = this.all.indexOf(DOT, this.at + 1);
-    if (end < 0) throw new NotAProject(`the text after \`${word}\` has no end, a line with a dot alone`);
+    if (end < 0) throw new NotAProject(say.noEnd(word));
     const lines = this.all.slice(this.at + 1, end);
     this.at = end + 1;
     return lines;
@@ -166,15 +166,14 @@ export class Lines {
 function checkWhole(text) {
   const first = text.slice(0, text.indexOf("\n"));
   const version = /^fethsaim project (\d+)$/.exec(first);
-  if (!version) throw new NotAProject("not a project of Fethsaim");
-  if (first !== FIRST_LINE) throw new NotAProject(`a project of version ${version[1]}, which this page does not know`);
-  if (!text.endsWith(`\n${LAST_LINE}\n`)) throw new NotAProject(`the project is cut off: its last line, \`${LAST_LINE}\`, is missing`);
+  if (!version) throw new NotAProject(say.NO_PROJECT);
+  if (first !== FIRST_LINE) throw new NotAProject(say.otherVersion(version[1]));
+  if (!text.endsWith(`\n${LAST_LINE}\n`)) throw new NotAProject(say.cutOff(LAST_LINE));
   const found = /^[^\n]*\ncksum (\d+)\n/.exec(text);
   if (!found) return;
   const sum = checksum(new TextEncoder().encode(text.slice(found[0].length)));
   if (sum !== Number(found[1])) {
-    throw new NotAProject("the project is damaged, or was changed by hand: its checksum is another one. "
-      + "Whoever changes one by hand takes its line `cksum` out");
+    throw new NotAProject(say.OTHER_CHECKSUM);
   }
 }
 
@@ -191,7 +190,7 @@ function readHead(lines) {
     const [isOfHead, word, rest] = /^(name|unended) (.+)$|^#/.exec(lines.next) || [];
     const breakpoint = breakpointOfLine(lines.next || "");
     if (breakpoint) breakpoints.push(breakpoint);
-    else if (isOfHead === undefined) throw lines.fault(OF_HEAD);
+    else if (isOfHead === undefined) throw lines.fault(say.ONE_OF_HEAD);
     if (word === "name") name = shortName(rest);
     if (word === "unended") open.add(rest);
     lines.take();
@@ -237,7 +236,7 @@ function readFile(lines, size) {
     const found = /^([0-9a-f]{5}) ([0-9a-f]{32})$/.exec(line);
     const address = found ? parseInt(found[1], 16) : 0;
     if (!found || address % BYTES_OF_LINE !== 0 || address < end || address >= size) {
-      throw new NotAProject(`line ${first + at} of the project is not one of a session`);
+      throw new NotAProject(say.notOfSession(first + at));
     }
     file.set((found[2].match(/../g) || []).map((digits) => parseInt(digits, 16)), address);
     end = address + BYTES_OF_LINE;
@@ -252,7 +251,7 @@ function readFile(lines, size) {
  * @returns {Project}
  */
 export function readProject(bytes, size) {
-  if (bytes.length > LONGEST_PROJECT) throw new NotAProject("the file has more bytes than a project can have");
+  if (bytes.length > LONGEST_PROJECT) throw new NotAProject(say.TOO_MANY_BYTES);
   const text = decoded(bytes);
   checkWhole(text);
   const lines = new Lines(text);
@@ -260,7 +259,7 @@ export function readProject(bytes, size) {
   if (SUM_LINE.test(lines.next)) lines.take();
   const texts = readTexts(lines);
   const file = readFile(lines, size);
-  if (lines.take() !== LAST_LINE || lines.at !== lines.all.length - 1) throw lines.fault("the end of the file");
+  if (lines.take() !== LAST_LINE || lines.at !== lines.all.length - 1) throw lines.fault(say.END_OF_FILE);
   return { ...texts, file };
 }
 
@@ -269,6 +268,6 @@ function decoded(bytes) {
   try {
     return plainLines(new TextDecoder("utf-8", { fatal: true }).decode(bytes));
   } catch {
-    throw new NotAProject("the project is damaged: it is not a text in UTF-8");
+    throw new NotAProject(say.NOT_UTF8);
   }
 }

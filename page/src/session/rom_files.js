@@ -5,6 +5,7 @@ import { counted, hex } from "../bench/numbers.js";
 import { NONE, PAGES, PAGE_BYTES, bytesOf, listsOf } from "../bench/rom_bytes.js";
 import { hexOf } from "../bench/rom_image.js";
 import { textsOfBytes } from "../text/assembling.js";
+import * as say from "../words/session.js";
 
 /**
  * What it calls: answers to questions; lines are served, which gives the first answer, or null where they failed; time is stopped.
@@ -36,14 +37,14 @@ export class RomFiles {
     const lacked = bytes.findIndex((byte, at) => byte !== NONE && !chips.includes(Math.floor(at / PAGE_BYTES)));
     if (lacked >= 0) {
       const chip = Math.floor(lacked / PAGE_BYTES);
-      throw new LacksRom(`the board has no ROM ${chip}, where the image has bytes (${hex(lacked, 3)}): wire a [[rom]] with chip = ${chip}`);
+      throw new LacksRom(say.lacksRom(chip, hex(lacked, 3)));
     }
     await this.calls.stop();
     const answer = await this.calls.act(textsOfBytes(bytes).map((text) => `asm\n${text}.\n`).join(""));
     const first = bytes.findIndex((byte) => byte !== NONE);
     const count = bytes.filter((byte) => byte !== NONE).length;
     const stand = count === 1 ? "stands" : "stand";
-    return answer === null ? "" : `${counted(count, "byte")} of ${name} ${stand} in ROM, from ${hex(first, 3)} on; nothing was reset.`;
+    return answer === null ? "" : say.bytesInRom(counted(count, "byte"), name, stand, hex(first, 3));
   }
 
   /** The bytes of all ROMs that the board has. A list goes on behind the end of a ROM. */

@@ -7,6 +7,7 @@ import { textsOfFolder } from "./folder_project.js";
 import { openedFile } from "./opened_file.js";
 import { LONGEST_PROJECT, projectText, readProject, wordsOfLength } from "./project_file.js";
 import { NotKept, wordsOfStoreFault } from "./store.js";
+import * as say from "../words/session.js";
 
 /**
  * @typedef {import("../bench/bench.js").Bench} Bench
@@ -28,7 +29,6 @@ import { NotKept, wordsOfStoreFault } from "./store.js";
  *   session of an example, `example` is its name
  */
 
-const IN_ANOTHER_TAB = "This session is open in another tab. Go on there, close that tab, or open a copy of it.";
 
 export class SessionManager {
   /**
@@ -51,7 +51,7 @@ export class SessionManager {
     try {
       return (await this.store.all()).sort((a, b) => b.changed - a.changed);
     } catch (fault) {
-      this.calls.refuse(`The sessions that are kept could not be read: ${wordsOfStoreFault(fault)}.`);
+      this.calls.refuse(say.cannotReadKept(wordsOfStoreFault(fault)));
       return [];
     }
   }
@@ -59,7 +59,7 @@ export class SessionManager {
   /** @param {string} id */
   async keptRecord(id) {
     const record = await this.store.get(id);
-    if (!record) throw new NotKept("it is no longer kept here");
+    if (!record) throw new NotKept(say.NO_LONGER_KEPT);
     return record;
   }
 
@@ -78,13 +78,13 @@ export class SessionManager {
    */
   async open(id) {
     const release = await this.locks.take(id);
-    if (!release) return this.refuse(IN_ANOTHER_TAB);
+    if (!release) return this.refuse(say.IN_ANOTHER_TAB);
     try {
       await this.calls.use(await this.keptRecord(id), release, "");
       return true;
     } catch (fault) {
       release();
-      return this.refuse(`The session was not opened: ${this.words.ofFault(fault)}.`);
+      return this.refuse(say.notOpened(this.words.ofFault(fault)));
     }
   }
 
@@ -101,7 +101,7 @@ export class SessionManager {
       if (before && !before.isUntouched) this.calls.left(before.record);
       return true;
     } catch (fault) {
-      return this.refuse(`No session was made: ${this.words.ofFault(fault)}.`);
+      return this.refuse(say.notMade(this.words.ofFault(fault)));
     }
   }
 
@@ -135,7 +135,7 @@ export class SessionManager {
     if (shown && shown.record.id === id) await this.calls.keep();
     return this.useNew(async () => {
       const record = await this.keptRecord(id);
-      return newRecord(`${record.name}, a copy`, record.file, record);
+      return newRecord(say.aCopy(record.name), record.file, record);
     });
   }
 
@@ -153,7 +153,7 @@ export class SessionManager {
       else return await this.openSession(opened.kind === "project" ? await this.ofProject(bytes) : await this.ofSession(file.name, bytes));
       return true;
     } catch (fault) {
-      return this.refuse(`${file.name} was not opened: ${this.words.ofFault(fault)}. The session that is shown is as it was.`);
+      return this.refuse(say.fileNotOpened(file.name, this.words.ofFault(fault)));
     }
   }
 
@@ -162,7 +162,7 @@ export class SessionManager {
    * @param {() => Promise<import("./folder_files.js").Folder>} read
    */
   async openFolder(read) {
-    let name = "the folder";
+    let name = say.THE_FOLDER;
     try {
       const folder = await read();
       name = folder.name || name;
@@ -172,7 +172,7 @@ export class SessionManager {
       if (isDone && words) this.calls.refuse(words);
       return isDone;
     } catch (fault) {
-      return this.refuse(`${name} was not opened: ${this.words.ofFault(fault)}. The session that is shown is as it was.`);
+      return this.refuse(say.fileNotOpened(name, this.words.ofFault(fault)));
     }
   }
 
@@ -208,7 +208,7 @@ export class SessionManager {
     const session = this.calls.session();
     if (!session) return;
     const tooLong = wordsOfLength(session.record);
-    if (tooLong) this.refuse(`No project was saved: ${tooLong}. Shorten it first; "Save .mcs" saves the session without its texts.`);
+    if (tooLong) this.refuse(say.noProjectSaved(tooLong));
     else download(session.record.name, ".mcsp", new Blob([projectText(session.record)], { type: "application/octet-stream" }));
   }
 

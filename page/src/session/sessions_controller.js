@@ -9,6 +9,7 @@ import { FIRST_PROGRAM } from "../help/tour.js";
 import { OfferedLines } from "./offered_lines.js";
 import { Persistence } from "./persistence.js";
 import { SessionsView } from "./sessions_view.js";
+import * as say from "../words/session.js";
 
 /**
  * @typedef {import("../worker/examples.js").Example} Example
@@ -26,10 +27,6 @@ import { SessionsView } from "./sessions_view.js";
  *   use: (record: SessionRecord, release: Release, example: string) => Promise<void>, link: (text: string) => Promise<void> }} Calls
  */
 
-const KEPT_HERE = "They are kept in this browser, on this machine. To have one elsewhere, or to be safe when the browser forgets, save it "
-  + "to a file. An example is kept from the first thing on that you do in it.";
-const PROMISED = " The browser has promised to keep them where its space is short, too.";
-const KEPT_NOWHERE = "This browser keeps nothing for this page: save a session to a file before you leave.";
 
 export class SessionsController {
   /**
@@ -88,7 +85,7 @@ export class SessionsController {
       save: () => manager.save(),
       saveSession: () => manager.saveSession(),
       rename: (name) => calls.rename(name),
-      keptWhere: () => (this.store.keeps ? KEPT_HERE + (this.persistence.isPromised ? PROMISED : "") : KEPT_NOWHERE),
+      keptWhere: () => (this.store.keeps ? say.KEPT_HERE + (this.persistence.isPromised ? say.PROMISED : "") : say.KEPT_NOWHERE),
     });
   }
 
@@ -103,8 +100,7 @@ export class SessionsController {
    * @param {SessionRecord} record
    */
   tellLeft({ id, name }) {
-    const where = this.store.keeps ? "is kept" : "stays as long as this page is open";
-    this.notice.show(`The session "${name}" ${where}, as you left it.`, "left", { word: "Back to it", act: () => this.open(id) });
+    this.notice.show(say.sessionLeft(name, this.store.keeps), "left", { word: say.BACK_TO_IT, act: () => this.open(id) });
   }
 
   /** Something is done in the session that is shown: there is something to lose from here on, and it is the one that was meant. */
@@ -132,7 +128,7 @@ export class SessionsController {
   async beginNamed(name) {
     const example = [...this.examples, FIRST_PROGRAM].find((each) => each.name === name);
     if (example) return this.begin(example);
-    this.notice.show(`The address names an example, "${shortName(name)}", that this page does not have.`, "session");
+    this.notice.show(say.noSuchExample(shortName(name)), "session");
     return false;
   }
 
@@ -144,7 +140,7 @@ export class SessionsController {
     const done = await this.bin.remove(records);
     if (done.length === 0) return;
     for (const { id } of done) this.openings.forget(id);
-    this.notice.show(`Deleted ${namesOf(done)}.`, "undo", { word: "Undo", act: () => this.bringBack(done) });
+    this.notice.show(say.deleted(namesOf(done)), "undo", { word: say.UNDO, act: () => this.bringBack(done) });
   }
 
   /** @param {SessionRecord[]} records */
@@ -196,9 +192,9 @@ export class SessionsController {
     const release = await this.locks.take(record.id);
     if (!release) return;
     release();
-    const words = `The session "${shortName(record.name)}" was not opened by itself: its last opening did not come to an end.`;
+    const words = say.notByItself(shortName(record.name));
     const remove = () => this.remove([record]);
-    this.notice.show(words, "unended", { word: "Open it", act: () => this.open(record.id) }, { word: "Delete it", act: remove });
+    this.notice.show(words, "unended", { word: say.OPEN_IT, act: () => this.open(record.id) }, { word: say.DELETE_IT, act: remove });
   }
 
   /** The address is another one: what it names is shown, if it is not here already. */

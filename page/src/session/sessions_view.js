@@ -4,6 +4,7 @@ import { pictureOf } from "./gallery_view.js";
 import { block, button, byId, element, field, onClick } from "../ui/dom.js";
 import { folderOfFiles, foldersOf, readFolder } from "./folder_files.js";
 import { KeptList } from "./kept_list.js";
+import * as say from "../words/session.js";
 
 /**
  * @typedef {import("../worker/examples.js").Example} Example
@@ -98,12 +99,12 @@ export class SessionsView {
 
   /** @param {Example} example */
   exampleLine(example) {
-    const open = this.button(example.name, `new session: ${example.name}`, () => this.choose(() => this.calls.begin(example)));
+    const open = this.button(example.name, say.newSession(example.name), () => this.choose(() => this.calls.begin(example)));
     open.prepend(pictureOf(example.board));
     const title = element("span", { className: "grow" }, example.title);
     if (!example.story) return element("li", {}, open, title);
-    const words = `new session with its story: ${example.name}`;
-    return element("li", {}, open, title, this.button("with its story", words, () => this.choose(() => this.calls.beginStory(example))));
+    const words = say.newStory(example.name);
+    return element("li", {}, open, title, this.button(say.WITH_STORY, words, () => this.choose(() => this.calls.beginStory(example))));
   }
 
   /**

@@ -4,6 +4,7 @@
 import { fromBase64, toBase64 } from "./base64.js";
 import { checksum } from "./checksum.js";
 import { Lines, TextTooLong, linesOfTexts, readTexts } from "./project_file.js";
+import * as say from "../words/session.js";
 
 /**
  * @typedef {import("./project_file.js").Texts} Texts
@@ -23,7 +24,6 @@ const MOST_BYTES = 1 << 20;
 /** Why a link cannot be opened, in words. */
 export class NotALink extends Error {}
 
-const DAMAGED = "it is cut off, or was changed";
 
 /**
  * A stream that compresses, or one that takes apart; null where this browser has none.
@@ -47,11 +47,11 @@ function toLetters(bytes) {
 
 /** @param {string} letters */
 function fromLetters(letters) {
-  if (!/^[\w-]*$/.test(letters)) throw new NotALink(DAMAGED);
+  if (!/^[\w-]*$/.test(letters)) throw new NotALink(say.DAMAGED);
   try {
     return fromBase64(letters.replace(/-/g, "+").replace(/_/g, "/"));
   } catch {
-    throw new NotALink(DAMAGED);
+    throw new NotALink(say.DAMAGED);
   }
 }
 
@@ -74,7 +74,7 @@ async function through(bytes, { readable, writable }) {
     count += next.value.length;
     if (count > MOST_BYTES) {
       reader.cancel().catch(() => {});
-      throw new NotALink("it holds more than a board and a program");
+      throw new NotALink(say.HOLDS_MORE);
     }
   }
   const all = new Uint8Array(count);
@@ -101,13 +101,12 @@ export async function linkOf({ name, boardText, programText, testText, propertie
 async function unpacked(bytes) {
   const stream = streamOf("DecompressionStream");
   if (!stream) {
-    throw new NotALink("this browser cannot take compressed texts apart (it has no DecompressionStream); it needs Chrome from version 103, "
-      + "Firefox from 113 or Safari from 16.4 on, or a project file in the place of the link");
+    throw new NotALink(say.CANNOT_DECOMPRESS);
   }
   try {
     return await through(bytes, stream);
   } catch (fault) {
-    throw fault instanceof NotALink ? fault : new NotALink(DAMAGED);
+    throw fault instanceof NotALink ? fault : new NotALink(say.DAMAGED);
   }
 }
 
@@ -118,16 +117,16 @@ async function unpacked(bytes) {
  */
 export async function readLink(link) {
   const [, way, letters] = /^(\d+)\.(.*)$/.exec(link) || [];
-  if (way === undefined) throw new NotALink(DAMAGED);
-  if (way !== "0" && way !== "1") throw new NotALink("it was made by a newer page than this one");
+  if (way === undefined) throw new NotALink(say.DAMAGED);
+  if (way !== "0" && way !== "1") throw new NotALink(say.NEWER_PAGE);
   const packed = fromLetters(letters);
   const text = new TextDecoder().decode(way === "1" ? await unpacked(packed) : packed);
   const [sum] = text.split("\n", 1);
   const rest = text.slice(sum.length + 1);
-  if (sum !== String(checksum(new TextEncoder().encode(rest)))) throw new NotALink(DAMAGED);
+  if (sum !== String(checksum(new TextEncoder().encode(rest)))) throw new NotALink(say.DAMAGED);
   try {
     return readTexts(new Lines(rest));
   } catch (fault) {
-    throw new NotALink(fault instanceof TextTooLong ? fault.message : DAMAGED);
+    throw new NotALink(fault instanceof TextTooLong ? fault.message : say.DAMAGED);
   }
 }

@@ -8,6 +8,7 @@ import { shortName } from "./names.js";
 import { wordsOfLength } from "./project_file.js";
 import { LONGEST_LINK, SAFE_LINK, linkOf, readLink } from "./share_link.js";
 import { wordsOfLines } from "./texts_controller.js";
+import * as say from "../words/session.js";
 
 /**
  * @typedef {import("../ui/ask_view.js").AskView} AskView
@@ -27,13 +28,9 @@ import { wordsOfLines } from "./texts_controller.js";
  * @param {Texts} texts
  */
 function whatOf({ testText, propertiesText }) {
-  const held = ["the name", "the board", "the source", ...(testText ? ["the tests"] : []), ...(propertiesText ? ["the properties"] : [])];
-  return `It holds ${held.slice(0, -1).join(", ")} and ${held[held.length - 1]}, not the state of the machine.`;
+  const held = [...say.ALWAYS_HELD, ...(testText ? [say.THE_TESTS] : []), ...(propertiesText ? [say.THE_PROPERTIES] : [])];
+  return say.itHolds(held.slice(0, -1).join(", "), held[held.length - 1]);
 }
-const OF_A_FILE = " This page was opened from a file, so the link finds it on this machine alone: whoever has the page elsewhere puts the "
-  + "part from # on behind its address there.";
-
-const LONG = "Some programs that carry messages cut a link of more than 8,000; a project file is safer.";
 
 export class Sharing {
   /**
@@ -57,20 +54,20 @@ export class Sharing {
     if (!texts) return;
     const tooLong = wordsOfLength(texts);
     if (tooLong) {
-      this.notice.show(`No link was made: ${tooLong}. Shorten it first.`, "share");
+      this.notice.show(say.noLink(tooLong), "share");
       return;
     }
     const address = location.href.replace(/#.*$/, "") + addressOf("link", await linkOf(texts));
-    const size = `${address.length.toLocaleString("en")} characters`;
+    const size = say.characters(address.length.toLocaleString("en"));
     if (address.length > LONGEST_LINK) {
       await this.offerFile(size);
       return;
     }
-    const told = [`${whatOf(texts)}${location.protocol === "file:" ? OF_A_FILE : ""}`];
-    if (address.length > SAFE_LINK) told.push(LONG);
+    const told = [`${whatOf(texts)}${location.protocol === "file:" ? say.OF_A_FILE : ""}`];
+    if (address.length > SAFE_LINK) told.push(say.LONG);
     try {
       await navigator.clipboard.writeText(address);
-      this.notice.show(`A link of ${size} was copied. ${told.join(" ")}`, "share");
+      this.notice.show(say.linkCopied(size, told.join(" ")), "share");
     } catch {
       await this.showLink(address, told);
     }
@@ -79,11 +76,10 @@ export class Sharing {
   /** @param {string} size of the link that would be needed */
   async offerFile(size) {
     const isSaved = await this.ask.ask({
-      title: "Too long for a link",
-      words: [`These texts would make a link of ${size}, and browsers show none of more than ${LONGEST_LINK.toLocaleString("en")}. `
-        + "A project file has no such limit."],
-      accept: "Save a project",
-      refuse: "Leave it",
+      title: say.TOO_LONG_LINK,
+      words: [say.longLink(size, LONGEST_LINK.toLocaleString("en"))],
+      accept: say.SAVE_PROJECT,
+      refuse: say.LEAVE_IT,
     });
     if (isSaved) this.calls.save();
   }
@@ -95,12 +91,12 @@ export class Sharing {
    */
   async showLink(address, told) {
     const area = element("textarea", { id: "link", rows: 4, readOnly: true, value: address, autofocus: true });
-    area.setAttribute("aria-label", "The link");
+    area.setAttribute("aria-label", say.THE_LINK);
     const answer = this.ask.ask({
-      title: "Copy this link",
-      words: ["The browser lets the page copy nothing. Copy the link by hand.", area, ...told],
+      title: say.COPY_LINK,
+      words: [say.COPY_BY_HAND, area, ...told],
       accept: "",
-      refuse: "Close",
+      refuse: say.CLOSE,
     });
     area.focus();
     area.select();
@@ -116,14 +112,14 @@ export class Sharing {
       const texts = await readLink(link);
       const tried = await this.bench.call("tryTexts", [texts]);
       const isWanted = await this.ask.ask({
-        title: `Open "${texts.name}" from a link?`,
+        title: say.openFromLink(texts.name),
         words: this.wordsOf(texts, tried),
-        accept: "Open it as a new session",
-        refuse: "Leave it",
+        accept: say.OPEN_AS_NEW,
+        refuse: say.LEAVE_IT,
       });
       if (isWanted) await this.calls.begin(texts, tried.file, tried.refused.length === 0 && texts.programText !== "");
     } catch (fault) {
-      this.notice.show(`The link was not opened: ${this.words.ofFault(fault)}. What was here stays as it was.`, "session");
+      this.notice.show(say.linkNotOpened(this.words.ofFault(fault)), "session");
     } finally {
       this.calls.address();
     }
@@ -138,16 +134,15 @@ export class Sharing {
     const told = refused.map(({ word, answer }) => {
       const refusal = refusalOf(answer);
       const why = refusal ? `${answer}: ${this.words.ofRefusal(refusal.number)}` : answer;
-      return `The bench refuses its ${word === "wire" ? "board" : "source"} (${why}). The text is opened all the same.`;
+      return say.benchRefusesText(word === "wire", why);
     });
     return [
       ...(title ? [title] : []),
-      `The board's text has ${wordsOfLines(boardText)}, the source ${wordsOfLines(programText)}${
-        testText === "" ? "" : `, the text of tests ${wordsOfLines(testText)}`}${
-        propertiesText === "" ? "" : `, that of properties ${wordsOfLines(propertiesText)}`}.`,
-      `On the board: ${wordsOfBoard(readBoard(board))}.`,
+      say.sizesOfTexts(wordsOfLines(boardText), wordsOfLines(programText), testText && wordsOfLines(testText),
+        propertiesText && wordsOfLines(propertiesText)),
+      say.onTheBoard(wordsOfBoard(readBoard(board))),
       ...told,
-      "It becomes a session of its own, and the one that is here stays. Nothing is sent anywhere.",
+      say.BECOMES_SESSION,
     ];
   }
 }

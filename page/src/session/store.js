@@ -1,6 +1,8 @@
 // What the browser keeps: sessions with their names, in IndexedDB. The page keeps them and not the worker, since what a page asks for
 // while it is going away gets through, and a worker is ended at once.
 
+import * as say from "../words/session.js";
+
 /**
  * A session as the store keeps it: its file, its name, and the texts of the editors, which a file does not hold; older ones have no text
  * of tests, nor one of properties. `runs` tells whether time runs, so that a reload goes on as it was; `cycles` are those that were
@@ -21,7 +23,6 @@
 /** What went wrong where a session was not kept, in words. */
 export class NotKept extends Error {}
 
-const CHANGED_ELSEWHERE = "another tab has changed or deleted this session meanwhile";
 /** A store that does not answer in so many milliseconds counts as one that fails; what it was asked for may still come to pass. */
 const TIME_OF_STORE = 10000;
 
@@ -33,7 +34,7 @@ const TIME_OF_STORE = 10000;
  */
 export function inTime(answer) {
   return new Promise((done, fail) => {
-    const late = setTimeout(() => fail(new NotKept("the browser's store does not answer")), TIME_OF_STORE);
+    const late = setTimeout(() => fail(new NotKept(say.STORE_SILENT)), TIME_OF_STORE);
     answer.then(done, fail).finally(() => clearTimeout(late));
   });
 }
@@ -62,7 +63,7 @@ export class Store {
       asked.onupgradeneeded = () => asked.result.createObjectStore("sessions", { keyPath: "id" });
       asked.onsuccess = () => done(new Store(asked.result, hasLocks));
       asked.onerror = () => fail(asked.error);
-      asked.onblocked = () => fail(new Error("another tab holds an older form of the page's store"));
+      asked.onblocked = () => fail(new Error(say.OLDER_STORE));
     });
   }
 
@@ -133,7 +134,7 @@ export class Store {
         if ((asked.result ? asked.result.revision : 0) === record.revision) {
           change.objectStore("sessions").put(written);
         } else {
-          fault = new NotKept(CHANGED_ELSEWHERE);
+          fault = new NotKept(say.CHANGED_ELSEWHERE);
           change.abort();
         }
       };
@@ -169,9 +170,9 @@ export class Store {
  */
 export function wordsOfStoreFault(error) {
   if (error instanceof NotKept) return error.message;
-  const name = error instanceof DOMException || error instanceof Error ? error.name : "without a word";
-  if (name === "QuotaExceededError") return "the browser has no more space for this page";
-  return `the browser's store failed (${name})`;
+  const name = error instanceof DOMException || error instanceof Error ? error.name : say.NO_WORD;
+  if (name === "QuotaExceededError") return say.NO_SPACE;
+  return say.storeFailed(name);
 }
 
 /**

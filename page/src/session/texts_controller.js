@@ -1,6 +1,7 @@
 // The texts of the editors, as the session that is shown has them: they are kept, and one that is replaced can be brought back.
 
 import { counted } from "../bench/numbers.js";
+import * as say from "../words/session.js";
 
 /**
  * @typedef {import("../ui/ask_view.js").AskView} AskView
@@ -14,14 +15,7 @@ import { counted } from "../bench/numbers.js";
  *   source: () => Promise<string>, took: (seen: TextName, lines: string) => void, failed: (fault: unknown) => void }} TextsCalls
  */
 
-/** The texts, as they are called in words. */
-const WHAT = { board: "The board's text", program: "The source", tests: "The text of tests", properties: "The text of properties" };
-/** Where a text stands that is for the board and the program as they are, and what is done with it. */
-const BESIDE = {
-  tests: "stands in Tests. Run the tests runs it on Board and Source as they stand.",
-  properties: "stands in Properties. Explore looks for what breaks it, on Board and Source as they stand.",
-};
-/** @typedef {keyof typeof WHAT} TextName */
+/** @typedef {keyof typeof say.WHICH_TEXT} TextName */
 
 /** The texts are kept so many milliseconds after the last change. */
 const EDIT_TIME = 600;
@@ -95,12 +89,12 @@ export class TextsController {
     if (tests !== null) this.takeBeside("tests", name, tests);
     if (properties !== null) this.takeBeside("properties", name, properties);
     if (tests !== null || properties !== null) return;
-    if (board !== null) this.replace("board", board, `The board's text was replaced by ${name}.`);
-    if (program !== null) this.replace("program", program, `The source was replaced by ${name}.`);
+    if (board !== null) this.replace("board", board, say.boardReplaced(name));
+    if (program !== null) this.replace("program", program, say.sourceReplaced(name));
     this.calls.took(board !== null ? "board" : "program", lines);
-    const [where, what] = board === null ? ["Source", "Assemble and run puts it into ROM"] : ["Board", "Wire makes the board of it"];
-    const both = board !== null && program !== null ? "Board and Source" : where;
-    this.notice.show(`${name} stands in ${both}. ${what}${both === where ? "" : ", then Assemble and run"}.`, "file");
+    const [where, what] = board === null ? [say.SOURCE, say.ASSEMBLES] : [say.BOARD, say.WIRES];
+    const both = board !== null && program !== null ? say.BOARD_AND_SOURCE : where;
+    this.notice.show(say.textIsIn(name, both, what, both === where ? "" : say.THEN_ASSEMBLE), "file");
   }
 
   /**
@@ -109,9 +103,9 @@ export class TextsController {
    * @param {string} text
    */
   takeBeside(where, name, text) {
-    this.replace(where, text, `${WHAT[where]} was replaced by ${name}.`);
+    this.replace(where, text, say.textReplaced(say.WHICH_TEXT[where], name));
     this.calls.took(where, "");
-    this.notice.show(`${name} ${BESIDE[where]}`, "file");
+    this.notice.show(`${name} ${say.BESIDE[where]}`, "file");
   }
 
   async takeFromRom() {
@@ -121,9 +115,9 @@ export class TextsController {
       const found = await this.calls.source();
       const old = this.program.text;
       if (found === old) {
-        this.notice.show("The source is what is in ROM already.", "refusal");
+        this.notice.show(say.SAME_AS_ROM, "refusal");
       } else if (old.trim() === "" || (await this.isMeant(old, found))) {
-        if (this.isShown(session)) this.replace("program", found, "The source was taken from ROM.");
+        if (this.isShown(session)) this.replace("program", found, say.TAKEN_FROM_ROM);
       }
     } catch (fault) {
       this.calls.failed(fault);
@@ -136,10 +130,10 @@ export class TextsController {
    */
   isMeant(old, found) {
     return this.ask.ask({
-      title: "Replace the source?",
-      words: [`The source has ${wordsOfLines(old)}. What is in ROM gives ${wordsOfLines(found)}, without comments and names.`],
-      accept: "Replace it",
-      refuse: "Leave it as it is",
+      title: say.REPLACE_SOURCE,
+      words: [say.sizesOfSources(wordsOfLines(old), wordsOfLines(found))],
+      accept: say.REPLACE_IT,
+      refuse: say.LEAVE_AS_IS,
     });
   }
 
@@ -169,7 +163,7 @@ export class TextsController {
    * @param {{ name: TextName, old: string, words: string }} replaced
    */
   offer(session, replaced) {
-    this.notice.show(replaced.words, "undo", { word: "Undo", act: () => this.bringBack(session, replaced) });
+    this.notice.show(replaced.words, "undo", { word: say.UNDO, act: () => this.bringBack(session, replaced) });
   }
 
   /**
@@ -179,10 +173,10 @@ export class TextsController {
    */
   bringBack(session, replaced) {
     if (this.isShown(session)) {
-      this.replace(replaced.name, replaced.old, `${WHAT[replaced.name]} is the one from before.`);
+      this.replace(replaced.name, replaced.old, say.textIsBack(say.WHICH_TEXT[replaced.name]));
     } else {
       this.offer(session, replaced);
-      this.notice.show(`That was in the session "${session.record.name}". Open it first; then it can be undone.`, "refusal");
+      this.notice.show(say.inOtherSession(session.record.name), "refusal");
     }
   }
 }

@@ -15,7 +15,7 @@ import { LiveFaults } from "./live_faults.js";
 import { instructionsOf } from "../help/manual.js";
 import { MOST_FAULTS } from "./program_faults.js";
 import { boardTables, helpForBoard, helpForProgram } from "./text_help.js";
-import { TOUR_BOARD } from "../help/tour.js";
+import { TOUR_BOARD } from "../words/help.js";
 
 /**
  * @typedef {import("../bench/bench.js").Bench} Bench

@@ -2,6 +2,7 @@
 
 import { Cycles, wordsOfCycles } from "./cycles.js";
 import { Cell, block, element, onClick } from "../ui/dom.js";
+import * as say from "../words/time.js";
 
 /** @typedef {import("./cycles.js").KeptCycles} KeptCycles */
 
@@ -17,8 +18,8 @@ export class CyclesView {
     this.sinceStop = new Cell(element("b"));
     this.markWord = new Cell(element("span"));
     this.marked = new Cell(element("b"));
-    const title = "marks this cycle; a second press shows how many cycles lie between";
-    const mark = element("button", { id: "mark", type: "button", title }, "Mark");
+    const title = say.MARKS_CYCLE;
+    const mark = element("button", { id: "mark", type: "button", title }, say.MARK);
     onClick(mark, () => {
       this.cycles.mark();
       this.show();
@@ -26,8 +27,8 @@ export class CyclesView {
     });
     const root = block("cycles");
     root.replaceChildren(
-      element("span", { title: "or since this session was begun or opened here" }, "since reset ", this.sinceReset.node),
-      element("span", { title: "in the last stretch of time" }, "since the last stop ", this.sinceStop.node),
+      element("span", { title: say.OR_SINCE_BEGUN }, say.SINCE_RESET, this.sinceReset.node),
+      element("span", { title: say.LAST_STRETCH }, say.SINCE_STOP, this.sinceStop.node),
       element("span", {}, mark, " ", this.markWord.node, this.marked.node),
     );
     root.hidden = false;
@@ -58,7 +59,7 @@ export class CyclesView {
     const { sinceReset, sinceStop, marked } = this.cycles.told;
     this.sinceReset.set(wordsOfCycles(sinceReset));
     this.sinceStop.set(wordsOfCycles(sinceStop));
-    this.markWord.set(marked === null ? "" : this.cycles.marks.length === 1 ? "since the mark " : "between the marks ");
+    this.markWord.set(marked === null ? "" : this.cycles.marks.length === 1 ? say.SINCE_MARK : say.BETWEEN_MARKS);
     this.marked.set(marked === null ? "" : wordsOfCycles(marked));
   }
 }

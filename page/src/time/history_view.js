@@ -1,8 +1,10 @@
 // The bar of steps and of the past: back and forward, so many instructions, and on or back to a change.
 
 import { button, byId, element, field, onClick } from "../ui/dom.js";
-import { PLACES_TOLD, placeOf } from "../bench/places.js";
+import { placeOf } from "../bench/places.js";
 import { countOf, upTo } from "../bench/numbers.js";
+import { PLACES_TOLD } from "../words/bench.js";
+import * as say from "../words/time.js";
 
 /**
  * @typedef {import("../bench/answers.js").Board} Board
@@ -80,7 +82,7 @@ export class HistoryView {
     const count = countOf(this.count.value, MOST_INSTRUCTIONS);
     this.count.setAttribute("aria-invalid", String(count === 0));
     if (count > 0) this.calls.goOn({ kind: "count", count });
-    else this.calls.tell(`Nothing was done: give a number of instructions, 1 to ${MOST_INSTRUCTIONS.toLocaleString("en")}.`);
+    else this.calls.tell(say.giveCount(MOST_INSTRUCTIONS.toLocaleString("en")));
   }
 
   /** @param {(place: string) => void} act */
@@ -89,6 +91,6 @@ export class HistoryView {
     const place = placeOf(lamp >= 0 ? `lamp ${lamp}` : this.place.value);
     this.place.setAttribute("aria-invalid", String(place === null));
     if (place) act(place.name);
-    else this.calls.tell(`Nothing was done: name what is to change: ${PLACES_TOLD}.`);
+    else this.calls.tell(say.giveChange(PLACES_TOLD));
   }
 }

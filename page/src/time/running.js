@@ -9,6 +9,7 @@ import { Sound } from "../board/sound.js";
 import { Clock } from "./clock.js";
 import { Rate } from "./rate.js";
 import { REAL } from "./speeds.js";
+import * as say from "../words/time.js";
 
 /**
  * @typedef {import("../bench/protocol.js").Frame} Frame
@@ -91,7 +92,7 @@ export class Running {
 
   showRate() {
     const rate = Math.round(this.rate.told);
-    this.rateTold.set(this.clock.isRunning && rate > 0 ? `${rate.toLocaleString("en")} cycles a second` : "");
+    this.rateTold.set(this.clock.isRunning && rate > 0 ? say.cyclesASecond(rate.toLocaleString("en")) : "");
   }
 
   /** @param {Goal | null} [goal] up to which time runs; the bench knows it */
@@ -104,8 +105,8 @@ export class Running {
     this.begun = calls.cycles();
     calls.began();
     if (!goal) bench.call("drop", []).catch(calls.failed);
-    this.runWord.set("Stop");
-    this.tell(goal ? wordsOfMove(goal) : "Time runs.");
+    this.runWord.set(say.STOP);
+    this.tell(goal ? wordsOfMove(goal) : say.TIME_RUNS);
     this.clock.start();
     this.beginRate();
     bench.isRunning = this.clock.isFull;
@@ -175,9 +176,9 @@ export class Running {
    */
   stoodStill(time, wasHidden) {
     this.beginRate();
-    const words = `Time runs. It stood still for ${wordsOfTime(time)} ${wasHidden ? "while hidden" : "while the page was held up"}.`;
+    const words = say.timeStood(wordsOfTime(time), wasHidden);
     this.tell(words);
-    setTimeout(() => this.status.text === words && this.tell("Time runs."), TOLD_TIME);
+    setTimeout(() => this.status.text === words && this.tell(say.TIME_RUNS), TOLD_TIME);
   }
 
   /**
@@ -191,7 +192,7 @@ export class Running {
     bench.isRunning = false;
     if (current.session) current.session.record.runs = false;
     this.aim(null);
-    this.runWord.set("Run");
+    this.runWord.set(say.RUN);
     this.tell(words);
     this.showRate();
     calls.drawRest();
@@ -260,7 +261,7 @@ export class Running {
    */
   reasonOf(stop, goal = this.goal) {
     const refusal = refusalOf(stop.why);
-    if (refusal) return `Stopped: ${stop.why}: ${this.calls.wordsOfRefusal(refusal.number)}.`;
+    if (refusal) return say.stoppedBy(stop.why, this.calls.wordsOfRefusal(refusal.number));
     return wordsOfStop(goal, stop, this.place, wordsOfWhen(this.calls.breakpoint(stop.id || 0)));
   }
 

@@ -1,5 +1,7 @@
 // How fast time runs: as in the real chip, a part of that, an instruction a second, or as fast as this machine can.
 
+import * as say from "../words/time.js";
+
 /**
  * `part`: time is so many times slower than real time; `byInstruction`: one instruction each second.
  * @typedef {{ id: string, words: string, part: number, byInstruction: boolean, isFull: boolean }} Speed
@@ -15,7 +17,7 @@ function speed(id, words, some = {}) {
   return { id, words, part: 1, byInstruction: false, isFull: false, ...some };
 }
 
-export const REAL = speed("real", "real time");
+export const REAL = speed("real", say.REAL_TIME);
 
 /** In the order in which they are offered. */
 export const SPEEDS = [
@@ -23,8 +25,8 @@ export const SPEEDS = [
   speed("tenth", "1/10", { part: 10 }),
   speed("hundredth", "1/100", { part: 100 }),
   speed("thousandth", "1/1,000", { part: 1000 }),
-  speed("instruction", "an instruction a second", { byInstruction: true }),
-  speed("full", "full speed", { isFull: true }),
+  speed("instruction", say.ONE_A_SECOND, { byInstruction: true }),
+  speed("full", say.FULL_SPEED, { isFull: true }),
 ];
 
 /** @param {string} id */

@@ -1,6 +1,7 @@
 // Steps: into, over and out of a subroutine, so many instructions, to a line, or until something changes.
 
 import { block, element, onClick } from "../ui/dom.js";
+import * as say from "../words/time.js";
 
 /**
  * @typedef {import("../worker/going_back.js").BackGoal} BackGoal
@@ -18,8 +19,8 @@ export class Stepping {
     this.calls = calls;
     const goOver = () => calls.goOn({ kind: "over" });
     const goOut = () => calls.goOn({ kind: "out" });
-    const over = this.makeButton("over", "Over", "F10: one instruction; a subroutine that it calls is done whole", goOver);
-    const out = this.makeButton("out", "Out", "Shift and F11: up to the return from this subroutine", goOut);
+    const over = this.makeButton("over", say.OVER, say.OVER_TITLE, goOver);
+    const out = this.makeButton("out", say.OUT, say.OUT_TITLE, goOut);
     block("steps").prepend(over);
     block("steps").append(out);
     /** @type {Record<string, () => void>} the keys of the browsers' own debuggers */

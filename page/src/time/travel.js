@@ -1,6 +1,7 @@
 // Going on to a goal, back and forward in time, and what the status says of it.
 
 import { wordsOfGone } from "../debug/stop_words.js";
+import * as say from "../words/time.js";
 
 /**
  * @typedef {import("../bench/bench.js").Bench} Bench
@@ -38,7 +39,7 @@ export class Travel {
   async goOn(goal) {
     await this.calls.stand();
     this.calls.aim(goal);
-    const told = await this.calls.change("The goal is looked for.", (ways) => this.bench.call("goOn", [goal], ways));
+    const told = await this.calls.change(say.LOOKING_FOR_GOAL, (ways) => this.bench.call("goOn", [goal], ways));
     this.calls.aim(null);
     if (!told) return;
     const { cycles, isReached, end, id, returns } = told.found;
@@ -50,13 +51,13 @@ export class Travel {
   /** @param {BackGoal} goal */
   async goBack(goal) {
     await this.calls.stand();
-    const gone = await this.calls.change("The past is done again on a copy.", (ways) => this.bench.call("goBack", [goal], ways));
+    const gone = await this.calls.change(say.REPEATING_PAST, (ways) => this.bench.call("goBack", [goal], ways));
     if (gone) this.calls.tell(wordsOfGone(goal, gone, this.calls.place(), this.calls.breakpoint(gone.id)));
   }
 
   async goForward() {
     await this.calls.stand();
-    const gone = await this.calls.change("Forward again.", () => this.bench.call("goForward", []));
+    const gone = await this.calls.change(say.GOING_FORWARD, () => this.bench.call("goForward", []));
     if (gone) this.calls.tell(wordsOfGone({ kind: "forward" }, gone, this.calls.place()));
   }
 }

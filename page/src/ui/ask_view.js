@@ -1,6 +1,7 @@
 // A question before something is done that a user may not have meant, in a dialog of its own.
 
 import { element } from "./dom.js";
+import * as say from "../words/page.js";
 
 /**
  * @typedef {{ title: string, words: (string | HTMLElement)[], accept: string, refuse: string }} Question `words` are paragraphs
@@ -12,8 +13,8 @@ export class AskView {
   constructor() {
     this.title = element("h2", { id: "ask-title" });
     this.words = element("div");
-    this.accept = this.button("Yes", ACCEPTED);
-    this.refuse = this.button("No", "");
+    this.accept = this.button(say.YES, ACCEPTED);
+    this.refuse = this.button(say.NO, "");
     this.dialog = element("dialog", { id: "ask", "aria-labelledby": "ask-title" }, this.title, this.words,
       element("div", { className: "bar" }, this.accept, this.refuse));
     /** @type {(isAccepted: boolean) => void} */

@@ -1,6 +1,7 @@
 // Panels that can be folded to their heading.
 
 import { element, onClick } from "./dom.js";
+import * as say from "../words/page.js";
 
 /**
  * @typedef {import("./choices.js").Choices} Choices
@@ -28,7 +29,7 @@ export function makeFolds(choices) {
  */
 function makeFold(panel, title, choices) {
   const name = `fold.${panel.id}`;
-  const fold = element("button", { type: "button", className: "fold", title: "folds or unfolds this panel" }, title);
+  const fold = element("button", { type: "button", className: "fold", title: say.FOLDS }, title);
   const usual = panel.dataset.fold === "narrow" && matchMedia(NARROW).matches ? "folded" : "unfolded";
   let isFolded = (choices.get(name) || usual) === "folded";
   const show = () => {

@@ -3,6 +3,7 @@
 // opened by itself.
 
 import { block, element } from "./dom.js";
+import * as say from "../words/page.js";
 
 /**
  * What stays wrong while it lasts (`kept`, `store`), what was refused (`session`, `refusal`), a link that was copied (`share`), a file
@@ -44,7 +45,7 @@ export class Notice {
     if (!SEVERAL.has(kind)) this.hide(kind);
     const row = { kind, words, node: element("div", { className: "notice", role: "alert" }, element("p", {}, words)) };
     row.node.append(...actions.map((action) => this.button(action.word, `${action.word}: ${words}`, () => this.do(row, action))));
-    row.node.append(this.button("Dismiss", "Dismiss the notice", () => this.dismiss(row), "dismiss"));
+    row.node.append(this.button(say.DISMISS, say.DISMISS_NOTICE, () => this.dismiss(row), "dismiss"));
     this.rows.unshift(row);
     this.block.prepend(row.node);
     this.block.hidden = false;

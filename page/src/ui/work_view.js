@@ -1,6 +1,7 @@
 // Work that takes long: how far it is, and a button that cancels it.
 
 import { Cell, below, block, button, onClick } from "./dom.js";
+import * as say from "../words/page.js";
 
 /** Work that is done sooner, in milliseconds, is not shown. */
 const SOON = 300;
@@ -17,7 +18,7 @@ export class WorkView {
 
   cancel() {
     if (this.controller) this.controller.abort();
-    this.words.set("It is being cancelled.");
+    this.words.set(say.CANCELLING);
   }
 
   /**

@@ -1,0 +1,169 @@
+// What people read of the debug adapter, in an editor.
+
+// --- adapter/adapter_connection.js ---
+/** @type {(bytes: number) => string} */
+export const messageTooLong = (bytes) => `a message of ${bytes} bytes was not read`;
+export const NOT_JSON = "a message is not JSON";
+export const MESSAGE_FORM = "a message has a number seq, the type \"request\" and a command";
+export const INITIALIZE_FIRST = "initialize comes first";
+export const INITIALIZE_ONCE = "initialize comes once";
+/** @type {(command: string) => string} */
+export const noCommand = (command) => `there is no ${command} here`;
+
+// --- adapter/answering.js ---
+export const WHAT_IS_IN_ROM = "what stands in ROM";
+export const MADE_OF_ROM = "made of what stands in ROM";
+/** @type {(name: string) => string} */
+export const oneSource = (name) => `there is one source, ${name}`;
+export const NO_REFERENCE = "there is nothing of this reference";
+export const ADDRESSES_ARE = "there are the addresses 0x000 to 0xFFF";
+/** @type {(most: number) => string} */
+export const rowsAre = (most) => `instructionCount is 0 to ${most}`;
+/** @type {(reference: string) => string} */
+export const noMemory = (reference) => `${reference} is no memory, as 0x000 and ram.0 are`;
+/** @type {(what: string) => string} */
+export const boardHasNo = (what) => `the board has no ${what}`;
+export const COUNT_IS = "count is 0 or more";
+export const OUTSIDE_OF_MEMORY = "it reaches outside of the memory";
+/** @type {(line: string, answer: string) => string} */
+export const benchAnswered = (line, answer) => `${line}: the bench answered ${answer}`;
+export const BASE_64 = "data is written in base 64";
+
+// --- adapter/client_breakpoints.js ---
+export const HITS_WORDS = "a hit count is a number, as in 5: it stops from that hit on";
+/** @type {(name: string) => string} */
+export const noLabel = (name) => `the program has no label ${name}`;
+/** @type {(most: number) => string} */
+export const mostOn = (most) => `${most} breakpoints are on at most`;
+/** @type {(place: string) => string} */
+export const notWatched = (place) => `${place} is not watched: 8 characters of RAM that the board has can be`;
+/** @type {(place: string) => string} */
+export const changes = (place) => `${place} changes`;
+
+// --- adapter/console.js ---
+export const HELP = `Lines of the bench (regs, list @show 5, ram 0, poke r4 7, run 100, step, reset, ..), with @NAME for an address.
+press KEY, release KEY: a key goes down, or up; while time runs, press is a short press. keys KEYS: short presses, as time runs.
+until LABEL or ADDRESS, change PLACE: on up to there. back, back PLACE: an instruction back, before the last change. forward: again.
+R4, P2, ram.0.0x12, rom1, lamps, display, a name, a condition (r9 = 9 and lamp open on): what it is now.`;
+/** @type {(most: number) => string} */
+export const tooLong = (most) => `more than ${most} characters are not taken`;
+/** @type {(why: string) => string} */
+export const seeHelp = (why) => `${why}; help shows what a line can be`;
+/** @type {(name: string, there: string) => string} */
+export const noKey = (name, there) => (
+  `the board has no key ${name}; ${there ? `it has: ${there}` : "its text names no keys (`# row 0: NAME ..`)"}`);
+/** @type {(word: string) => string} */
+export const keyForm = (word) => `it is written as ${word} KEY`;
+/** @type {(count: number) => string} */
+export const keysWait = (count) => `${count} key${count === 1 ? " waits" : "s wait"} for time to run (continue)`;
+export const TIME_RUNS = "time runs: pause comes first";
+/** @type {(form: string) => string} */
+export const placeForm = (form) => `it is written as ${form}`;
+export const UNTIL_FORM = "until LABEL or until ADDRESS";
+export const CHANGE_FORM = "change PLACE, as in change r4";
+/** @type {(most: number) => string} */
+export const tooManyLines = (most) => `more than ${most} lines are not taken at once`;
+/** @type {(word: string) => string} */
+export const noAddress = (word) => `${word} is no label of the program, and no address as 0x00D`;
+export const ADDRESS_RANGE = "addresses are 0x000 to 0xFFF";
+
+// --- adapter/debug_adapter.js ---
+export const NOTHING_LAUNCHED = "nothing is launched yet";
+export const PATHS_ONLY = "files are named by paths here, not by addresses";
+export const NOTHING_TO_ATTACH = "there is nothing to attach to: launch begins a program, or opens a session file";
+export const CONFIGURED_ONCE = "configurationDone comes once";
+export const LAUNCH_ONCE = "launch comes once";
+/** @type {(why: string) => string} */
+export const sourceDiffers = (why) => `The source is not what stands in ROM now: ${why}.`;
+/** @type {(name: string) => string} */
+export const notInProgram = (name) => `it is not in the program that is debugged, ${name}`;
+export const NO_DEBUG = "this runs without a debugger (noDebug)";
+/** @type {(name: string) => string} */
+export const noCharacter = (name) => `${name} is no character of RAM: only these are watched`;
+export const CONFIGURED_FIRST = "configurationDone comes first";
+export const ONE_THREAD = "there is one thread, 1";
+export const NO_TARGET = "there is no such target";
+/** @type {(place: string) => string} */
+export const standsAt = (place) => `Stands at ${place}.`;
+
+// --- adapter/kept_session.js ---
+/** @type {(answer: string) => string} */
+export const fileNotWritten = (answer) => `the session's file was not written: the program answered ${answer}`;
+export const OTHER_STATE = "the session's file came to another state than the session in memory";
+
+// --- adapter/launching.js ---
+export const LAUNCH_NEEDS =
+  "launch needs \"project\", a folder with mcs4.toml, or \"program\", a program's text, or \"session\", a session file";
+/** @type {(words: string) => string} */
+export const andBoard = (words) => `${words}; where "board" is left out it is the project's, or board.toml beside the program`;
+export const ONE_FILE = "program and session are one file";
+/** @type {(file: string) => string} */
+export const noProjectFile = (file) => `there is no ${file}; it names board and program of a project`;
+/** @type {(name: string) => string} */
+export const cannotRead = (name) => `cannot read ${name}: it is not there, no text, or longer than one can be`;
+export const DOT_ALONE = "a line that is a dot alone";
+/** @type {(program: string) => string} */
+export const noBoardBeside = (program) => `there is no board.toml beside ${program}: "board" names the board's text`;
+/** @type {(session: string) => string} */
+export const sessionNotThere = (session) => `${session} is not there; with "board" and "program" it is made`;
+export const PROGRAM_HAS_FAULTS = "the program has faults";
+/** @type {(hasRom: boolean, address: string) => string} */
+export const romDiffers = (hasRom, address) => `ROM has ${hasRom ? "another byte" : "no chip"} at 0x${address}`;
+/** @type {(program: string, session: string, why: string) => string} */
+export const notInRomOf = (program, session, why) => `${program} is not what stands in ROM of ${session}: ${why}`;
+/** @type {(difference: string) => string} */
+export const loadPuts = (difference) => (
+  `${difference}. "load": true puts it there; without "program" the source is made of what stands in ROM`);
+
+// --- adapter/machine.js ---
+export const TIME_RUNS_ALREADY = "time runs already: pause comes first";
+/** @type {(place: string) => string} */
+export const stoppedAt = (place) => `Stopped at ${place}.`;
+/** @type {(count: number) => string} */
+export const notesBefore = (count) => `(${count} notes before these)`;
+
+// --- adapter/protocol.js ---
+/** @type {(name: string) => string} */
+export const isText = (name) => `${name} is a text`;
+/** @type {(name: string) => string} */
+export const isWhole = (name) => `${name} is a whole number`;
+/** @type {(name: string) => string} */
+export const isBoolean = (name) => `${name} is true or false`;
+/** @type {(name: string) => string} */
+export const isList = (name) => `${name} is a list`;
+
+// --- adapter/scopes.js ---
+/** @type {(chips: number, isSelected: boolean) => string} */
+export const chipsOf = (chips, isSelected) => `${chips} chips${isSelected ? ", selected by DCL" : ""}`;
+/** @type {(chip: number, register: number) => string} */
+export const chipRegister = (chip, register) => `chip ${chip}, register ${register}`;
+/** @type {(byte: string, chip: number) => string} */
+export const selectsRom = (byte, chip) => `${byte}: ROM ${chip}`;
+/** @type {(bank: string) => string} */
+export const sourceOfBank = (bank) => `SRC of bank ${bank}`;
+export const REGISTERS = "Registers";
+export const PAIRS = "Pairs";
+export const PORTS = "Ports";
+export const LAMPS = "Lamps";
+export const KEYS = "Keys";
+export const NAMES = "Names";
+/** @type {(name: string) => string} */
+export const noneHere = (name) => `there is no ${name} here`;
+/** @type {(name: string) => string} */
+export const nothingSets = (name) => `${name} is what the machine makes it: nothing sets it`;
+
+// --- adapter/setting.js ---
+/** @type {(text: string) => string} */
+export const noNumber = (text) => `${text} is no number, as 10, 0x0A and 0b1010 are, and no name`;
+export const NOTHING = "nothing";
+export const KEY_IS = "a key is down or up";
+/** @type {(place: string, most: number) => string} */
+export const holds = (place, most) => `${place} holds 0 to ${most}`;
+/** @type {(place: string, answer: string) => string} */
+export const cannotBeSet = (place, answer) => `${place} cannot be set: the bench answered ${answer}`;
+
+// --- adapter/shown_board.js ---
+export const KEY_PLACE = "a key's place is its row and column, as 0 2, or test and a level";
+
+// --- adapter/values.js ---
+export const NOTHING_TO_EVALUATE = "there is nothing to evaluate";

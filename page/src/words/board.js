@@ -1,0 +1,103 @@
+// What people read of the board's face: lamps, keys, sound, and the wiring in words.
+
+// --- board/board_keys.js ---
+/** @type {(legend: string, row: number, column: number) => string} */
+export const keyPlace = (legend, row, column) => `key ${legend}, row ${row}, column ${column}`;
+/** @type {(kind: string, legend: string) => string} */
+export const keyAtTest = (kind, legend) => `${kind} ${legend}, at TEST`;
+export const NO_KEYS = "This board has no keys.";
+export const NAMES_KEYS = " Lines such as # row 0: 7 8 9 in the board's text give them names.";
+/** @type {(naming: string) => string} */
+export const keysHint = (naming) => `Shift-click keeps a key down. While time is stopped, a click puts a key down or up.${naming}`;
+
+// --- board/face.js ---
+export const A_SEGMENT = "a segment";
+export const A_COLUMN = "a column";
+export const A_DIGIT = "a digit";
+export const A_ROW = "a row";
+/** @type {(count: string) => string} */
+export const andMore = (count) => `And ${count} more.`;
+
+// --- board/front_view.js ---
+export const LAMPS_AND_KEYS = "Lamps and keys";
+/** @type {(milliseconds: number) => string} */
+export const asSeen = (milliseconds) => (
+  `Brightness is the part of the time for which a lamp is lit, as an eye sees it: over ${milliseconds} ms.`);
+export const AT_INSTANT = "Time is stopped: this is what is lit now.";
+/** @type {(line: number, words: string) => string} */
+export const lineOfBoard = (line, words) => `line ${line} of the board's text: ${words}`;
+
+// --- board/lamps_view.js ---
+/** @type {(name: string) => string} */
+export const lit = (name) => `${name}, lit`;
+/** @type {(name: string) => string} */
+export const dark = (name) => `${name}, dark`;
+/** @type {(row: number, column: number) => string} */
+export const placeInGroup = (row, column) => `row ${row}, column ${column}`;
+/** @type {(number: number, count: number) => string} */
+export const lampOfRow = (number, count) => `lamp ${number} of ${count}`;
+/** @type {(column: string, row: string) => string} */
+export const both = (column, row) => `${column} and ${row}`;
+
+// --- board/sound.js ---
+export const NO_SOUND = "This browser has no sound (Web Audio). In a terminal, mcs4 wave --wav makes a sound file.";
+export const SILENT = "silent: there is sound only in real time";
+/** @type {(name: string) => string} */
+export const soundOf = (name) => `Sound of ${name}`;
+
+// --- board/wiring.js ---
+/** @type {(chain: number) => string} */
+export const clocksChain = (chain) => `clocks chain ${chain}`;
+/** @type {(chain: number) => string} */
+export const isData = (chain) => `is the data of chain ${chain}`;
+/** @type {(lamp: number) => string} */
+export const lightsLamp = (lamp) => `lights lamp ${lamp}`;
+export const SOUNDS_BUZZER = "sounds the buzzer";
+/** @type {(row: number) => string} */
+export const drivesRow = (row) => `drives row ${row} of the keys`;
+/** @type {(column: number) => string} */
+export const readsColumn = (column) => `reads column ${column} of the keys`;
+/** @type {(name: string, uses: string) => string} */
+export const usesOf = (name, uses) => `${name} ${uses}`;
+export const AND = " and ";
+export const NOT_USED = "is not used";
+export const DOES_PROCESSOR = "it reads the ROMs' bytes and ports, writes the ports, and reads and writes RAM";
+/** @type {(kind: string, name: string) => string} */
+export const testIsAt = (kind, name) => `its input TEST is at the ${kind} ${name}`;
+export const TEST_IS_OWN = "TEST is only its input";
+/** @type {(kind: string, name: string, level: number) => string} */
+export const putsTest = (kind, name, level) => `the ${kind} ${name} puts TEST to ${level} while it is pressed`;
+/** @type {(line: string, isInput: boolean) => string} */
+export const lineOfPort = (line, isInput) => `line ${line}, ${isInput ? "an input" : "an output"},`;
+/** @type {(chip: number) => string} */
+export const romTitle = (chip) => `ROM ${chip} · 4001`;
+/** @type {(bank: number, chip: number) => string} */
+export const ramTitle = (bank, chip) => `RAM ${bank}.${chip} · 4002`;
+/** @type {(clock: string) => string} */
+export const clockIs = (clock) => `its clock is ${clock}`;
+/** @type {(data: string) => string} */
+export const dataIs = (data) => `its data is ${data}`;
+/** @type {(at: number, chips: number) => string} */
+export const chainTitle = (at, chips) => `Chain ${at} · ${chips} × 4003`;
+/** @type {(label: string, line: string) => string} */
+export const drivenBy = (label, line) => `${label} is driven by ${line}`;
+/** @type {(label: string, line: string) => string} */
+export const readAt = (label, line) => `${label} is read at ${line}`;
+/** @type {(rows: number, columns: number) => string} */
+export const keysTitle = (rows, columns) => `Keys · ${rows} × ${columns}`;
+/** @type {(label: string, line: string) => string} */
+export const isAt = (label, line) => `${label} is at ${line}`;
+/** @type {(count: number) => string} */
+export const lampsTitle = (count) => `Lamps · ${count}`;
+/** @type {(name: string, place: string) => string} */
+export const soundsEdges = (name, place) => `${name} sounds the edges of ${place}`;
+export const BUZZER = "Buzzer";
+
+// --- board/wiring_view.js ---
+export const PARTS_AND_WIRES = "The board's parts and wires";
+export const TEST_PIN = "the TEST pin";
+/** @type {(takers: string) => string} */
+export const wiredTo = (takers) => `wired to ${takers}`;
+export const NOT_WIRED = "not wired";
+/** @type {(line: string) => string} */
+export const at = (line) => `at ${line}`;

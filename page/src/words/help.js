@@ -1,0 +1,148 @@
+// What people read in the help, in the first program and in stories.
+
+// --- help/guide.js ---
+/** @type {(name: string) => string} */
+export const noSuchStory = (name) => `The address names a story, "${name}", that this page does not have.`;
+export const PROGRAM_IN_SOURCE = "The program of this step is in Source.";
+
+// --- help/help_view.js ---
+/** @type {(count: number) => string} */
+export const rowsHaveIt = (count) => `${count} ${count === 1 ? "row has" : "rows have"} it.`;
+
+// --- help/manual.js ---
+export const INSTRUCTIONS = "The 45 instructions";
+export const CELLS = "What the cells show";
+/** The titles of the sections of docs/MANUAL.md whose rows begin with a line for the bench. */
+export const SECTIONS_OF_LINES = ["Commands", "Queries"];
+
+// --- help/story_acts.js ---
+/** @type {(label: string) => string} */
+export const noLabel = (label) => `Nothing was done: the source is not the same as ROM, or it has no label ${label}.`;
+/** @type {(legend: string) => string} */
+export const noKey = (legend) => `Nothing was done: the board has no key ${legend}.`;
+
+// --- help/tour.js ---
+/** The board of the five steps. */
+export const TOUR_BOARD = `# My first board: four lamps and two keys.
+#
+# row 0: left right
+
+# ROM 0 has the program. Lines 0 and 1 of its port shift the chain, lines 2 and 3
+# read the keys.
+[[rom]]
+chip = 0
+port = "ii00"
+
+# One RAM chip. Its port lights the lamps.
+[[ram]]
+bank = 0
+chips = 1
+
+# One 4003. Its bit 0 drives the row of the keys.
+[[chain]]
+clock = "rom0.0"
+data = "rom0.1"
+chips = 1
+
+[keys]
+chain = 0
+first = 0
+rows = 1
+columns = ["rom0.2", "rom0.3"]
+
+[[lamp]]
+line = "ram0.0.0"
+
+[[lamp]]
+line = "ram0.0.1"
+
+[[lamp]]
+line = "ram0.0.2"
+
+[[lamp]]
+line = "ram0.0.3"
+`;
+export const FIRST_PROGRAM = { name: "first program", title: "Five steps to your own program." };
+export const LAMP = `; Lights the first lamp.
+        FIM P0, 0x00    ; RAM chip 0 of bank 0
+        SRC P0          ; is selected
+        LDM 1           ; 1 into the accumulator
+        WMP             ; and from there to the chip's port
+stop:   JUN stop
+`;
+export const COUNT = `; Counts on the four lamps.
+        FIM P0, 0x00
+        SRC P0
+        LDM 0
+count:  WMP             ; the lamps show the accumulator
+        IAC             ; one more; 15 is followed by 0
+wait:   ISZ R2, wait    ; three nested loops let time pass
+        ISZ R3, wait
+        ISZ R4, wait
+        JUN count
+`;
+export const KEY = `; Shows on the lamps which keys are down.
+        FIM P0, 0x00    ; ROM chip 0 and RAM chip 0
+        SRC P0
+        LDM 3           ; data and clock up:
+        WRR             ; bit 0 of the chain is 1 and drives the keys' row
+read:   RDR             ; the keys are lines 2 and 3
+show:   WMP
+        JUN read
+`;
+export const REMEMBER = `; Counts how often a key goes down, in a character of RAM.
+        FIM P0, 0x00
+        SRC P0
+        LDM 3
+        WRR
+up:     RDR             ; wait until all keys are up
+        JCN 12, up      ; 12: the accumulator is not 0
+down:   RDR             ; wait until one is down
+        JCN 4, down     ; 4: the accumulator is 0
+        RDM             ; the character that SRC selects
+        IAC
+        WRM             ; one more
+        WMP             ; and on the lamps
+        JUN up
+`;
+export const STEP_LAMP = {
+  title: "A lamp",
+  words: ["A board is wired for you: a processor, one ROM, one RAM chip with four lamps at its port, and two keys.",
+    "Type this program into Source, or press Put it into Source. Then press Assemble and run.",
+    "The step is done when the first lamp is lit."],
+};
+export const STEP_COUNT = {
+  title: "A count",
+  words: ["Four lamps show a number from 0 to 15. This program counts, and waits in between.",
+    "Try slow motion, too: the list Speed is beside Reset.",
+    "The step is done when the lamps have shown four different numbers."],
+};
+export const STEP_KEY = {
+  title: "A key",
+  words: ["The keys are a matrix: a bit of a shift register (a 4003) drives their row, and the ROM's port reads their columns.",
+    "Assemble and run it, then hold a key.",
+    "The step is done when a lamp is lit while a key is down."],
+};
+export const STEP_BREAKPOINT = {
+  title: "A breakpoint",
+  words: ["A run stops before a line that has a breakpoint. Click beside the line show: in Source, or on the line in the listing.",
+    "Then run.",
+    "Into (F11) runs one more instruction. A second click removes the breakpoint.",
+    "The step is done when a run has stopped at a breakpoint."],
+};
+export const STEP_WATCH = {
+  title: "A watch",
+  words: ["This program keeps its count in RAM. Remove the breakpoint, assemble and run it.",
+    "Click the first character of RAM: a run stops where it changes. Then run and press a key.",
+    "The step is done when a run has stopped after that character changed."],
+};
+
+// --- help/tour_view.js ---
+export const LAST_DONE = "Done: that was the last step. Help has all instructions and lines.";
+/** @type {(at: number, count: number, title: string) => string} */
+export const stepOf = (at, count, title) => `${at} of ${count}: ${title}`;
+export const END = "End";
+export const NEXT_STEP = "Next step";
+export const DONE = "Done.";
+export const BACK_TO_STORY = "Back to the story";
+export const BACK_TO_STEPS = "Back to the first program";

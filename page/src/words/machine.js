@@ -1,0 +1,148 @@
+// What people read of the machine: registers, RAM, ports, the listing, breakpoints and values.
+
+// --- machine/breakpoint_marks.js ---
+/** @type {(condition: string) => string} */
+export const whereHolds = (condition) => ` where ${condition}`;
+/** @type {(from: number) => string} */
+export const fromHit = (from) => ` from hit ${from} on`;
+/** @type {(when: string, since: string, log: string) => string} */
+export const breakpointThat = (when, since, log) => `breakpoint${when}${since}${log}`;
+/** @type {(note: string) => string} */
+export const logs = (note) => `: logs "${note}", and does not stop`;
+/** @type {(words: string, fault: string) => string} */
+export const neverStops = (words, fault) => `${words}: it stops nothing: ${fault}`;
+/** @type {(words: string) => string} */
+export const isOff = (words) => `${words}: it is off`;
+/** @type {(words: string) => string} */
+export const stopsLater = (words) => `${words}: it stops once the source is assembled`;
+
+// --- machine/breakpoints_view.js ---
+/** @type {(fault: string) => string} */
+export const stopsNothing = (fault) => `It stops nothing: ${fault}.`;
+export const STOPS_WHERE = "stops where this is true, in the words of tests: r9 = 9, lamp 3 on, display 42";
+export const SUCH_AS_CONDITION = "such as r9 = 9";
+export const FROM_HIT = "from hit";
+export const STOPS_FROM_HIT = "stops from this hit on";
+export const SUCH_AS_NOTE = "such as R4 is {r4}";
+export const LOGGED = "is logged instead of a stop; {r9}, {lamps} give values";
+export const REMOVE_BREAKPOINT = "remove this breakpoint";
+export const REMOVES_IT = "removes it";
+/** @type {(count: string) => string} */
+export const moreNotes = (count) => `${count} more`;
+
+// --- machine/cell_editor.js ---
+export const NOT_HEXADECIMAL = "Type hexadecimal digits, as they are shown: 0 to 9, A to F.";
+/** @type {(name: string) => string} */
+export const inHexadecimal = (name) => `${name}, in hexadecimal digits`;
+
+// --- machine/go_to.js ---
+/** @type {(word: string) => string} */
+export const beyondLast = (word) => `${word} is not an address: the last one is FFF, or 4095.`;
+export const ADDRESS_FORMS = "write an address as the listing does (01E), as 0x01E or in decimal (30)";
+/** @type {(forms: string) => string} */
+export const nothingToGoTo = (forms) => `Nothing to go to: ${forms}.`;
+/** @type {(word: string, forms: string) => string} */
+export const noNameOrAddress = (word, forms) => `${word} is neither a name of the program nor an address: ${forms}.`;
+/** @type {(word: string, forms: string) => string} */
+export const noAddress = (word, forms) => `${word} is not an address: ${forms}. Names are known while the source is the same as ROM.`;
+
+// --- machine/heat.js ---
+/** @type {(line: string) => string} */
+export const theLine = (line) => `the line ${line}`;
+/** @type {(who: string) => string} */
+export const by = (who) => `by ${who}`;
+/** @type {(who: string, time: string) => string} */
+export const byAgo = (who, time) => `by ${who}, ${time} ago`;
+export const ONCE = "once";
+/** @type {(count: string) => string} */
+export const manyTimes = (count) => `${count} times`;
+export const LAST = ", last";
+/** @type {(times: string, who: string) => string} */
+export const seenBy = (times, who) => `${times} as seen while time runs, last seen by ${who}`;
+/** @type {(chips: number, isAll: boolean) => string} */
+export const heatCounted = (chips, isAll) => (
+  `Counted while time runs${chips > 1 ? `, in one of ${chips} chips at a time` : ""}${isAll ? "" : ", at full speed in samples"}.`);
+export const NOTHING_EARLIER = "No earlier cycle is remembered.";
+/** @type {(time: string, isAll: boolean) => string} */
+export const inTheLast = (time, isAll) => `In the last ${time}${isAll ? "" : " (no more is remembered)"},`;
+/** @type {(reach: string) => string} */
+export const noneChanged = (reach) => `${reach} no character of RAM has changed.`;
+/** @type {(reach: string, name: string, how: string) => string} */
+export const oneChanged = (reach, name, how) => `${reach} one character has changed: ${name}, ${how}.`;
+/** @type {(name: string, times: string) => string} */
+export const mostOften = (name, times) => `most often ${name}, ${times}`;
+/** @type {(reach: string, count: number, often: string, last: string, how: string) => string} */
+export const manyChanged = (reach, count, often, last, how) => `${reach} ${count} characters have changed: ${often}; last ${last}, ${how}.`;
+
+// --- machine/heat_view.js ---
+/** @type {(most: string) => string} */
+export const howManyCycles = (most) => `How many cycles? A number from 1 to ${most}.`;
+export const SEARCHING_PAST = "Searching the past.";
+/** @type {(how: string) => string} */
+export const changedHow = (how) => `changed ${how}`;
+
+// --- machine/listing_rows.js ---
+/** @type {(place: string) => string} */
+export const insideBreakpoint = (place) => (
+  `breakpoint at ${place}, inside this instruction: a run that comes here does not stop; a click clears it`);
+
+// --- machine/machine_view.js ---
+export const OWED_STAYS = "No line changes what is owed: a step or a run does.";
+export const PORTS_STAY = "No line changes a port: a program writes its latch, by WRR, and what it reads comes from keys and wires.";
+export const LINES_3_TO_0 = "lines 3 to 0";
+export const PORTS_OF_ROMS = "Ports of the ROMs";
+export const SRC_OF_ROMS = "SRC, ROMs";
+
+// --- machine/ram_view.js ---
+export const RAM_PORTS_STAY = "No line changes the output of a RAM chip's port: a program does, by WMP.";
+/** @type {(bank: number, chip: number, register: number) => string} */
+export const registerPlace = (bank, chip, register) => `bank ${bank}, chip ${chip}, register ${register}`;
+export const NO_RAM = "This board has no RAM.";
+export const CHARACTERS = "characters 0 to F";
+/** @type {(register: string, character: number, source: string) => string} */
+export const characterTitle = (register, character, source) => `${register}, character ${character}: SRC byte ${source}`;
+/** @type {(register: string, character: number) => string} */
+export const statusTitle = (register, character) => `${register}, status character ${character}`;
+/** @type {(bank: number, chip: number) => string} */
+export const portTitle = (bank, chip) => `bank ${bank}, chip ${chip}: what its output port holds`;
+
+// --- machine/returns.js ---
+export const LEFT_OVER = "left over";
+export const NO_CALL_WAITS = "No call waits for a BBL with this address.";
+/** @type {(line: number) => string} */
+export const callInLine = (line) => `call in line ${line}`;
+
+// --- machine/run_to.js ---
+export const NO_ADDRESS = "Nothing was done: the source is not the same as ROM, or this line of it puts nothing there.";
+
+// --- machine/source_map.js ---
+/** @type {(word: string, address: string, line: string) => string} */
+export const addressOf = (word, address, line) => `${word}: address 0x${address}${line}`;
+/** @type {(line: number) => string} */
+export const inLine = (line) => `, line ${line}`;
+
+// --- machine/source_sync.js ---
+export const DOT_ENDS = "a line with only a dot ends the text";
+/** @type {(line: number) => string} */
+export const inThatLine = (line) => ` in line ${line}`;
+/** @type {(where: string, what: string) => string} */
+export const sourceHasFault = (where, what) => `The source has a fault${where}: ${what}.`;
+/** @type {(address: string, line: number) => string} */
+export const noRomAt = (address, line) => `The board has no ROM at ${address}, where line ${line} of the source goes.`;
+/** @type {(address: string, line: number) => string} */
+export const differsAt = (address, line) => `The source differs from ROM at ${address}, line ${line}: assemble it.`;
+
+// --- machine/stack_view.js ---
+export const COUNTER_AND_RETURNS = "Counter and return addresses";
+
+// --- machine/usual_view.js ---
+/** @type {(fault: string) => string} */
+export const stopsBefore = (fault) => `time stops before ${fault}`;
+export const STOP_AT_THIS = " stop at this";
+
+// --- machine/watched_view.js ---
+/** @type {(most: number) => string} */
+export const mostWatched = (most) => `${most} is the most.`;
+/** @type {(name: string) => string} */
+export const stopWatching = (name) => `stop showing ${name}`;
+export const REMOVE = "Remove";

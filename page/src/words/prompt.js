@@ -1,0 +1,120 @@
+// What people read at the prompt of tools/debug.
+
+// --- prompt/breakpoint_commands.js ---
+export const WHICH_ONE = "which one? info breakpoints has their numbers";
+/** @type {(id: number, place: string) => string} */
+export const breakpointAt = (id, place) => `Breakpoint ${id} at ${place}.`;
+/** @type {(word: string) => string} */
+export const noBreakpoint = (word) => `there is no breakpoint ${word}; info breakpoints has their numbers`;
+/** @type {(place: string) => string} */
+export const isWatched = (place) => `${place} is watched.`;
+/** @type {(watched: string, first: string) => string} */
+export const oneIsWatched = (watched, first) => (
+  `${watched} is watched, and of places that are no characters of RAM one can be: delete ${first} comes first`);
+/** @type {(place: string) => string} */
+export const watchedByContinue = (place) => `${place} is watched by continue.`;
+/** @type {(place: string) => string} */
+export const notWatched = (place) => `${place} is not watched`;
+/** @type {(place: string) => string} */
+export const byContinue = (place) => `${place}, by continue`;
+export const NOTHING_WATCHED = "nothing is watched";
+
+// --- prompt/change_commands.js ---
+export const SET_PLACES = "r4, p2, acc, cy, pc, dcl, test, ram.0.0x12, st.0.1.2 and rom.0x00F";
+export const BENCH_FORM = "it is written as bench LINE, as bench state";
+export const SET_FORM = "it is written as set PLACE = VALUE, as set r4 = 7";
+/** @type {(place: string, places: string) => string} */
+export const cannotBeSet = (place, places) => `${place} cannot be set: there are ${places}`;
+export const NO_FILE = "there is no file of the source to read";
+export const SOURCE_IN_ROM = "The source is in ROM.";
+
+// --- prompt/command_table.js ---
+/** @type {(word: string) => string} */
+export const noCommand = (word) => `there is no command ${word}; help shows them all`;
+/** @type {(word: string, names: string) => string} */
+export const notClear = (word, names) => `${word} is not clear: ${names}`;
+/** @type {(names: string) => string} */
+export const otherNames = (names) => ` Or: ${names}.`;
+
+// --- prompt/keys_of_prompt.js ---
+export const NO_KEYS = "the board has no keys";
+export const NONE_DOWN = "none is down";
+/** @type {(keys: string) => string} */
+export const down = (keys) => `down: ${keys}`;
+/** @type {(command: string) => string} */
+export const keyForm = (command) => `it is written as ${command} KEY; info keys has their names`;
+/** @type {(word: string, names: string) => string} */
+export const noKey = (word, names) => `the board has no key ${word}; it has: ${names}`;
+
+// --- prompt/look_commands.js ---
+export const NO_LAMPS = "the board has no lamps";
+export const PRINT_FORM = "it is written as print WHAT, as print r4";
+export const VIEW_FORM = "it is written as view, view on or view off";
+export const VIEW_NEEDS_TERMINAL = "the view is for a terminal: it stands above the commands that are typed there";
+export const NO_DISPLAY = "there is no such display; info display has their numbers";
+/** @type {(place: string) => string} */
+export const noPlaceOfMemory = (place) => `${place} is no place: x/8 show, x/8 0x00F, x/16 ram.0.0x10`;
+export const NO_LINE_THERE = "the source has no line there; x shows what stands in ROM";
+/** @type {(count: number) => string} */
+export const sourceHas = (count) => `the source has ${count} lines`;
+export const NOTHING_DISPLAYED = "nothing is displayed";
+/** @type {(program: string, count: number) => string} */
+export const linesOf = (program, count) => `${program}, ${count} lines`;
+export const MADE_OF_ROM = "made of what stands in ROM";
+export const SESSION_FILE = "a session file, which has at each stop what was done";
+export const IN_MEMORY = "in memory: nothing is kept";
+/** @type {(kinds: string) => string} */
+export const infoShows = (kinds) => `info shows ${kinds}`;
+
+// --- prompt/looks.js ---
+export const NO_RAM = "the board has no RAM";
+export const THE_CALL = ", the call";
+export const NO_NAMES = "the source has no names";
+export const NO_BREAKPOINTS = "there are no breakpoints";
+/** @type {(place: string) => string} */
+export const noPlaceOfRam = (place) => `${place} is no place of RAM, as ram.0.0x10 is`;
+/** @type {(place: string) => string} */
+export const noRamAt = (place) => `the board has no RAM at ${place}`;
+
+// --- prompt/move_commands.js ---
+export const UNTIL_FORM = "it is written as until PLACE, as until show";
+export const REVERSE_FORM = "reverse-continue stands alone; reverse-step N goes back so many instructions";
+export const FINISH_FORM = "finish stands alone";
+export const NO_CALL_WAITS = "no call waits for its return here";
+export const CONTINUE_FORM = "continue stands alone; run TIME lets a time pass";
+export const NOTHING_STOPS = "nothing would stop it: set a breakpoint, or let a time pass by run 100 ms";
+/** @type {(words: string, left: string) => string} */
+export const notPressed = (words, left) => `${words} Not pressed: ${left}.`;
+/** @type {(place: string) => string} */
+export const standsAt = (place) => `Stands at ${place}.`;
+
+// --- prompt/moves.js ---
+/** @type {(place: string) => string} */
+export const backInSubroutine = (place) => `Back in the subroutine, at ${place}: what is remembered begins in it.`;
+/** @type {(place: string) => string} */
+export const backAt = (place) => `Back at ${place}: this instruction is not done.`;
+
+// --- prompt/prompt.js ---
+/** How the words of what did nothing begin. */
+export const NOTHING_DONE = "Nothing was done";
+export const PAGE_REMEMBERS = "the page remembers";
+export const SESSION_REMEMBERS = "the session remembers";
+/** @type {(command: string) => string} */
+export const placeForm = (command) => `it is written as ${command} PLACE, as ${command} r4`;
+/** @type {(text: string, places: string) => string} */
+export const noPlace = (text, places) => `${text} is no place: there are ${places}`;
+/** @type {(place: string) => string} */
+export const boardHasNo = (place) => `the board has no ${place}`;
+
+// --- prompt/words_of_line.js ---
+export const PLACES = "a line of the source as 12, a label as show or show + 2, an address as 0x00F";
+/** @type {(line: string) => string} */
+export const noInstructionIn = (line) => `no instruction stands in line ${line} of the source, or behind it`;
+/** @type {(text: string, places: string) => string} */
+export const noPlaceInProgram = (text, places) => `${text} is no place in the program: it is ${places}`;
+export const ADDRESS_RANGE = "addresses are 0x000 to 0xFFF";
+/** @type {(most: string, text: string) => string} */
+export const countIs = (most, text) => `a count is 1 to ${most}, not ${text}`;
+/** @type {(text: string) => string} */
+export const noTime = (text) => `${text} is no time: it is cycles as 538, or 54 us, 20 ms, 1.5 s`;
+export const NOTHING = "nothing";

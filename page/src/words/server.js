@@ -1,0 +1,93 @@
+// What people read of the language server, in an editor, and of project files.
+
+// --- server/board_language.js ---
+export const NO_BOARD_NAMES = "A board's text has no names that can be changed here.";
+
+// --- server/board_places.js ---
+/** @type {(line: string, chip: string) => string} */
+export const lineOfRom = (line, chip) => `line ${line} of the port of ROM ${chip}`;
+/** @type {(bit: string, chain: string) => string} */
+export const bitOfChain = (bit, chain) => `bit ${bit} of chain ${chain}`;
+/** @type {(line: string, chip: string, bank: string) => string} */
+export const lineOfRam = (line, chip, bank) => `line ${line} of the port of RAM chip ${chip} in bank ${bank}`;
+/** @type {(isChain: boolean, line: number) => string} */
+export const standsIn = (isChain, line) => `; its ${isChain ? "chain" : "chip"} stands in line ${line}`;
+
+// --- server/connection.js ---
+/** @type {(bytes: number) => string} */
+export const messageTooLong = (bytes) => `a message of ${bytes} bytes was not read`;
+export const NOT_JSON = "a message is not JSON";
+export const MESSAGE_FORM = "a message has jsonrpc \"2.0\", a method, and an id if it is answered";
+export const EXIT_AFTER_SHUTDOWN = "after shutdown comes exit alone";
+export const INITIALIZE_FIRST = "initialize comes first";
+export const INITIALIZE_ONCE = "initialize comes once";
+/** @type {(method: string) => string} */
+export const noMethod = (method) => `there is no ${method} here`;
+export const CANCELLED = "it was cancelled";
+
+// --- server/diagnostics.js ---
+export const MAY_BE_MORE = "There may be more faults.";
+/** @type {(most: string, size: string) => string} */
+export const textTooLong = (most, size) => `a text has at most ${most} characters; this has ${size}, and the limit is passed here`;
+/** @type {(text: string) => string} */
+export const write = (text) => `Write ${text}`;
+
+// --- server/framing.js ---
+export const HEAD_FORM = "a message begins with one line Content-Length: N, and an empty one after it";
+/** @type {(most: number) => string} */
+export const headTooLong = (most) => `the head of a message has more than ${most} bytes`;
+
+// --- server/kinds.js ---
+/** @type {(key: string, path: string) => string} */
+export const noFile = (key, path) => `${key}: there is no file ${path}`;
+
+// --- server/language_server.js ---
+/** @type {(uri: string) => string} */
+export const notOpen = (uri) => `${uri} is not open`;
+export const CHANGES_ARE = "contentChanges is a list";
+export const TEXT_OF_CHANGE = "the text of a change";
+/** @type {(uri: string, why: string) => string} */
+export const faultsOf = (uri, why) => `the faults of ${uri}: ${why}`;
+
+// --- server/program_language.js ---
+/** @type {(cycles: string) => string} */
+export const cyclesOf = (cycles) => `, ${cycles} cycle${cycles === "1" ? "" : "s"}`;
+/** @type {(line: number, address: string, codes: string, cycles: string) => string} */
+export const lineAt = (line, address, codes, cycles) => `line ${line}: address 0x${address}, ${codes}${cycles}`;
+export const NO_NAME_HERE = "No name of the program stands here.";
+
+// --- server/protocol.js ---
+/** @type {(what: string) => string} */
+export const isText = (what) => `${what} is a text`;
+export const POSITION_IS = "a position has a line and a character, whole numbers from 0";
+
+// --- project/project_folder.js ---
+export const EMPTY = "it is empty; it names the files of the project, as board = \"board.toml\"";
+/** @type {(size: number, most: number) => string} */
+export const tooLong = (size, most) => `it has ${size} bytes, more than a project file can have (${most})`;
+export const ZERO_BYTES = "it has zero bytes; it is not a text";
+
+// --- project/project_toml.js ---
+export const BOARD_IS = "board is the path of a file: board = \"board.toml\"";
+export const PROGRAM_IS = "program is the path of a file: program = \"program.asm\"";
+export const TESTS_ARE = "tests is a list of paths: tests = [\"program.test\"]";
+export const PROPERTIES_ARE = "properties is a list of paths: properties = [\"program.props\"]";
+/** @type {(names: string, last: string) => string} */
+export const speedIs = (names, last) => `speed is one of ${names} and ${last}`;
+/** @type {(key: string, form: string) => string} */
+export const emptyPath = (key, form) => `${key} has an empty path; ${form}`;
+/** @type {(key: string) => string} */
+export const controlCharacter = (key) => `a path of ${key} has a control character`;
+/** @type {(key: string) => string} */
+export const backslash = (key) => `a path of ${key} has a \\; its folders are separated by /`;
+/** @type {(path: string, key: string) => string} */
+export const noPath = (path, key) => `${path} is no path from the project's folder; ${key} names files in it`;
+/** @type {(path: string, key: string) => string} */
+export const outOfFolder = (path, key) => `${path} leads out of the project's folder; ${key} names files in it`;
+/** @type {(name: string) => string} */
+export const noKey = (name) => `a project has no key ${name}; it has board, program, tests, properties and speed`;
+/** @type {(name: string, line: number) => string} */
+export const alreadyIn = (name, line) => `${name} stands in line ${line} already`;
+export const NO_TABLES = "a project has no tables; each of its keys stands at the beginning of a line";
+/** @type {(name: string, form: string) => string} */
+export const missing = (name, form) => `${name} is missing; ${form}`;

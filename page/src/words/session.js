@@ -1,0 +1,253 @@
+// What people read of sessions: those that are kept, files, links, projects, texts.
+
+// --- session/bin.js ---
+/** @type {(count: number) => string} */
+export const manySessions = (count) => `${count} sessions`;
+/** @type {(name: string) => string} */
+export const openElsewhere = (name) => `The session "${name}" is open in another tab, so it was not deleted.`;
+/** @type {(name: string, why: string) => string} */
+export const notDeleted = (name, why) => `The session "${name}" was not deleted: ${why}.`;
+/** @type {(name: string, why: string) => string} */
+export const notBroughtBack = (name, why) => `The session "${name}" was not brought back: ${why}.`;
+
+// --- session/current_session.js ---
+export const STOPPED = "Stopped.";
+/** @type {(name: string) => string} */
+export const titleOfPage = (name) => `${name} - Fethsaim`;
+/** @type {(why: string) => string} */
+export const notKept = (why) => `This session is not kept: ${why}. It is still in this page; save it to a file.`;
+
+// --- session/described.js ---
+/** The parts of a board that are counted, one of each. */
+export const PARTS = ["ROM", "RAM chip", "shift register", "lamp", "key"];
+export const NO_CHIP = "no chip yet";
+
+// --- session/export_view.js ---
+export const CLOSE = "Close";
+export const EXPORT = "Export";
+export const FILES = "Files";
+export const SOURCE_FILE = "the source, with its comments";
+export const BOARD_FILE = "the board's text, with its comments";
+export const HEX_FILE = "what is in ROM, in Intel HEX, for an EPROM programmer";
+export const BIN_FILE = "what is in ROM, byte by byte from 000 on";
+/** @type {(ending: string) => string} */
+export const saveAs = (ending) => `Save ${ending}`;
+/** @type {(what: string) => string} */
+export const nothingSaved = (what) => `Nothing was saved: there is nothing in it (${what}).`;
+
+// --- session/folder_project.js ---
+/** @type {(path: string, kind: string) => string} */
+export const noText = (path, kind) => `${path} has no text of ${kind}`;
+/** @type {(paths: string, isOne: boolean) => string} */
+export const leftOut = (paths, isOne) => `The page has one text of each kind: ${paths} ${isOne ? "is" : "are"} left out.`;
+export const NO_PROJECT_FILE = "there is no such file; it names the files of a project";
+/** @type {(path: string) => string} */
+export const noFile = (path) => `there is no file ${path}`;
+
+// --- session/kept_list.js ---
+export const DELETE_CHOSEN = "Delete the chosen ones";
+/** @type {(count: number) => string} */
+export const deleteSome = (count) => `Delete ${count} chosen`;
+export const SHOWN = "Shown";
+export const OPEN = "Open";
+/** @type {(name: string) => string} */
+export const openNamed = (name) => `open ${name}`;
+export const COPY = "Copy";
+/** @type {(name: string) => string} */
+export const copyNamed = (name) => `copy ${name}`;
+export const DELETE = "Delete";
+/** @type {(name: string) => string} */
+export const deleteNamed = (name) => `delete ${name}`;
+/** @type {(name: string) => string} */
+export const chooseNamed = (name) => `choose ${name}`;
+export const BRING_BACK = "Bring back";
+/** @type {(name: string) => string} */
+export const bringBackNamed = (name) => `bring back ${name}`;
+/** @type {(cycles: string) => string} */
+export const withCycles = (cycles) => `, ${cycles} cycles`;
+
+// --- session/kept_past.js ---
+export const NO_PAST = "it is no past";
+
+// --- session/offered_lines.js ---
+export const OTHER_LINES = "Other lines are now where you had lines that were not sent.";
+export const UNDO = "Undo";
+
+// --- session/opened_file.js ---
+/** @type {(why: string) => string} */
+export const opens = (why) => (
+  `${why}; the page opens projects (.mcsp), sessions (.mcs), programs (.asm), boards (.toml), tests (.test), `
+  + "properties (.props), lines (.txt) and ROM (.hex, .bin)");
+export const NAMES_FILES = "it names files of a project: drop its folder on the page, or choose all of them";
+export const NOT_A_KIND = "not a kind of text that the bench has";
+export const S_RECORDS = "S-records are not read: make Intel HEX of them (srec_cat FILE -o image.hex -intel)";
+/** @type {(size: string, most: string) => string} */
+export const tooLong = (size, most) => `a text of ${size} characters, and ${most} is the most`;
+export const NOT_A_TEXT = "not a text, a session or a project";
+export const EMPTY = "it is empty";
+
+// --- session/project_file.js ---
+export const ONE_OF_HEAD = "one of the head: `name`, `unended`, `break`, `#`, or `wire`, which begins the board's text";
+export const BOARD_TEXT = "the board's text";
+export const SOURCE_TEXT = "the source";
+export const TESTS_TEXT = "the tests' text";
+export const PROPERTIES_TEXT = "the properties' text";
+/** @type {(what: string, size: string, most: string) => string} */
+export const textTooLong = (what, size, most) => `${what} has ${size} characters, and ${most} is the most`;
+/** @type {(line: number, wanted: string) => string} */
+export const hasToBe = (line, wanted) => `line ${line} of the project has to be ${wanted}`;
+/** @type {(word: string) => string} */
+export const noEnd = (word) => `the text after \`${word}\` has no end, a line with a dot alone`;
+export const NO_PROJECT = "not a project of Fethsaim";
+/** @type {(version: string) => string} */
+export const otherVersion = (version) => `a project of version ${version}, which this page does not know`;
+/** @type {(line: string) => string} */
+export const cutOff = (line) => `the project is cut off: its last line, \`${line}\`, is missing`;
+export const OTHER_CHECKSUM = "the project is damaged, or was changed by hand: its checksum is another one. "
+  + "Whoever changes one by hand takes its line `cksum` out";
+/** @type {(line: number) => string} */
+export const notOfSession = (line) => `line ${line} of the project is not one of a session`;
+export const TOO_MANY_BYTES = "the file has more bytes than a project can have";
+export const END_OF_FILE = "the end of the file";
+export const NOT_UTF8 = "the project is damaged: it is not a text in UTF-8";
+
+// --- session/rom_files.js ---
+/** @type {(chip: number, address: string) => string} */
+export const lacksRom = (chip, address) => (
+  `the board has no ROM ${chip}, where the image has bytes (${address}): wire a [[rom]] with chip = ${chip}`);
+/** @type {(bytes: string, name: string, stand: string, first: string) => string} */
+export const bytesInRom = (bytes, name, stand, first) => `${bytes} of ${name} ${stand} in ROM, from ${first} on; nothing was reset.`;
+
+// --- session/session_manager.js ---
+export const IN_ANOTHER_TAB = "This session is open in another tab. Go on there, close that tab, or open a copy of it.";
+/** @type {(why: string) => string} */
+export const cannotReadKept = (why) => `The sessions that are kept could not be read: ${why}.`;
+export const NO_LONGER_KEPT = "it is no longer kept here";
+/** @type {(why: string) => string} */
+export const notOpened = (why) => `The session was not opened: ${why}.`;
+/** @type {(why: string) => string} */
+export const notMade = (why) => `No session was made: ${why}.`;
+/** @type {(name: string) => string} */
+export const aCopy = (name) => `${name}, a copy`;
+/** @type {(name: string, why: string) => string} */
+export const fileNotOpened = (name, why) => `${name} was not opened: ${why}. The session that is shown is as it was.`;
+export const THE_FOLDER = "the folder";
+/** @type {(why: string) => string} */
+export const noProjectSaved = (why) => `No project was saved: ${why}. Shorten it first; "Save .mcs" saves the session without its texts.`;
+
+// --- session/sessions_controller.js ---
+export const KEPT_HERE = "They are kept in this browser, on this machine. To have one elsewhere, or to be safe when the browser forgets, "
+  + "save it to a file. An example is kept from the first thing on that you do in it.";
+export const PROMISED = "\" The browser has promised to keep them even where its space is short.\"";
+export const KEPT_NOWHERE = "This browser keeps nothing for this page: save a session to a file before you leave.";
+/** @type {(name: string, isKept: boolean) => string} */
+export const sessionLeft = (name, isKept) => (
+  `The session "${name}" ${isKept ? "is kept" : "stays as long as this page is open"}, as you left it.`);
+export const BACK_TO_IT = "Back to it";
+/** @type {(name: string) => string} */
+export const noSuchExample = (name) => `The address names an example, "${name}", that this page does not have.`;
+/** @type {(names: string) => string} */
+export const deleted = (names) => `Deleted ${names}.`;
+/** @type {(name: string) => string} */
+export const notByItself = (name) => `The session "${name}" was not opened automatically: when it was last opened, that did not end.`;
+export const OPEN_IT = "Open it";
+export const DELETE_IT = "Delete it";
+
+// --- session/sessions_view.js ---
+/** @type {(name: string) => string} */
+export const newSession = (name) => `new session: ${name}`;
+/** @type {(name: string) => string} */
+export const newStory = (name) => `new session with its story: ${name}`;
+export const WITH_STORY = "with its story";
+
+// --- session/share_link.js ---
+export const DAMAGED = "it is cut off, or was changed";
+export const HOLDS_MORE = "it holds more than a board and a program";
+export const CANNOT_DECOMPRESS = "this browser cannot read compressed texts (it has no DecompressionStream); it needs Chrome from version "
+  + "103, Firefox from 113 or Safari from 16.4 on, or a project file instead of the link";
+export const NEWER_PAGE = "it was made by a newer page than this one";
+
+// --- session/sharing.js ---
+export const ALWAYS_HELD = ["the name", "the board", "the source"];
+export const THE_TESTS = "the tests";
+export const THE_PROPERTIES = "the properties";
+/** @type {(parts: string, last: string) => string} */
+export const itHolds = (parts, last) => `It holds ${parts} and ${last}, not the state of the machine.`;
+export const OF_A_FILE = " This page was opened from a file, so the link finds it on this machine alone: whoever has the page elsewhere "
+  + "puts the part from # on behind its address there.";
+export const LONG = "Some programs that carry messages cut a link of more than 8,000; a project file is safer.";
+/** @type {(why: string) => string} */
+export const noLink = (why) => `No link was made: ${why}. Shorten it first.`;
+/** @type {(count: string) => string} */
+export const characters = (count) => `${count} characters`;
+/** @type {(size: string, told: string) => string} */
+export const linkCopied = (size, told) => `A link of ${size} was copied. ${told}`;
+export const TOO_LONG_LINK = "Too long for a link";
+/** @type {(size: string, most: string) => string} */
+export const longLink = (size, most) => (
+  `These texts would make a link of ${size}, and browsers show none of more than ${most}. A project file has no such limit.`);
+export const SAVE_PROJECT = "Save a project";
+export const LEAVE_IT = "Leave it";
+export const THE_LINK = "The link";
+export const COPY_LINK = "Copy this link";
+export const COPY_BY_HAND = "The browser does not let the page copy. Copy the link by hand.";
+/** @type {(name: string) => string} */
+export const openFromLink = (name) => `Open "${name}" from a link?`;
+export const OPEN_AS_NEW = "Open it as a new session";
+/** @type {(why: string) => string} */
+export const linkNotOpened = (why) => `The link was not opened: ${why}. What was here stays as it was.`;
+/** @type {(isBoard: boolean, why: string) => string} */
+export const benchRefusesText = (isBoard, why) => (
+  `The bench refuses its ${isBoard ? "board" : "source"} (${why}). The text is opened all the same.`);
+/** @type {(board: string, source: string, tests: string, properties: string) => string} */
+export const sizesOfTexts = (board, source, tests, properties) => (
+  `The board's text has ${board}, the source ${source}${tests && `, the text of tests ${tests}`}${
+    properties && `, that of properties ${properties}`}.`);
+/** @type {(parts: string) => string} */
+export const onTheBoard = (parts) => `On the board: ${parts}.`;
+export const BECOMES_SESSION = "It becomes a session of its own, and the one that is here stays. Nothing is sent anywhere.";
+
+// --- session/store.js ---
+export const CHANGED_ELSEWHERE = "another tab has changed or deleted this session";
+export const STORE_SILENT = "the browser's store does not answer";
+export const OLDER_STORE = "another tab holds an older form of the page's store";
+export const NO_WORD = "for an unknown reason";
+export const NO_SPACE = "the browser has no more space for this page";
+/** @type {(name: string) => string} */
+export const storeFailed = (name) => `the browser's store failed (${name})`;
+
+// --- session/texts_controller.js ---
+/** The texts, as they are called in words. */
+export const WHICH_TEXT = {
+  board: "The board's text", program: "The source", tests: "The text of tests", properties: "The text of properties",
+};
+/** Where a text stands that is for the board and the program as they are, and what is done with it. */
+export const BESIDE = {
+  tests: "stands in Tests. Run the tests runs it on Board and Source as they stand.",
+  properties: "stands in Properties. Explore looks for what breaks it, on Board and Source as they stand.",
+};
+/** @type {(name: string) => string} */
+export const boardReplaced = (name) => `The board's text was replaced by ${name}.`;
+/** @type {(name: string) => string} */
+export const sourceReplaced = (name) => `The source was replaced by ${name}.`;
+export const SOURCE = "Source";
+export const ASSEMBLES = "Assemble and run puts it into ROM";
+export const BOARD = "Board";
+export const WIRES = "Wire makes it the board";
+export const BOARD_AND_SOURCE = "Board and Source";
+/** @type {(name: string, where: string, what: string, then: string) => string} */
+export const textIsIn = (name, where, what, then) => `${name} is in ${where}. ${what}${then}.`;
+export const THEN_ASSEMBLE = ", then Assemble and run";
+/** @type {(what: string, name: string) => string} */
+export const textReplaced = (what, name) => `${what} was replaced by ${name}.`;
+export const SAME_AS_ROM = "The source is the same as ROM already.";
+export const TAKEN_FROM_ROM = "The source was taken from ROM.";
+export const REPLACE_SOURCE = "Replace the source?";
+/** @type {(old: string, found: string) => string} */
+export const sizesOfSources = (old, found) => `The source has ${old}. What is in ROM gives ${found}, without comments and names.`;
+export const REPLACE_IT = "Replace it";
+export const LEAVE_AS_IS = "Leave it as it is";
+/** @type {(what: string) => string} */
+export const textIsBack = (what) => `${what} is back as it was.`;
+/** @type {(name: string) => string} */
+export const inOtherSession = (name) => `That was in the session "${name}". Open it first; then it can be undone.`;
