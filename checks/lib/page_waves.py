@@ -266,7 +266,7 @@ def check_triggers(browser):
         verdict(f"the trigger {words} is told", record(browser, 3000, "live"), re.compile(f"^{re.escape(fault)}"))
         verdict(f"at its field, {words}", browser.script("return document.getElementById('trigger').getAttribute('aria-invalid')"), "true")
     browser.script(FILL, {"trigger": "lamp15 rises", "behind": "4000"})
-    verdict("more behind than is kept", record(browser, 3000, "live"), "3,000 cycles are kept: no more of them can come behind the trigger.")
+    verdict("more behind than is kept", record(browser, 3000, "live"), "3,000 cycles are kept: no more of them can come after the trigger.")
     browser.script(FILL, {"trigger": "", "behind": "500"})
     browser.script("document.getElementById('stops-time').checked = false")
 
@@ -307,7 +307,7 @@ def check_refusals(browser):
         verdict(f"{words or 'nothing'} cycles are refused", record(browser, words), "How many cycles? A number from 1 to 10,000,000.")
     browser.script("document.getElementById('waves-none').click()")
     browser.click("#save-waves")
-    comes(browser, "a file of no line is refused", TOLD, "No line is chosen: choose those that the file is to have.")
+    comes(browser, "a file of no line is refused", TOLD, "No line is chosen: choose the lines for the file.")
     browser.script("document.getElementById('record-cycles').value = '10000000'; document.getElementById('scope-told').textContent = ''")
     browser.script("document.getElementById('record-where').value = 'after'")
     browser.click("#record")

@@ -1,6 +1,6 @@
 // What those parts call of the others that let time run, serve lines, and keep the session: they get calls, and know no page.
 
-import { wordsOfPlace } from "./debug/stop_words.js";
+import { wordsOfPlace } from "./words/stops.js";
 import { Serving } from "./lines/serving.js";
 import { Recovery } from "./recovery.js";
 import { CurrentSession } from "./session/current_session.js";

@@ -2,7 +2,7 @@
 
 import { Cancelled, WorkerDied } from "./bench/faults.js";
 import { hex } from "./bench/numbers.js";
-import { wordsOfLastChange, wordsOfPlace } from "./debug/stop_words.js";
+import { wordsOfLastChange, wordsOfPlace } from "./words/stops.js";
 import { BreakpointsController } from "./machine/breakpoints_controller.js";
 import { HeatView } from "./machine/heat_view.js";
 import { LastChangeView } from "./machine/last_change_view.js";

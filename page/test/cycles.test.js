@@ -6,7 +6,7 @@ import { readBoard } from "../src/bench/answers.js";
 import { readInputs } from "../src/bench/inputs.js";
 import { placeOf } from "../src/bench/places.js";
 import { SourceMap } from "../src/machine/source_map.js";
-import { wordsOfHalt, wordsOfMove, wordsOfPlace, wordsOfStop } from "../src/debug/stop_words.js";
+import { wordsOfHalt, wordsOfMove, wordsOfPlace, wordsOfStop } from "../src/words/stops.js";
 
 test("cycles in words: 10.8 microseconds each", () => {
   assert.deepEqual([1, 926, 92593, 1000000].map(wordsOfCycles),

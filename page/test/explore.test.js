@@ -6,7 +6,7 @@ import { CampaignRun } from "../src/explore/campaign_run.js";
 import { readCampaign } from "../src/explore/campaign.js";
 import { countWalk, followsFromLooks } from "../src/explore/counting.js";
 import { Coverage } from "../src/explore/coverage.js";
-import { markOf, wordsOfEnd, wordsOfFigures, wordsOfProperty } from "../src/explore/explore_words.js";
+import { markOf, wordsOfEnd, wordsOfFigures, wordsOfProperty } from "../src/words/explored.js";
 import { Explorer } from "../src/explore/explorer.js";
 import { Exploring, readToExplore } from "../src/explore/exploring.js";
 import { partsOf } from "../src/explore/find_test.js";

@@ -1,6 +1,6 @@
 import assert from "node:assert/strict";
 import { test } from "node:test";
-import { markOfOutcomes, wordsOfCounts, wordsOfFaults, wordsOfOutcomes, wordsOfTime } from "../src/testing/result_words.js";
+import { markOfOutcomes, wordsOfCounts, wordsOfFaults, wordsOfOutcomes, wordsOfTime } from "../src/words/results.js";
 import { textOfCount, wordsOfCount } from "../src/text/count_marks.js";
 import { completeProperty, firstProperties, helpForProperty, propertyForms } from "../src/text/property_words.js";
 import { completeTest, helpForTest, testForms } from "../src/text/test_words.js";

@@ -2,7 +2,7 @@
 import assert from "node:assert/strict";
 import { before, test } from "node:test";
 import { DebugSession } from "../src/debug/debug_session.js";
-import { KINDS } from "../src/debug/usual_faults.js";
+import { KINDS } from "../src/words/debug.js";
 import { SourceMap } from "../src/machine/source_map.js";
 import { sentText } from "../src/text/text_fault.js";
 import { readProgram } from "../src/worker/program_check.js";

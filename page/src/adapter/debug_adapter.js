@@ -7,7 +7,7 @@
 import { hex } from "../bench/numbers.js";
 import { Face } from "../board/face.js";
 import { placeOfLine } from "../debug/breakpoints.js";
-import { KINDS } from "../debug/usual_faults.js";
+import { KINDS } from "../words/debug.js";
 import { instructionsOf } from "../help/manual.js";
 import { Words } from "../bench/words.js";
 import { Followed } from "./adapter_connection.js";

@@ -3,6 +3,7 @@
 
 import { BreakpointList, MOST_BREAKPOINTS, MOST_ON, placeOfAddress, placeOfLine } from "./breakpoints.js";
 import { isSoft } from "./soft_breakpoints.js";
+import * as say from "../words/debug.js";
 
 /**
  * @typedef {import("../machine/source_map.js").SourceMap} SourceMap
@@ -18,7 +19,7 @@ import { isSoft } from "./soft_breakpoints.js";
  *   tell: (words: string) => void, failed: (fault: unknown) => void }} KeeperCalls
  */
 
-const TOO_MANY = `${MOST_ON} breakpoints are on, as many as the bench has. This one is off: switch another one off first.`;
+const TOO_MANY = say.tooManyOn(MOST_ON);
 
 export class BreakpointKeeper {
   /** @param {KeeperCalls} calls */
@@ -168,7 +169,7 @@ export class BreakpointKeeper {
   }
 
   wordsOfLater() {
-    return this.words ? `${this.words} Until then this breakpoint stops nothing.` : "";
+    return this.words ? say.untilThen(this.words) : "";
   }
 
   /**
@@ -189,7 +190,7 @@ export class BreakpointKeeper {
   /** @param {Partial<KeptBreakpoint>} some */
   add(some) {
     if (this.list.all.length >= MOST_BREAKPOINTS) {
-      this.calls.tell(`${MOST_BREAKPOINTS} breakpoints are kept at most: take one away first.`);
+      this.calls.tell(say.mostBreakpoints(MOST_BREAKPOINTS));
       return;
     }
     const isFull = this.list.countOn >= MOST_ON;

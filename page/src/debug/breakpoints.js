@@ -1,6 +1,8 @@
 // Breakpoints as lines of a program's text: they move with the text, and where the text is what stands in ROM each has an address. One that
 // has no line of the text stands at an address alone.
 
+import * as say from "../words/debug.js";
+
 /**
  * @typedef {import("../machine/source_map.js").SourceMap} SourceMap
  * @typedef {import("./soft_breakpoints.js").Placed} Placed
@@ -245,11 +247,11 @@ export function placeOfLine(line, map) {
   for (let next = line + 1; next <= map.count; next++) {
     const address = map.addressOf(next);
     if (address !== undefined) {
-      const words = `Line ${line} puts no bytes into ROM: its breakpoint is at the next instruction, line ${next}.`;
+      const words = say.movedToNext(line, next);
       return { line: next, address, words };
     }
   }
-  return { line, address: -1, words: `No instruction follows on line ${line}: its breakpoint stops nothing.` };
+  return { line, address: -1, words: say.nothingFollows(line) };
 }
 
 /**
@@ -262,6 +264,6 @@ export function placeOfAddress(address, map) {
   const line = map.lineOf(address);
   const digits = address.toString(16).toUpperCase().padStart(3, "0");
   const next = placeOfLine(line + 1, map);
-  if (next.address < 0) return { line, address: map.addresses[line], words: `${digits} is inside the instruction of line ${line}.` };
-  return { ...next, words: `${digits} is inside the instruction of line ${line}: its breakpoint is at the next one, line ${next.line}.` };
+  if (next.address < 0) return { line, address: map.addresses[line], words: say.insideInstruction(digits, line) };
+  return { ...next, words: say.insideAndMoved(digits, line, next.line) };
 }

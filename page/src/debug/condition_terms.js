@@ -6,6 +6,7 @@ import { DisplayText } from "../board/display_text.js";
 import { lampsOf, printerOf } from "../board/face_board.js";
 import { SeenText, hasScannedDisplay } from "../worker/seen_text.js";
 import { wholeDuration } from "./durations.js";
+import * as say from "../words/debug.js";
 
 /**
  * @typedef {import("./conditions.js").Names} Names
@@ -48,8 +49,7 @@ export function lampAt(name, { face, board }) {
   if (named !== undefined) return named;
   if (/^\d+$/.test(name) && Number(name) < board.lamps.length) return Number(name);
   const there = [...face.lampNumbers].sort((one, other) => one[1] - other[1]).map(([each]) => each);
-  return fail(`the board has no lamp ${name}${there.length === 0 ? "; its text names no lamps (`# lamp 0: NAME ..`)"
-    : `; it has: ${there.join(" ")}`}`);
+  return fail(say.noLamp(name, there.join(" ")));
 }
 
 /**
@@ -83,17 +83,17 @@ function isOfDisplay(at, { face }) {
  */
 export function lampsTerm([, ...words], names) {
   const count = names.board.lamps.length;
-  if (words.length === 0) fail("it is written as `lamps PATTERN`, or `lamps NAME ..`, or `lamps none`");
+  if (words.length === 0) fail(say.LAMPS_FORM);
   let want = words.join("");
   if (!/^[*.?]+$/.test(want)) {
     const wanted = new Set(words.join(" ") === "none" ? [] : words.map((name) => lampAt(name, names)));
     want = upTo(count).map((at) => (wanted.has(at) ? "*" : isOfDisplay(at, names) ? "?" : ".")).join("");
   }
-  if (want.length !== count) fail(`a pattern of ${want.length} lamps; the board has ${count}`);
+  if (want.length !== count) fail(say.otherPattern(want.length, count));
   /** @type {(is: string) => string} */
   const remark = (is) => {
     const lit = [...names.face.lamps].filter(([at]) => is[at] === "*").sort(([one], [other]) => one - other);
-    return lit.length === 0 ? "" : `; lit: ${lit.map(([, { text }]) => text).join(" ")}`;
+    return lit.length === 0 ? "" : say.litLamps(lit.map(([, { text }]) => text).join(" "));
   };
   return {
     what: "lamps", isMany: true, want, places: ["lamps"], remark,
@@ -108,7 +108,7 @@ export function lampsTerm([, ...words], names) {
  * @returns {Term}
  */
 export function lampTerm([, name, want, ...more], names) {
-  if (more.length > 0 || !/^(on|off)$/.test(want || "")) fail("it is written as `lamp NAME on` or `lamp NAME off`");
+  if (more.length > 0 || !/^(on|off)$/.test(want || "")) fail(say.LAMP_FORM);
   const at = lampAt(name, names);
   /** @type {(values: string[]) => string} */
   const measure = ([marks]) => (marks[at] === "*" ? "on" : "off");
@@ -129,8 +129,8 @@ const shownWords = ({ number, names }) => (names === "" ? number : `${number} ${
  */
 export function displayTerm([, ...words], { face, board }) {
   const displays = face.groups.filter(({ kind }) => kind === "display");
-  if (displays.length === 0) fail("the board's text names no display (`# display 0: 4 digits`)");
-  if (words.length === 0) fail("it is written as `display TEXT`, as in: display -18");
+  if (displays.length === 0) fail(say.NO_DISPLAY);
+  if (words.length === 0) fail(say.DISPLAY_FORM);
   const reader = new DisplayText(displays, [...face.lamps].map(([at, { text }]) => ({ at, text })));
   const want = words.join(" ");
   /** @type {(is: string) => boolean} */
@@ -149,8 +149,8 @@ export function displayTerm([, ...words], { face, board }) {
  * @returns {Term}
  */
 export function printedTerm([, ...words], { face, board }) {
-  if (!printerOf(board, face)) fail("the board's text names no printer (`# printer rom0.2: ram0.2 0 1 2 + feed`)");
-  if (words.length === 0) fail("it is written as `printed TEXT`, the last lines of the paper, as in: printed 12+ 30= 42");
+  if (!printerOf(board, face)) fail(say.NO_PRINTER);
+  if (words.length === 0) fail(say.PRINTED_FORM);
   const want = words.join(" ");
   return {
     what: "printed", want, places: [], beside: "printed", fits: (is) => is === want,
@@ -167,7 +167,7 @@ export function cyclesTerm([, ...words]) {
   const bound = words[0] === "at" ? words.slice(0, 2).join(" ") : "";
   const cycles = wholeDuration(words.slice(bound === "" ? 0 : 2));
   if (cycles < 1 || !/^(|at most|at least)$/.test(bound)) {
-    fail("it is written as `cycles TIME`, `cycles at most TIME` or `cycles at least TIME`");
+    fail(say.CYCLES_FORM);
   }
   /** @type {(is: number) => boolean} */
   const fits = (is) => (bound === "" ? is === cycles : bound === "at most" ? is <= cycles : is >= cycles);
@@ -198,7 +198,7 @@ export function counterTerm(address, want, names) {
   const digits = hex(address, 3);
   return {
     what: "pc", want, places: ["pc"],
-    measure: ([value], { owed }) => `${namedAddress(parseInt(value, 16), names)}${owed === "1" ? ", within an instruction" : ""}`,
+    measure: ([value], { owed }) => `${namedAddress(parseInt(value, 16), names)}${owed === "1" ? say.WITHIN_INSTRUCTION : ""}`,
     fits: (is, { owed }) => is.slice(0, 3) === digits && owed !== "1",
     single: { read: ([value]) => parseInt(value, 16), wanted: address },
     address,
@@ -213,7 +213,7 @@ export function counterTerm(address, want, names) {
  */
 export function labelAt(name, { map }) {
   const found = map.names.get(name);
-  return found && found.isLabel ? found.value : fail(`the program has no label ${name}`);
+  return found && found.isLabel ? found.value : fail(say.noLabel(name));
 }
 
 /**
@@ -247,14 +247,14 @@ function valueWithin(word, most, form) {
  */
 function romTerm([name, ...words], { board }) {
   const [chip, line] = name.slice(3).split(".");
-  const rom = board.roms.find((each) => String(each.chip) === chip) || fail(`the board has no ROM ${chip}`);
+  const rom = board.roms.find((each) => String(each.chip) === chip) || fail(say.noRom(chip));
   if (line !== undefined) {
-    const form = "it is written as `romC.K 0` or `romC.K 1`, K 0 to 3";
+    const form = say.ROM_LINE_FORM;
     if (Number(line) > 3 || words.length !== 1) fail(form);
     return lineTerm(`rom${chip}.${Number(line)}`, words[0], form);
   }
   const [way, word] = words;
-  const form = `it is written as \`${name} in VALUE\` or \`${name} out VALUE\`, 0 to 15`;
+  const form = say.romPortForm(name);
   if (words.length !== 2 || !/^(in|out)$/.test(way)) fail(form);
   const ones = upTo(4).filter((at) => rom.port[3 - at] === "1").reduce((sum, at) => sum + 2 ** at, 0);
   const inputs = upTo(4).filter((at) => rom.port[3 - at] === "i").reduce((sum, at) => sum + 2 ** at, 0);
@@ -279,13 +279,13 @@ function lineTerm(place, word, form) {
  */
 function ramPortTerm([name, ...words], { board }) {
   const [bank, chip, line] = name.slice(3).split(".").map(Number);
-  if (!board.banks.some((each) => each.bank === bank && chip < each.chips)) fail(`the board has no RAM chip ${bank}.${chip}`);
+  if (!board.banks.some((each) => each.bank === bank && chip < each.chips)) fail(say.noRamChip(bank, chip));
   if (line !== undefined) {
-    const form = "it is written as `ramB.C.K 0` or `ramB.C.K 1`, K 0 to 3";
+    const form = say.RAM_LINE_FORM;
     if (line > 3 || words.length !== 1) fail(form);
     return lineTerm(`ram${bank}.${chip}.${line}`, words[0], form);
   }
-  const form = `it is written as \`${name} out VALUE\`, 0 to 15`;
+  const form = say.ramPortForm(name);
   if (words.length !== 2 || words[0] !== "out") fail(form);
   const parts = { what: `${name} out`, want: words[1], places: [`ram${bank}.${chip}`] };
   return numberTerm(parts, valueWithin(words[1], 15, form), ([value]) => parseInt(value, 16));
@@ -298,15 +298,15 @@ function ramPortTerm([name, ...words], { board }) {
  */
 function chainTerm([name, ...words], { board }) {
   const [chain, line] = name.slice(5).split(".").map(Number);
-  if (chain >= board.chains.length) fail(`the board has no chain ${chain}`);
+  if (chain >= board.chains.length) fail(say.noChain(chain));
   const bits = 10 * board.chains[chain].chips;
   if (line !== undefined) {
-    const form = `it is written as \`chainN.I 0\` or \`chainN.I 1\`, and chain ${chain} has ${bits} bits`;
+    const form = say.chainForm(chain, bits);
     if (line >= bits || words.length !== 1) fail(form);
     return lineTerm(`chain${chain}.${line}`, words[0], form);
   }
   const want = words.join("");
-  if (!/^[01?]+$/.test(want) || want.length !== bits) fail(`chain ${chain} has ${bits} bits, each 0, 1, or ? for any`);
+  if (!/^[01?]+$/.test(want) || want.length !== bits) fail(say.chainBits(chain, bits));
   return { what: name, want, places: [`chain${chain}`], measure: first, fits: (is) => fitsPattern(is, want) };
 }
 
@@ -339,10 +339,10 @@ function memoryPlaces(place, count, { board }) {
   const [kind, ...parts] = place.split(".");
   const [bank, at, third] = parts.map(numberOf);
   const [most, each] = kind === "ram" ? [255, 64] : [15, 4];
-  if (!(bank <= 7) || !(at <= most)) fail(`there is no place ${place}; a place of RAM is ram.BANK.SRC or st.BANK.REGISTER.NUMBER`);
+  if (!(bank <= 7) || !(at <= most)) fail(say.noPlaceOfRam(place));
   const chips = (board.banks.find((one) => one.bank === bank) || { chips: 0 }).chips;
-  if (at >= chips * each) fail(`the board has no RAM chip for ${place}`);
-  if (at + count > chips * each) fail("the board has no RAM chip for the last of these characters");
+  if (at >= chips * each) fail(say.noRamFor(place));
+  if (at + count > chips * each) fail(say.NO_RAM_FOR_LAST);
   return upTo(count).map((more) => (kind === "ram" ? `ram.${bank}.${at + more}` : `st.${bank}.${at}.${third}`));
 }
 
@@ -356,11 +356,11 @@ function memoryPlaces(place, count, { board }) {
 export function placesOf(place, count, names, more = "") {
   if (/^(acc|cy|pc|dcl|r\d|r1[0-5])$/.test(place)) return [place];
   if (place === "test" || (place === "owed" && more === "")) return [];
-  if (/^r\d+$/.test(place)) fail(`the registers are r0 to r15, not ${place}`);
+  if (/^r\d+$/.test(place)) fail(say.registersAre(place));
   const parts = place.split(".");
   const isStatus = parts.length === 4 && parts[0] === "st" && numberOf(parts[3]) <= 3;
   if (isStatus || (parts.length === 3 && parts[0] === "ram")) return memoryPlaces(place, count, names);
-  return fail(`there is no place ${place}; places are acc, cy, pc, dcl, test, r0 to r15, ram.B.S, st.B.H.K${more}`);
+  return fail(say.noPlace(place, more));
 }
 
 /**
@@ -371,12 +371,12 @@ export function placesOf(place, count, names, more = "") {
  */
 export function placeTerm([place, ...words], names) {
   const places = placesOf(place, Math.max(1, words.length), names);
-  if (words.length === 0) fail(`it is written as \`${place} VALUE\``);
-  if (words.length > 1 && !place.startsWith("ram.")) fail(`${place} is one value`);
+  if (words.length === 0) fail(say.placeForm(place));
+  if (words.length > 1 && !place.startsWith("ram.")) fail(say.isOneValue(place));
   const most = largestOf(place);
   const values = words.map((word) => {
     const value = valueOf(word, names);
-    return value <= most ? value : fail(`${place} holds 0 to ${most}, not ${word}`);
+    return value <= most ? value : fail(say.holds(place, most, word));
   });
   const want = values.join(" ");
   if (place === "pc") return counterTerm(values[0], want, names);

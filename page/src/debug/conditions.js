@@ -13,6 +13,7 @@
 
 import { Unreadable, counterTerm, fail, labelAt, placeTerm, portTerm } from "./condition_terms.js";
 import { cyclesTerm, displayTerm, lampTerm, lampsTerm, printedTerm } from "./condition_terms.js";
+import * as say from "../words/debug.js";
 
 /**
  * @typedef {import("../bench/answers.js").Board} Board
@@ -57,7 +58,7 @@ function termOf(words, names) {
   if (word === "printed") return printedTerm(words, names);
   if (word === "cycles") return cyclesTerm(words);
   if (word.startsWith("@")) {
-    if (words.length > 1) fail("a label stands alone: @LABEL");
+    if (words.length > 1) fail(say.LABEL_FORM);
     return counterTerm(labelAt(word.slice(1), names), word, names);
   }
   return PORT.test(word) ? portTerm(words, names) : placeTerm(words, names);
@@ -71,7 +72,7 @@ function termOf(words, names) {
  */
 function partOf(words, read) {
   const begin = words.findIndex((word) => word !== "not");
-  if (begin < 0) return fail("a condition is missing");
+  if (begin < 0) return fail(say.NO_CONDITION);
   return { term: read(words.slice(begin)), isNot: begin % 2 === 1 };
 }
 
@@ -80,8 +81,7 @@ function partOf(words, read) {
  * @param {string} is
  */
 function toldOf({ term: { what, want, isMany, remark }, isNot }, is) {
-  const [be, have] = isMany ? ["are", "have"] : ["is", "has"];
-  return `${what} ${be} ${is || "dark"}, and ${have} ${isNot ? "not " : ""}to be ${want}${remark ? remark(is) : ""}`;
+  return say.hasToBe(what, is, want + (remark ? remark(is) : ""), isMany === true, isNot);
 }
 
 /**
@@ -91,7 +91,7 @@ function toldOf({ term: { what, want, isMany, remark }, isNot }, is) {
  */
 function joined(parts, text) {
   const places = [...new Set(parts.flatMap(({ term }) => term.places))];
-  if (places.length > MOST_PLACES) fail(`it looks at ${places.length} places, and ${MOST_PLACES} are the most`);
+  if (places.length > MOST_PLACES) fail(say.tooManyPlaces(places.length, MOST_PLACES));
   const looks = parts.map(({ term }) => term.places.map((place) => places.indexOf(place)));
   /** @type {(values: string[], at: number, beside: Beside) => string} */
   const measured = (values, at, beside) => parts[at].term.measure(looks[at].map((look) => values[look]), beside);
@@ -141,7 +141,7 @@ export function testConditionOf(words, names) {
  */
 function freeTermOf(words, names) {
   if (words[0] === "at") {
-    if (words.length !== 2) fail("it is written as `at LABEL`");
+    if (words.length !== 2) fail(say.AT_FORM);
     const label = words[1].replace(/^@/, "");
     return counterTerm(labelAt(label, names), `@${label}`, names);
   }
@@ -161,7 +161,7 @@ function freeTermOf(words, names) {
  * @returns {never}
  */
 function noNumber(sign) {
-  return fail(`${sign} stands between a place that holds one number, and a number`);
+  return fail(say.signForm(sign));
 }
 
 /**
@@ -183,9 +183,9 @@ function freePartOf(text, names) {
   const sign = isNamed(words) ? -1 : alone.findIndex((word) => word === "=" || word === "!=");
   const rest = alone.filter((_, at) => at !== sign);
   const { term, isNot } = partOf(rest, (each) => freeTermOf(each, names));
-  if (term.beside === "seen") fail("the digits are lit by turns, so no instant shows a number: `display` is for the lines of a test");
-  if (term.beside === "printed") fail("what is printed comes line by line: `printed` is for the lines of a test");
-  if (term.beside) fail(`no run changes ${term.what}, and no trace shows it: it is for the lines of a test`);
+  if (term.beside === "seen") fail(say.LIT_BY_TURNS);
+  if (term.beside === "printed") fail(say.LINE_BY_LINE);
+  if (term.beside) fail(say.onlyInTests(term.what));
   return { term, isNot: isNot !== (alone[sign] === "!=") };
 }
 

@@ -21,7 +21,8 @@ import { readProgram } from "../worker/program_check.js";
 import { WorkerSession } from "../worker/worker_session.js";
 import { BreakpointList } from "./breakpoints.js";
 import { Debugger, NO_TALLY, bothTallies, nearOf } from "./debugger.js";
-import { wordsOfGone, wordsOfHalt, wordsOfPlace, wordsOfStop, wordsOfWhen } from "./stop_words.js";
+import { wordsOfGone, wordsOfHalt, wordsOfPlace, wordsOfStop, wordsOfWhen } from "../words/stops.js";
+import * as say from "../words/debug.js";
 
 /**
  * @typedef {import("../bench/answers.js").Refusal} Refusal
@@ -217,7 +218,7 @@ export class DebugSession {
     this.breakpoints.count(tally.hits);
     if (id === 0) return { ...told, tally, words: "" };
     const { words } = this.stopped(null, { why: "break", id, cycles, returns: false }, tally);
-    return { ...told, tally, words: `${words} The line ${cut} ended there.` };
+    return { ...told, tally, words: say.lineEnded(words, cut) };
   }
 
   // --- where it stands ---

@@ -6,6 +6,7 @@
 //     changes.lines                              Map { 12 => "acc 5 cy 1" }, the last one last
 
 import { partsOf } from "../text/assembly.js";
+import * as say from "../words/debug.js";
 
 /**
  * @typedef {import("../machine/source_map.js").SourceMap} SourceMap
@@ -25,7 +26,7 @@ export function wordsOfChanges(before, after) {
   const old = before.all();
   const changed = [...after.all()].filter(([name, value]) => old.get(name) !== value).map(([name, value]) => `${name} ${value}`);
   const more = changed.length - MOST_CHANGES;
-  return changed.slice(0, MOST_CHANGES).join(" ") + (more > 0 ? ` and ${more} more` : "");
+  return changed.slice(0, MOST_CHANGES).join(" ") + (more > 0 ? say.andMore(more) : "");
 }
 
 /**

@@ -2,6 +2,7 @@
 // another SRC was meant.
 
 import { hex, numberOf } from "../bench/numbers.js";
+import * as say from "../words/debug.js";
 
 /**
  * @typedef {import("../bench/answers.js").Board} Board
@@ -92,20 +93,20 @@ export class Selected {
   faultOfPort(name, address, chip) {
     const port = this.ports.get(chip);
     const isWrite = name === "WRR";
-    const what = `${name} ${isWrite ? "writes to" : "reads"} ROM ${chip}`;
-    if (port === undefined) return isWrite ? { kind: "chip", words: `${what}, which the board lacks${this.told}` } : null;
-    if (isWrite && !/[01]/.test(port)) return { kind: "lines", words: `${what}, whose port has no output line${this.told}` };
-    if (!isWrite && !port.includes("i")) return { kind: "lines", words: `${what}, whose port has no input line${this.told}` };
+    const what = say.usesRom(name, isWrite, chip);
+    if (port === undefined) return isWrite ? { kind: "chip", words: say.whichLacks(what, this.told) } : null;
+    if (isWrite && !/[01]/.test(port)) return { kind: "lines", words: say.noOutputs(what, this.told) };
+    if (!isWrite && !port.includes("i")) return { kind: "lines", words: say.noInputs(what, this.told) };
     const before = this.used.get(address);
     const user = [...this.users].find((each) => each !== name);
     if (user === undefined || before === undefined || before === chip) return null;
-    const words = `this ${what}, and before it used ROM ${before}: the last SRC${this.source < 0 ? "" : `, at ${hex(this.source, 3)},`}`;
-    return { kind: "source", words: `${words} was for ${user === "RAM" ? user : `an ${user}`}; is an SRC missing?` };
+    const words = say.usedBefore(what, before, this.source < 0 ? "" : say.atAddress(hex(this.source, 3)));
+    return { kind: "source", words: say.sourceWasFor(words, user === "RAM" ? user : `an ${user}`) };
   }
 
   /** Where the last SRC stands, if it was seen. */
   get told() {
-    return this.source < 0 ? "" : `; the last SRC is at ${hex(this.source, 3)}`;
+    return this.source < 0 ? "" : say.lastSource(hex(this.source, 3));
   }
 
   /**
@@ -117,7 +118,7 @@ export class Selected {
     const chips = this.chips.get(bank) || 0;
     const chip = (this.kept.get(bank) || 0) >> 6;
     if (chip < chips) return null;
-    const words = chips === 0 ? `bank ${bank}, where the board has no RAM` : `chip ${chip} of bank ${bank}, which has ${chips}`;
-    return { kind: "chip", words: `${name} writes to ${words}${this.told}` };
+    const words = chips === 0 ? say.bankWithoutRam(bank) : say.chipOf(chip, bank, chips);
+    return { kind: "chip", words: say.writesTo(name, words, this.told) };
   }
 }

@@ -2,6 +2,7 @@
 
 import { placeOf } from "../bench/places.js";
 import { conditionOf } from "./conditions.js";
+import * as say from "../words/debug.js";
 
 /**
  * @typedef {import("./arrivals.js").SoftBreakpoint} SoftBreakpoint
@@ -35,7 +36,7 @@ export function noteOf(text, { board, face }) {
     const place = placeOf(lamp === undefined ? found[1] : `lamp ${lamp}`);
     const probes = place ? place.probesOn(board) : [];
     if (!place || probes.length === 0) {
-      fault = fault || `the note asks for ${part}, ${place ? "which this board lacks" : "which is no place, as {r9} or {lamps} is"}`;
+      fault = fault || say.noteAsks(part, place !== null);
       return () => part;
     }
     const from = places.length;

@@ -4,6 +4,7 @@
 import { readRam } from "../bench/answers.js";
 import { hex } from "../bench/numbers.js";
 import { partsOfState, portsOf, registersOf } from "../bench/state_line.js";
+import * as say from "../words/debug.js";
 
 /**
  * @typedef {import("../bench/answers.js").Ram} Ram
@@ -16,7 +17,7 @@ import { partsOfState, portsOf, registersOf } from "../bench/state_line.js";
  * @param {number} byte
  */
 export function wordsOfCharacter(byte) {
-  return `chip ${byte >> 6}, register ${byte >> 4 & 3}, character ${byte & 15}`;
+  return say.characterAt(byte >> 6, byte >> 4 & 3, byte & 15);
 }
 
 export class Standing {
@@ -129,7 +130,7 @@ export class Standing {
     registers.registers.forEach((value, at) => all.set(`R${at}`, value));
     for (const source of ports.sources) {
       const [bank, byte] = source.split(".");
-      all.set(byte === undefined ? "SRC" : `SRC of bank ${bank}`, byte === undefined ? bank : byte);
+      all.set(byte === undefined ? "SRC" : say.sourceOf(bank), byte === undefined ? bank : byte);
     }
     for (const [bank, ram] of this.ram) {
       for (const [place, { characters, status }] of ram.registers) {

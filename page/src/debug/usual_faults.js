@@ -14,6 +14,7 @@ import { isCall, isReturn, romCodes } from "../worker/rom_codes.js";
 import { Answers, valuesOf } from "../worker/tracing.js";
 import { cyclesOfStep, stepsUpTo } from "./ahead.js";
 import { Selected, usesSelected } from "./selected.js";
+import * as say from "../words/debug.js";
 
 /**
  * @typedef {import("../machine/source_map.js").SourceMap} SourceMap
@@ -27,16 +28,7 @@ import { Selected, usesSelected } from "./selected.js";
  * @typedef {{ faults: UsualFault[], stop: number }} Looked
  */
 
-/** Each kind, as a switch that stops at it is called. */
-export const KINDS = /** @type {Record<Kind, string>} */ ({
-  calls: "a fourth JMS inside three others",
-  return: "a BBL without a call",
-  lines: "WRR or RDR at a port without such lines",
-  chip: "a write to a chip that the board lacks",
-  bytes: "bytes that no line of the source put there",
-  source: "an SRC that still points elsewhere",
-});
-const ALL = Object.keys(KINDS).length;
+const ALL = Object.keys(say.KINDS).length;
 /** After time began and after each key so many cycles are looked at, half a second of a real 4004; then one look in so many. */
 const LOOKED_CYCLES = 50000;
 const SAMPLE = 16;
@@ -197,13 +189,13 @@ export class UsualFaults {
    */
   faultOf(codes, address, values) {
     const code = codes[address];
-    if (this.isUnspelled(address)) return { kind: "bytes", words: "it runs on where no line of the source put a byte" };
+    if (this.isUnspelled(address)) return { kind: "bytes", words: say.RUNS_ON };
     if (!isCall(code) && !isReturn(code)) return null;
     const returns = values[2].split(",").map((each) => parseInt(each, 16));
     const [newest, , oldest] = returns.map((each) => hex(each, 3));
     const live = areLive(returns, returns.map((each) => hex(codes[callBefore(each)], 2)), this.map);
-    if (isReturn(code)) return live[0] ? null : { kind: "return", words: `a BBL without a call: it goes to ${newest}, behind no JMS` };
-    return live[2] ? { kind: "calls", words: `a fourth JMS inside three others: the way back to ${oldest} is lost` } : null;
+    if (isReturn(code)) return live[0] ? null : { kind: "return", words: say.returnGoes(newest) };
+    return live[2] ? { kind: "calls", words: say.wayBackLost(oldest) } : null;
   }
 
   /** @param {number} address */

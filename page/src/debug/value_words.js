@@ -6,6 +6,7 @@
 import { hex, numberOf } from "../bench/numbers.js";
 import { NUMBER, PAIR, REGISTER, partsOf, wordAt } from "../text/assembly.js";
 import { wordsOfCharacter } from "./standing.js";
+import * as say from "../words/debug.js";
 
 /**
  * @typedef {import("./standing.js").Standing} Standing
@@ -60,9 +61,9 @@ function machineValue(place, name, { registers }) {
  * @returns {Piece[]}
  */
 function characterPieces(bank, byte, standing) {
-  const words = `bank ${bank}, ${wordsOfCharacter(byte)}`;
+  const words = say.inBank(bank, wordsOfCharacter(byte));
   const value = standing.character(bank, byte);
-  if (value === "") return [`${words}, which the board lacks`];
+  if (value === "") return [say.boardLacks(words)];
   return [`${words} = `, { place: `ram.${bank}.0x${hex(byte, 2)}`, name: words, value }];
 }
 
@@ -74,9 +75,9 @@ function characterPieces(bank, byte, standing) {
  */
 function selectedBy(byte, standing) {
   const chip = byte >> 4;
-  const rom = standing.romPort(chip) ? [`ROM ${chip}`] : [];
+  const rom = standing.romPort(chip) ? [say.romChip(chip)] : [];
   const hasRam = standing.sourceOf() !== undefined;
-  if (!hasRam) return rom.length > 0 ? rom : ["nothing that the board has"];
+  if (!hasRam) return rom.length > 0 ? rom : [say.NOTHING_THERE];
   return [...rom.map((each) => `${each}; `), ...characterPieces(standing.bank, byte, standing)];
 }
 
@@ -94,7 +95,7 @@ function registerPieces(word, { head }, standing) {
   const pieces = [`P${number} = ${byte}: R${2 * number} `, registerValue(2 * number, standing), `, R${2 * number + 1} `,
     registerValue(2 * number + 1, standing)];
   if (!head || head.text.toUpperCase() !== "SRC") return pieces;
-  return [...pieces, "; selects ", ...selectedBy(parseInt(byte, 16), standing)];
+  return [...pieces, say.SELECTS, ...selectedBy(parseInt(byte, 16), standing)];
 }
 
 /**
@@ -108,21 +109,21 @@ function portPieces(name, standing) {
   if (name === "WRR" || name === "RDR") {
     const chip = standing.source >> 4;
     const port = standing.romPort(chip);
-    return [port ? `ROM ${chip}: puts out ${port.out}, RDR reads ${port.in}` : `ROM ${chip}, which the board lacks`];
+    return [port ? say.portOfRom(chip, port.out, port.in) : say.boardLacks(say.romChip(chip))];
   }
   const byte = standing.sourceOf();
   const uses = CHARACTER.has(name) || name === "WMP" || STATUS.test(name);
-  if (byte === undefined) return uses ? [`bank ${bank}, where the board has no RAM`] : [];
+  if (byte === undefined) return uses ? [say.bankWithoutRam(bank)] : [];
   if (CHARACTER.has(name)) return characterPieces(bank, byte, standing);
   if (name === "WMP") {
     const out = standing.ramPort(bank, byte >> 6);
-    return [`bank ${bank}, chip ${byte >> 6}: ${out === "" ? "the board lacks it" : `its port puts out ${out}`}`];
+    return [say.portOfRam(bank, byte >> 6, out)];
   }
   const status = STATUS.exec(name);
   if (!status) return [];
-  const words = `bank ${bank}, chip ${byte >> 6}, register ${byte >> 4 & 3}, status character ${status[1]}`;
+  const words = say.statusAt(bank, byte >> 6, byte >> 4 & 3, status[1]);
   const value = standing.status(bank, byte >> 4, Number(status[1]));
-  if (value === "") return [`${words}, which the board lacks`];
+  if (value === "") return [say.boardLacks(words)];
   return [`${words} = `, { place: `st.${bank}.${byte >> 4}.${status[1]}`, name: words, value }];
 }
 
@@ -156,7 +157,7 @@ function numberPieces(written, value, { head }, standing) {
   if (!(value <= 255)) return [written];
   const binary = value.toString(2).padStart(value > 15 ? 8 : 4, "0").replace(/(....)(....)/, "$1 $2");
   if (!head || head.text.toUpperCase() !== "FIM") return [`${written}, ${binary}`];
-  return [`${written}, ${binary}; by SRC it selects `, ...selectedBy(value, standing)];
+  return [say.bySource(written, binary), ...selectedBy(value, standing)];
 }
 
 /**
@@ -182,5 +183,5 @@ export function valuesAt(text, at, standing, { nameOf, doesOf }) {
   const name = nameOf(word.text);
   if (!name) return [];
   if (!name.isLabel) return numberPieces(name.words, name.value, parts, standing);
-  return [standing.registers.counter === hex(name.value, 3) ? `${name.words}, and comes next` : name.words];
+  return [standing.registers.counter === hex(name.value, 3) ? say.comesNext(name.words) : name.words];
 }

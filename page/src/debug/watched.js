@@ -5,6 +5,7 @@
 
 import { hex, numberOf } from "../bench/numbers.js";
 import { NAME } from "../text/assembly.js";
+import * as say from "../words/debug.js";
 
 /**
  * @typedef {import("./standing.js").Standing} Standing
@@ -14,8 +15,6 @@ import { NAME } from "../text/assembly.js";
  * @typedef {(standing: Standing) => Piece[]} Reader
  */
 
-export const WATCHED_FORMS = "acc, cy, dcl, R5, P2, ram 0 0x12 (bank, SRC byte), st 0 1 2 (bank, register, number), rom1, ram0.1; "
-  + "with a name as in: count = R5";
 /** So many are watched, and a text of one has so many characters. */
 export const MOST_WATCHED = 40;
 const LONGEST = 60;
@@ -29,7 +28,7 @@ const LONGEST = 60;
 function cell(place, value) {
   return (standing) => {
     const is = value(standing);
-    return is === "" ? ["the board lacks it"] : [{ place, name: place, value: is }];
+    return is === "" ? [say.LACKED] : [{ place, name: place, value: is }];
   };
 }
 
@@ -81,14 +80,14 @@ function portReader(text) {
   if (rom) {
     return (standing) => {
       const port = standing.romPort(Number(rom[1]));
-      return [port ? `out ${port.out}, in ${port.in}` : "the board lacks it"];
+      return [port ? say.outAndIn(port.out, port.in) : say.LACKED];
     };
   }
   const ram = /^ram([0-7])\.([0-3])$/.exec(text);
   if (!ram) return null;
   return (standing) => {
     const out = standing.ramPort(Number(ram[1]), Number(ram[2]));
-    return [out === "" ? "the board lacks it" : `out ${out}`];
+    return [out === "" ? say.LACKED : `out ${out}`];
   };
 }
 
@@ -101,13 +100,13 @@ export function readWatched(text) {
   const equals = text.indexOf("=");
   const name = equals < 0 ? "" : text.slice(0, equals).trim();
   const place = text.slice(equals + 1).trim();
-  if (text.length > LONGEST) return { watched: null, fault: `It has more than ${LONGEST} characters.` };
-  if (equals >= 0 && !NAME.test(name)) return { watched: null, fault: "A name has letters, digits and _, as in: count = R5." };
+  if (text.length > LONGEST) return { watched: null, fault: say.tooLong(LONGEST) };
+  if (equals >= 0 && !NAME.test(name)) return { watched: null, fault: say.NAME_FORM };
   const lower = place.toLowerCase();
   const words = lower.split(/[\s.]+/);
   const character = characterPlace(words);
   const pieces = machineReader(words) || portReader(lower) || memoryReader(character);
-  if (!pieces) return { watched: null, fault: `${place === "" ? "Nothing" : place} is nothing to watch; there are ${WATCHED_FORMS}.` };
+  if (!pieces) return { watched: null, fault: say.nothingToWatch(place || say.NOTHING, say.WATCHED_FORMS) };
   return { watched: { name: name || place, text: name ? `${name} = ${place}` : place, place: character, pieces }, fault: "" };
 }
 

@@ -5,9 +5,9 @@ import { button, field, onClick } from "../ui/dom.js";
 import { BesideText } from "../text/beside_text.js";
 import { completeProperty, firstProperties, helpForProperty, propertyForms } from "../text/property_words.js";
 import { definePropertiesMode } from "../text/test_mode.js";
-import { wordsOfFaults } from "../testing/result_words.js";
+import { wordsOfFaults } from "../words/results.js";
 import { ExploreView } from "./explore_view.js";
-import { markOfReport, wordsOfEnd, wordsSoFar } from "./explore_words.js";
+import { markOfReport, wordsOfEnd, wordsSoFar } from "../words/explored.js";
 
 /**
  * @typedef {import("../testing/prepared.js").TextFault} TextFault

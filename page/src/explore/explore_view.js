@@ -1,7 +1,7 @@
 // What comes of looking for what breaks properties: a row for each of them, with what was found; and what was run of the program.
 
 import { Cell, Switch, below, block, element, onClick } from "../ui/dom.js";
-import { coverageOf, markOf, wordsOfFigures, wordsOfProperty } from "./explore_words.js";
+import { coverageOf, markOf, wordsOfFigures, wordsOfProperty } from "../words/explored.js";
 
 /**
  * @typedef {import("./report.js").Report} Report

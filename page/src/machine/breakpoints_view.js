@@ -2,7 +2,7 @@
 // logged.
 
 import { wordsOfCycles } from "../time/cycles.js";
-import { wordsOfPlace } from "../debug/stop_words.js";
+import { wordsOfPlace } from "../words/stops.js";
 import { Cell, Switch, block, button, element, onClick } from "../ui/dom.js";
 import { countOf, counted, hex } from "../bench/numbers.js";
 import { markOf } from "./breakpoint_marks.js";

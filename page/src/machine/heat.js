@@ -1,7 +1,7 @@
 // How warm a cell is by how often, or how lately, it has changed, in five steps; and words on it. Without a document.
 
 import { hex } from "../bench/numbers.js";
-import { wordsOfPlace } from "../debug/stop_words.js";
+import { wordsOfPlace } from "../words/stops.js";
 import { wordsOfCycles } from "../time/cycles.js";
 import * as say from "../words/machine.js";
 

@@ -2,7 +2,7 @@
 // stops time at the next one of its kind.
 
 import { block, element, onClick } from "../ui/dom.js";
-import { KINDS } from "../debug/usual_faults.js";
+import { KINDS } from "../words/debug.js";
 import * as say from "../words/machine.js";
 
 /**

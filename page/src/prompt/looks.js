@@ -3,7 +3,7 @@
 import { counted, hex, numberOf, upTo } from "../bench/numbers.js";
 import { linesOfBreakpoints } from "../debug/breakpoint_lines.js";
 import { Standing } from "../debug/standing.js";
-import { wordsOfPlace } from "../debug/stop_words.js";
+import { wordsOfPlace } from "../words/stops.js";
 import { framesOf } from "../adapter/frames.js";
 import { rowsAt } from "../adapter/disassembly.js";
 import { refuse } from "./words_of_line.js";

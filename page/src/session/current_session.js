@@ -1,7 +1,7 @@
 // The session that is shown: another one is shown in its place, it is kept, and its name stands where names stand.
 
 import { field, block } from "../ui/dom.js";
-import { wordsOfBroken } from "../debug/stop_words.js";
+import { wordsOfBroken } from "../words/stops.js";
 import { NONE } from "../time/cycles.js";
 import { addressOf } from "./address.js";
 import { KeptSession } from "./kept_session.js";

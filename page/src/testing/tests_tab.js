@@ -6,7 +6,7 @@ import { button, onClick } from "../ui/dom.js";
 import { BesideText } from "../text/beside_text.js";
 import { defineTestMode } from "../text/test_mode.js";
 import { completeTest, helpForTest, testForms } from "../text/test_words.js";
-import { markOfOutcomes, wordsOfFaults, wordsOfOutcomes } from "./result_words.js";
+import { markOfOutcomes, wordsOfFaults, wordsOfOutcomes } from "../words/results.js";
 import { TestsView } from "./tests_view.js";
 
 /**

@@ -2,7 +2,7 @@
 
 import { Cell, below, block, element, onClick } from "../ui/dom.js";
 import { hex } from "../bench/numbers.js";
-import { wordsOfCounts, wordsOfTime } from "./result_words.js";
+import { wordsOfCounts, wordsOfTime } from "../words/results.js";
 
 /**
  * @typedef {import("./profile.js").Profile} Profile

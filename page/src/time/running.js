@@ -1,7 +1,7 @@
 // Time that runs: by the clock or at full speed, up to a stop, and what is told of it.
 
 import { isStop, readRun, refusalOf } from "../bench/answers.js";
-import { wordsOfHalt, wordsOfMove, wordsOfStop, wordsOfWhen } from "../debug/stop_words.js";
+import { wordsOfHalt, wordsOfMove, wordsOfStop, wordsOfWhen } from "../words/stops.js";
 import { Cell, block, button } from "../ui/dom.js";
 import { wordsOfTime } from "../bench/words.js";
 import { AskedKeys } from "../board/asked_keys.js";

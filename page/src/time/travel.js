@@ -1,6 +1,6 @@
 // Going on to a goal, back and forward in time, and what the status says of it.
 
-import { wordsOfGone } from "../debug/stop_words.js";
+import { wordsOfGone } from "../words/stops.js";
 import * as say from "../words/time.js";
 
 /**

@@ -2,6 +2,7 @@
 
 import { Waves } from "./waves.js";
 import { cyclesText, grouped, microseconds } from "./wave_words.js";
+import * as say from "../words/waves.js";
 
 /**
  * @typedef {import("../worker/live_recorder.js").LivePart} LivePart
@@ -11,17 +12,6 @@ import { cyclesText, grouped, microseconds } from "./wave_words.js";
  * stops where it ends.
  * @typedef {{ most: number, behind: number, trigger: string, stopsTime: boolean }} LiveChoice
  */
-
-/** @type {Record<string, string>} why nothing more is recorded */
-const ENDS = {
-  hand: "It was stopped.",
-  back: "It ended where the session went back or forward.",
-  board: "It ended where the board was wired anew.",
-  program: "It ended where other bytes were put into ROM.",
-  lines: "It ended at lines that did more than it can follow.",
-  long: "It ended after 4,000,000,000 cycles.",
-  lost: "It ended: the bench began anew.",
-};
 
 export class LiveWaves {
   /**
@@ -59,18 +49,18 @@ export class LiveWaves {
   /** How much is kept, which changes all the time. */
   get kept() {
     const { waves } = this;
-    return waves.cycles === 0 ? "" : `${cyclesText(waves.span)}, ${microseconds(waves.span)} microseconds`;
+    return waves.cycles === 0 ? "" : say.span(cyclesText(waves.span), microseconds(waves.span));
   }
 
   /** What it is at, in words that change seldom. */
   get words() {
     const { waves, triggered, over } = this;
     const { trigger } = this.choice;
-    const came = triggered < 0 ? "" : ` The trigger came at cycle ${grouped(triggered)}.`;
-    if (over === "trigger") return `Recorded: ${this.kept}.${came}`;
-    if (over !== "") return `Recorded: ${this.kept || "nothing"}. ${ENDS[over] || over}${came}`;
-    if (triggered >= 0) return `It records what comes behind the trigger.${came}`;
-    const begun = waves.cycles === 0 ? "It records as soon as time runs." : "It records.";
-    return `${begun}${trigger ? ` It waits for ${trigger}.` : ""}`;
+    const came = triggered < 0 ? "" : say.triggerCame(grouped(triggered));
+    if (over === "trigger") return say.recorded(this.kept, came);
+    if (over !== "") return say.recordedUntil(this.kept || say.NOTHING, say.ENDS[over] || over, came);
+    if (triggered >= 0) return say.recordsAfter(came);
+    const begun = waves.cycles === 0 ? say.RECORDS_SOON : say.RECORDS;
+    return `${begun}${trigger ? say.waitsFor(trigger) : ""}`;
   }
 }

@@ -10,6 +10,7 @@ import { find, readSearch } from "./wave_search.js";
 import { WaveView } from "./wave_view.js";
 import { MOST_CYCLES, grouped, readCycles, recordedText } from "./wave_words.js";
 import { Waves } from "./waves.js";
+import * as say from "../words/waves.js";
 
 /**
  * @typedef {import("../worker/live_recorder.js").LivePart} LivePart
@@ -39,7 +40,7 @@ export class Scope {
     this.count = new Cell(block("scope-count"));
     this.found = new Cell(block("wave-search-told"));
     this.recordWord = new Cell(button("record"));
-    this.recordWord.set("Record");
+    this.recordWord.set(say.RECORD);
     this.view = new WaveView(calls.goTo);
     this.choice = new WaveChoice({
       offered: calls.offered, choose: (chosen) => this.view.choose(chosen), wants: () => this.wantOthers(),
@@ -90,7 +91,7 @@ export class Scope {
     const input = field(id);
     const cycles = input.value.trim() === "0" && least === 0 ? 0 : readCycles(input.value) || -1;
     input.setAttribute("aria-invalid", String(cycles < 0));
-    if (cycles < 0) this.told.set(`How many cycles? A number from ${least} to ${MOST_CYCLES.toLocaleString("en")}.`);
+    if (cycles < 0) this.told.set(say.howManyCycles(least, MOST_CYCLES.toLocaleString("en")));
     return cycles;
   }
 
@@ -140,7 +141,7 @@ export class Scope {
     const behind = most < 0 || trigger === "" ? 0 : this.cyclesIn("behind", 0);
     if (most < 0 || behind < 0) return null;
     field("behind").setAttribute("aria-invalid", String(behind > most));
-    if (behind > most) this.told.set(`${most.toLocaleString("en")} cycles are kept: no more of them can come behind the trigger.`);
+    if (behind > most) this.told.set(say.mostAfter(most.toLocaleString("en")));
     return behind > most ? null : { most, behind, trigger, stopsTime: byId("stops-time", HTMLInputElement).checked };
   }
 
@@ -153,7 +154,7 @@ export class Scope {
     if (!begun) return;
     const { recorded, fault } = begun;
     field("trigger").setAttribute("aria-invalid", String(fault !== ""));
-    if (fault) this.told.set(`The trigger is not understood: ${fault}.`);
+    if (fault) this.told.set(say.triggerFault(fault));
     if (!recorded) return;
     this.live = new LiveWaves(recorded, choice);
     this.show(this.live.waves);
@@ -219,7 +220,7 @@ export class Scope {
   tellLive(live) {
     this.told.set(live.words);
     this.count.set(live.isOn ? live.kept : "");
-    this.recordWord.set(live.isOn ? "Stop recording" : "Record");
+    this.recordWord.set(live.isOn ? say.STOP_RECORDING : say.RECORD);
     this.calls.isOn(live.isOn);
   }
 
@@ -240,7 +241,7 @@ export class Scope {
     this.view.mark(search.line);
     const moment = find(waves, search, view.moment, isForward);
     if (moment >= 0) this.view.move(moment);
-    else this.found.set(`${text.trim()}: not ${isForward ? "behind" : "before"} cycle ${grouped(view.moment)} of this recording.`);
+    else this.found.set(say.notFound(text.trim(), isForward, grouped(view.moment)));
   }
 
   /** Another session is shown: the recording was none of it. */
@@ -250,7 +251,7 @@ export class Scope {
     this.choice.forget();
     this.told.set("");
     this.count.set("");
-    this.recordWord.set("Record");
+    this.recordWord.set(say.RECORD);
     this.calls.isOn(false);
     block("waves").hidden = true;
     button("save-waves").disabled = true;
@@ -260,7 +261,7 @@ export class Scope {
     const { waves, rows } = this.view;
     if (!waves) return;
     if (rows.length === 0) {
-      this.told.set("No line is chosen: choose those that the file is to have.");
+      this.told.set(say.NO_LINE_CHOSEN);
       return;
     }
     download(this.calls.name(), ".vcd", new Blob([...vcdParts(waves, rows)], { type: "text/plain" }));

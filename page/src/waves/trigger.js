@@ -2,6 +2,7 @@
 // tests, which it waits to become true (`r9 = 9`, `lamp 3 on`, `display 42`, `@LABEL`: debug/conditions.js). Without a document.
 
 import { conditionOf } from "../debug/conditions.js";
+import * as say from "../words/waves.js";
 
 /**
  * @typedef {import("../debug/conditions.js").Names} Names
@@ -76,11 +77,11 @@ export function readTrigger(text, lines, names) {
  */
 function readEdge(name, edge, lines) {
   const line = lineNamed(name, lines);
-  if (line < 0) return { trigger: null, fault: `nothing here is called ${name}; the list "Lines and values" has the names` };
+  if (line < 0) return { trigger: null, fault: say.noSuchName(name) };
   const { kind, members, width } = lines[line];
-  if (kind === "pc" || kind === "label") return { trigger: null, fault: `a place of the program is written as @LABEL` };
+  if (kind === "pc" || kind === "label") return { trigger: null, fault: say.LABEL_FORM };
   if (edge !== "changes" && width > 1) {
-    return { trigger: null, fault: `${name} is a number: it is written as ${name} changes, or as ${name} = 5` };
+    return { trigger: null, fault: say.numberForm(name) };
   }
   return { trigger: { edge, members: kind === "port" ? members : [line], places: [], address: -1, holds: NEVER }, fault: "" };
 }

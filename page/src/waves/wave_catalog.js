@@ -2,6 +2,7 @@
 
 import { plain } from "./trigger.js";
 import { REGISTER_NAMES, characterNames, isText, linesOfBoard } from "./wave_lines.js";
+import * as say from "../words/waves.js";
 
 /**
  * @typedef {import("../bench/answers.js").Board} Board
@@ -68,24 +69,17 @@ export function found(offered, text, chosen) {
   const isCharacter = (/** @type {WaveLine} */ { group }) => group.startsWith("RAM, ");
   let left = isAll ? 0 : MOST_CHARACTERS;
   const all = fitting(offered, text);
-  if (all.length === 0 && !isAll) return { lines: all, more: `Nothing here is called ${text.trim()}.` };
+  if (all.length === 0 && !isAll) return { lines: all, more: say.noName(text.trim()) };
   const lines = all.filter((line) => !isCharacter(line) || chosen.has(line.name) || left-- > 0);
   const hidden = all.length - lines.length;
   if (hidden === 0) return { lines, more: "" };
-  const characters = hidden === 1 ? "1 character of RAM is" : `${hidden.toLocaleString("en")} characters of RAM are`;
-  return { lines, more: `${characters} not listed: look for one, as in: ram 0 0x12, or: st 0 1.` };
+  return { lines, more: say.notListed(hidden) };
 }
-
-/** @type {Record<string, string>} */
-const TITLES = {
-  lamps: "Lamps", keys: "Keys", test: "TEST pin", numbers: "Ports and chains as numbers", registers: "Registers and pairs", pc: "Counter",
-  label: "Label",
-};
 
 /**
  * What a group of lines is called.
  * @param {string} group
  */
 export function titleOf(group) {
-  return TITLES[group] || group.replace(/^rom/, "ROM ").replace(/^ram/, "RAM ").replace(/^chain/, "Chain ");
+  return say.TITLES[group] || group.replace(/^rom/, "ROM ").replace(/^ram/, "RAM ").replace(/^chain/, "Chain ");
 }

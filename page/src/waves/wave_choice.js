@@ -2,6 +2,7 @@
 
 import { Cell, block, button, element, field, onClick } from "../ui/dom.js";
 import { firstChoice, found, titleOf, valuesAmong } from "./wave_catalog.js";
+import * as say from "../words/waves.js";
 
 /**
  * @typedef {import("./wave_lines.js").WaveLine} WaveLine
@@ -142,8 +143,8 @@ export class WaveChoice {
   tell() {
     const { waves, lacking } = this;
     if (!waves) return;
-    const words = lacking.length === 1 ? `${lacking[0]} is` : `${lacking.slice(0, 3).join(", ")}${lacking.length > 3 ? " .." : ""} are`;
-    this.told.set(lacking.length === 0 ? "" : `${words} recorded from the next recording on.`);
+    const names = lacking.slice(0, 3).join(", ") + (lacking.length > 3 ? " .." : "");
+    this.told.set(lacking.length === 0 ? "" : say.recordedNext(names, lacking.length === 1));
     this.calls.choose(waves.lines.map((_, line) => line).filter((line) => this.chosen.has(waves.lines[line].name)));
   }
 }

@@ -6,6 +6,7 @@ import { numberOf, upTo } from "../bench/numbers.js";
 import { placeOf } from "../bench/places.js";
 import { Face } from "../board/face.js";
 import { wordsOfCharacter } from "../debug/standing.js";
+import * as say from "../words/waves.js";
 
 /**
  * @typedef {import("../bench/answers.js").Board} Board
@@ -56,7 +57,7 @@ function namesOf(group, place, told) {
 function levels(group, count, face) {
   const port = face.ports.get(group);
   return upTo(count).map((line) => (
-    made(`${group}.${line}`, group, "level", { places: [`${group}.${line}`], title: port ? `${port.text}, line ${line}` : "" })));
+    made(`${group}.${line}`, group, "level", { places: [`${group}.${line}`], title: port ? say.lineOf(port.text, line) : "" })));
 }
 
 /**
@@ -124,12 +125,12 @@ export function valueLine(text, board) {
   const name = text.trim().toLowerCase().replace(/\s+/g, ".");
   const pair = /^p([0-7])$/.exec(name);
   if (pair) return made(name, "registers", "value", { places: [0, 1].map((half) => `r${2 * Number(pair[1]) + half}`), width: 8 });
-  if (name === "src") return made(name, "registers", "value", { places: [name], width: 8, title: "the SRC byte that the ROMs keep" });
+  if (name === "src") return made(name, "registers", "value", { places: [name], width: 8, title: say.SRC_OF_ROMS });
   const place = placeOf(name);
   if (!place || !VALUE.test(place.name) || place.probesOn(board).length !== 1) return null;
   const [word, bank, at] = place.name.split(".");
   const isMemory = word === "ram" || word === "st";
-  const title = word === "ram" ? `bank ${bank}, ${wordsOfCharacter(numberOf(at))}` : isMemory ? "a status character" : "";
+  const title = word === "ram" ? say.inBank(bank, wordsOfCharacter(numberOf(at))) : isMemory ? say.STATUS_CHARACTER : "";
   return made(place.name, isMemory ? `RAM, bank ${bank}` : "registers", "value", { places: [place.name], width: WIDTHS[word] || 4, title });
 }
 

@@ -4,6 +4,7 @@
 import { numberOf } from "../bench/numbers.js";
 import { countUpTo } from "./growing.js";
 import { lineNamed } from "./trigger.js";
+import * as say from "../words/waves.js";
 
 /**
  * @typedef {import("./waves.js").Waves} Waves
@@ -12,8 +13,6 @@ import { lineNamed } from "./trigger.js";
  * counts, else only one from a value that is none.
  * @typedef {{ line: number, fits: (value: number) => boolean, each: boolean }} Search
  */
-
-export const SEARCH_FORMS = "a value of the marked line, as 9 or 0x1F; r5 = 9, rom0 != 0, lamp 3 rises, r5 changes, @LABEL";
 
 /** @type {Record<string, (is: number, than: number) => boolean>} */
 const COMPARISONS = {
@@ -49,11 +48,11 @@ function labelOf(waves, name) {
  */
 export function readSearch(text, waves, marked) {
   const told = text.trim();
-  if (told === "") return no(`What is looked for? ${SEARCH_FORMS}.`);
+  if (told === "") return no(say.whatIsWanted(say.SEARCH_FORMS));
   if (told.startsWith("@")) {
     const label = labelOf(waves, told.slice(1));
     const counter = waves.lines.findIndex(({ kind }) => kind === "pc");
-    if (!label) return no(`The program of this recording has no label ${told.slice(1)}.`);
+    if (!label) return no(say.noLabel(told.slice(1)));
     return { search: { line: counter, fits: (value) => value === label.address, each: false }, fault: "" };
   }
   const edge = /^(?:(.*\S)\s+)?(rises|falls|changes)$/.exec(told);
@@ -71,7 +70,7 @@ export function readSearch(text, waves, marked) {
 function lineOf(name, waves, marked) {
   const line = name ? lineNamed(name, waves.lines) : marked;
   if (line >= 0) return { line, fault: "" };
-  return { line, fault: name ? `Nothing that was recorded is called ${name}: choose it, and record again.` : "No line is marked." };
+  return { line, fault: name ? say.notRecorded(name) : say.NO_LINE_MARKED };
 }
 
 /**
@@ -84,7 +83,7 @@ function readEdge(name, edge, waves, marked) {
   const { line, fault } = lineOf(name || "", waves, marked);
   if (fault) return no(fault);
   const { width } = waves.lines[line];
-  if (edge !== "changes" && width > 1) return no(`${waves.lines[line].name} is a number: it changes, or it is = 5.`);
+  if (edge !== "changes" && width > 1) return no(say.isNumber(waves.lines[line].name));
   return { search: { line, fits: EDGES[edge], each: true }, fault: "" };
 }
 
@@ -102,10 +101,10 @@ function readValue(name, sign, value, waves, marked) {
   const label = kind === "label" || kind === "pc" ? labelOf(waves, value.replace(/^@/, "")) : null;
   const binary = /^0b([01]+)$/i.exec(value);
   const number = label ? (kind === "pc" ? label.address : label.number) : binary ? parseInt(binary[1], 2) : numberOf(value);
-  if (kind === "label" && !label) return no(`The program of this recording has no label ${value}.`);
-  if (Number.isNaN(number)) return no(`${value} is no number: 10, 0x0A or 0b1010 is one. There are: ${SEARCH_FORMS}.`);
+  if (kind === "label" && !label) return no(say.noLabel(value));
+  if (Number.isNaN(number)) return no(say.noNumber(value, say.SEARCH_FORMS));
   const most = 2 ** width - 1;
-  if (kind !== "label" && number > most) return no(`${called} has ${width === 1 ? "1 bit" : `${width} bits`}: it is ${most} at most.`);
+  if (kind !== "label" && number > most) return no(say.hasBits(called, width, most));
   return { search: { line, fits: (/** @type {number} */ is) => COMPARISONS[sign](is, number), each: false }, fault: "" };
 }
 

@@ -1,6 +1,7 @@
 // What is told of recordings, in words.
 
 import { countOf, counted } from "../bench/numbers.js";
+import * as say from "../words/waves.js";
 
 /**
  * @typedef {import("./waves.js").Instruction} Instruction
@@ -47,15 +48,15 @@ export function cyclesText(cycles) {
  * @param {number} cycles
  */
 export function betweenText(cycles) {
-  return `A to B: ${cyclesText(cycles)}, ${microseconds(cycles)} microseconds`;
+  return say.aToB(cyclesText(cycles), microseconds(cycles));
 }
 
 /** @param {Instruction} instruction */
 export function instructionText({ listed, line, source, isSecond, isEnd }) {
-  if (isSecond) return "the second cycle of an instruction";
+  if (isSecond) return say.SECOND_CYCLE;
   const text = listed.replace(/ +/g, " ");
-  const sourceText = line > 0 ? `; line ${line} of the source: ${source}` : "";
-  return `${isEnd ? "next: " : ""}${text}${sourceText}`;
+  const sourceText = line > 0 ? say.ofSource(line, source) : "";
+  return `${isEnd ? say.NEXT : ""}${text}${sourceText}`;
 }
 
 /**
@@ -65,7 +66,7 @@ export function instructionText({ listed, line, source, isSecond, isEnd }) {
  * @param {Waves} waves
  */
 export function cursorText(name, moment, waves) {
-  return `${name}: cycle ${grouped(moment)}, ${microseconds(moment)} microseconds: ${instructionText(waves.instructionAt(moment))}`;
+  return say.cursorAt(name, grouped(moment), microseconds(moment), instructionText(waves.instructionAt(moment)));
 }
 
 /**
@@ -75,8 +76,8 @@ export function cursorText(name, moment, waves) {
  * @param {number} line -1 for none
  */
 export function spokenText(moment, waves, line) {
-  const value = line < 0 ? "" : `${waves.lines[line].name} is ${waves.valueAt(line, moment)}, `;
-  return `${value}cycle ${grouped(moment)}, ${instructionText(waves.instructionAt(moment))}`;
+  const value = line < 0 ? "" : say.valueIs(waves.lines[line].name, waves.valueAt(line, moment));
+  return say.cycleAt(value, grouped(moment), instructionText(waves.instructionAt(moment)));
 }
 
 /**
@@ -85,10 +86,10 @@ export function spokenText(moment, waves, line) {
  * @param {boolean} isBefore whether they are those before a moment
  */
 export function recordedText({ span, isStuck }, wanted, isBefore) {
-  if (span === 0 && isBefore) return "Nothing was recorded: since the session was opened or wired, no cycle was done before this moment.";
-  const told = `${cyclesText(span)} recorded, ${microseconds(span)} microseconds.`;
-  if (isStuck) return `${told} Then comes a code that is no instruction.`;
-  return span < wanted ? `${told} The past reaches no further back.` : told;
+  if (span === 0 && isBefore) return say.NOTHING_BEFORE;
+  const told = say.recordedSpan(cyclesText(span), microseconds(span));
+  if (isStuck) return say.thenNoInstruction(told);
+  return span < wanted ? say.noFurtherBack(told) : told;
 }
 
 /**

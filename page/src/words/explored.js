@@ -1,12 +1,12 @@
 // What came of looking for what breaks properties, in words: of all, of one, of what was run. Without a document.
 
 import { counted } from "../bench/numbers.js";
-import { Coverage } from "./coverage.js";
-import { grouped, isRight, remarkOf, stepsOf } from "./report.js";
+import { Coverage } from "../explore/coverage.js";
+import { grouped, isRight, remarkOf, stepsOf } from "../explore/report.js";
 
 /**
- * @typedef {import("./report.js").Report} Report
- * @typedef {import("./report.js").Told} Told
+ * @typedef {import("../explore/report.js").Report} Report
+ * @typedef {import("../explore/report.js").Told} Told
  */
 
 const NEEDS_COMMAND = "not asked: a page can start no command, and tools/explore can";

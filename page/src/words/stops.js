@@ -6,8 +6,8 @@ import { wordsOfCycles } from "../time/cycles.js";
 /**
  * @typedef {import("../worker/going_back.js").BackGoal} BackGoal
  * @typedef {import("../bench/protocol.js").Gone} Gone
- * @typedef {import("./debugger.js").Stop} Stop
- * @typedef {import("./goals.js").Goal} Goal
+ * @typedef {import("../debug/debugger.js").Stop} Stop
+ * @typedef {import("../debug/goals.js").Goal} Goal
  * @typedef {import("../machine/source_map.js").SourceMap} SourceMap
  */
 
@@ -71,7 +71,7 @@ function whyNot(goal, why) {
 /**
  * When a place changed last, and by what; "" where there is no such place.
  * @param {string} name of the place
- * @param {import("./debugger.js").LastChange} told
+ * @param {import("../debug/debugger.js").LastChange} told
  * @param {SourceMap | null} map the program that stands in ROM
  */
 export function wordsOfLastChange(name, { isFound, why, from, to, line, cycles, address }, map) {

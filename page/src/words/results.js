@@ -1,12 +1,12 @@
 // What came of tests, in words: of all, of one, of what was counted. Without a document.
 
 import { counted } from "../bench/numbers.js";
-import { wordsOfCoverage } from "./coverage.js";
+import { wordsOfCoverage } from "../testing/coverage.js";
 
 /**
- * @typedef {import("./prepared.js").TextFault} TextFault
- * @typedef {import("./testing.js").Report} Report
- * @typedef {import("./test_run.js").Outcome} Outcome
+ * @typedef {import("../testing/prepared.js").TextFault} TextFault
+ * @typedef {import("../testing/testing.js").Report} Report
+ * @typedef {import("../testing/test_run.js").Outcome} Outcome
  */
 
 /** @type {Record<TextFault["text"], string>} */

@@ -1,0 +1,110 @@
+// What people read of the waves: recording, trigger, search, lines and values.
+
+// --- waves/live_waves.js ---
+/** @type {Record<string, string>} why nothing more is recorded */
+export const ENDS = {
+  hand: "It was stopped.",
+  back: "It ended where the session went back or forward.",
+  board: "It ended where the board was wired anew.",
+  program: "It ended where other bytes were put into ROM.",
+  lines: "It ended at lines that did more than it can follow.",
+  long: "It ended after 4,000,000,000 cycles.",
+  lost: "It ended: the bench began anew.",
+};
+/** @type {(cycles: string, microseconds: string) => string} */
+export const span = (cycles, microseconds) => `${cycles}, ${microseconds} microseconds`;
+/** @type {(cycle: string) => string} */
+export const triggerCame = (cycle) => ` The trigger came at cycle ${cycle}.`;
+/** @type {(what: string, trigger: string) => string} */
+export const recorded = (what, trigger) => `Recorded: ${what}.${trigger}`;
+/** @type {(what: string, end: string, trigger: string) => string} */
+export const recordedUntil = (what, end, trigger) => `Recorded: ${what}. ${end}${trigger}`;
+export const NOTHING = "nothing";
+/** @type {(trigger: string) => string} */
+export const recordsAfter = (trigger) => `It records what comes after the trigger.${trigger}`;
+export const RECORDS_SOON = "It records as soon as time runs.";
+export const RECORDS = "It records.";
+/** @type {(trigger: string) => string} */
+export const waitsFor = (trigger) => ` It waits for ${trigger}.`;
+
+// --- waves/scope.js ---
+export const RECORD = "Record";
+/** @type {(least: number, most: string) => string} */
+export const howManyCycles = (least, most) => `How many cycles? A number from ${least} to ${most}.`;
+/** @type {(most: string) => string} */
+export const mostAfter = (most) => `${most} cycles are kept: no more of them can come after the trigger.`;
+/** @type {(fault: string) => string} */
+export const triggerFault = (fault) => `The trigger is not understood: ${fault}.`;
+export const STOP_RECORDING = "Stop recording";
+/** @type {(what: string, isForward: boolean, cycle: string) => string} */
+export const notFound = (what, isForward, cycle) => `${what}: not ${isForward ? "after" : "before"} cycle ${cycle} of this recording.`;
+export const NO_LINE_CHOSEN = "No line is chosen: choose the lines for the file.";
+
+// --- waves/trigger.js ---
+/** @type {(name: string) => string} */
+export const noSuchName = (name) => `nothing here is called ${name}; the list "Lines and values" has the names`;
+export const LABEL_FORM = "a place of the program is written as @LABEL";
+/** @type {(name: string) => string} */
+export const numberForm = (name) => `${name} is a number: it is written as ${name} changes, or as ${name} = 5`;
+
+// --- waves/wave_catalog.js ---
+/** @type {(name: string) => string} */
+export const noName = (name) => `Nothing here is called ${name}.`;
+/** @type {(count: number) => string} */
+export const notListed = (count) => (
+  `${count === 1 ? "1 character of RAM is" : `${count.toLocaleString("en")} characters of RAM are`} not listed: look for one, `
+  + "as in: ram 0 0x12, or: st 0 1.");
+/** @type {Record<string, string>} */
+export const TITLES = {
+  lamps: "Lamps", keys: "Keys", test: "TEST pin", numbers: "Ports and chains as numbers", registers: "Registers and pairs", pc: "Counter",
+  label: "Label",
+};
+
+// --- waves/wave_choice.js ---
+/** @type {(names: string, isOne: boolean) => string} */
+export const recordedNext = (names, isOne) => `${names} ${isOne ? "is" : "are"} recorded from the next recording on.`;
+
+// --- waves/wave_lines.js ---
+export const SRC_OF_ROMS = "the SRC byte that the ROMs keep";
+/** @type {(port: string, line: string | number) => string} */
+export const lineOf = (port, line) => `${port}, line ${line}`;
+/** @type {(bank: string, character: string) => string} */
+export const inBank = (bank, character) => `bank ${bank}, ${character}`;
+export const STATUS_CHARACTER = "a status character";
+
+// --- waves/wave_search.js ---
+export const SEARCH_FORMS = "a value of the marked line, as 9 or 0x1F; r5 = 9, rom0 != 0, lamp 3 rises, r5 changes, @LABEL";
+/** @type {(forms: string) => string} */
+export const whatIsWanted = (forms) => `What do you look for? ${forms}.`;
+/** @type {(label: string) => string} */
+export const noLabel = (label) => `The program of this recording has no label ${label}.`;
+/** @type {(name: string) => string} */
+export const notRecorded = (name) => `Nothing that was recorded is called ${name}: choose it, and record again.`;
+export const NO_LINE_MARKED = "No line is marked.";
+/** @type {(name: string) => string} */
+export const isNumber = (name) => `${name} is a number: it changes, or it is = 5.`;
+/** @type {(value: string, forms: string) => string} */
+export const noNumber = (value, forms) => `${value} is no number: 10, 0x0A or 0b1010 is one. There are: ${forms}.`;
+/** @type {(name: string, width: number, most: number) => string} */
+export const hasBits = (name, width, most) => `${name} has ${width === 1 ? "1 bit" : `${width} bits`}: it is ${most} at most.`;
+
+// --- waves/wave_words.js ---
+/** @type {(cycles: string, microseconds: string) => string} */
+export const aToB = (cycles, microseconds) => `A to B: ${cycles}, ${microseconds} microseconds`;
+export const SECOND_CYCLE = "the second cycle of an instruction";
+/** @type {(line: number, source: string) => string} */
+export const ofSource = (line, source) => `; line ${line} of the source: ${source}`;
+export const NEXT = "next: ";
+/** @type {(name: string, cycle: string, microseconds: string, instruction: string) => string} */
+export const cursorAt = (name, cycle, microseconds, instruction) => `${name}: cycle ${cycle}, ${microseconds} microseconds: ${instruction}`;
+/** @type {(name: string, value: string) => string} */
+export const valueIs = (name, value) => `${name} is ${value}, `;
+/** @type {(value: string, cycle: string, instruction: string) => string} */
+export const cycleAt = (value, cycle, instruction) => `${value}cycle ${cycle}, ${instruction}`;
+export const NOTHING_BEFORE = "Nothing was recorded: since the session was opened or wired, no cycle was done before this one.";
+/** @type {(cycles: string, microseconds: string) => string} */
+export const recordedSpan = (cycles, microseconds) => `${cycles} recorded, ${microseconds} microseconds.`;
+/** @type {(told: string) => string} */
+export const thenNoInstruction = (told) => `${told} Then comes a code that is no instruction.`;
+/** @type {(told: string) => string} */
+export const noFurtherBack = (told) => `${told} The past reaches no further back.`;
