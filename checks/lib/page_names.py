@@ -203,7 +203,7 @@ def check_go_to(browser):
     for text, address in (("01E", "01E"), ("0x11E", "11E"), ("30", "01E"), ("100", "100")):
         go_to(browser, text)
         comes(browser, f"go to {text}", f"{ADDRESSES}.includes('{address}')", True)
-    for text, words in (("nosuch", "^nosuch is neither a name of the program nor an address"), ("4096", "^4096 is no address")):
+    for text, words in (("nosuch", "^nosuch is neither a name of the program nor an address"), ("4096", "^4096 is not an address")):
         go_to(browser, text)
         comes(browser, f"{text} is no address, in words", GO_TO_TOLD, re.compile(words))
         verdict("and the field is marked", browser.script("return document.getElementById('go-to').getAttribute('aria-invalid')"), "true")

@@ -306,7 +306,7 @@ def check_files(browser, folder, mcs4):
     example = TOP / "examples/three_lamps"
     for name in ("board.toml", "three_lamps.asm"):
         browser.type_into("#file", str(example / name))
-        comes(browser, f"{name} is opened", NOTICE, re.compile(f"^{name} stands in (Board|Source)"))
+        comes(browser, f"{name} is opened", NOTICE, re.compile(f"^{name} is in (Board|Source)"))
     comes(browser, "their texts are in the editors", TEXTS, [(example / "board.toml").read_text(), (example / "three_lamps.asm").read_text()])
     browser.click("#board-tab")
     browser.click("#board-editor .send")

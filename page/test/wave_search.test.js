@@ -59,7 +59,7 @@ test("what is looked for is found, in both directions", () => {
 test("what cannot be looked for, in words", () => {
   const waves = wavesOf();
   const fault = (text, marked = 6) => readSearch(text, waves, marked).fault;
-  assert.match(fault(""), /^What is looked for\? a value of the marked line/);
+  assert.match(fault(""), /^What do you look for\? a value of the marked line/);
   assert.match(fault("A"), /^A is no number: 10, 0x0A or 0b1010 is one/);
   assert.equal(fault("16"), "r5 has 4 bits: it is 15 at most.");
   assert.equal(fault("2", 0), "rom0.0 has 1 bit: it is 1 at most.");

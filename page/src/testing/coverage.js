@@ -1,5 +1,7 @@
 // Which lines of a program were run, by the counts of an account: each with its count and, for a conditional jump, its ways.
 
+import * as say from "../words/testing.js";
+
 /**
  * @typedef {import("../machine/source_map.js").SourceMap} SourceMap
  * @typedef {import("./account.js").Account} Account
@@ -66,6 +68,5 @@ export function coverageOf(account, map) {
 export function wordsOfCoverage({ instructions, run, ways, waysRun }) {
   /** @type {(part: number, all: number) => string} */
   const percent = (part, all) => (all > 0 ? ` (${((100 * part) / all).toFixed(1)} %)` : "");
-  return `${run} of ${instructions} instructions were run${percent(run, instructions)}, `
-    + `${waysRun} of ${ways} ways of conditional jumps${percent(waysRun, ways)}`;
+  return say.covered(`${run} of ${instructions}`, percent(run, instructions), `${waysRun} of ${ways}`, percent(waysRun, ways));
 }

@@ -6,6 +6,7 @@ import { MOST_PLACES } from "../debug/conditions.js";
 import { runLines } from "../worker/key_queue.js";
 import { Answers, readTraced, valuesOf } from "../worker/tracing.js";
 import { TOLD_CYCLES } from "./test_session.js";
+import * as say from "../words/testing.js";
 
 /**
  * @typedef {import("../bench/answers.js").Board} Board
@@ -146,7 +147,7 @@ function beginOf(done) {
  */
 function secondCycle(regs, elapsed) {
   const [, acc, , cy, , , , owed] = regs.split(" ", 8);
-  return owed === "1" ? [`${String(elapsed).padStart(8)}  ${"(the second cycle)".padEnd(HEAD)}  acc ${acc} cy ${cy}`] : [];
+  return owed === "1" ? [`${String(elapsed).padStart(8)}  ${say.SECOND_CYCLE.padEnd(HEAD)}  acc ${acc} cy ${cy}`] : [];
 }
 
 /**
@@ -173,7 +174,7 @@ export function lastInstructions(session, names) {
     elapsed += left;
   });
   const next = texts.linesOf(elapsed, session.counter);
-  return [...lastOf(lines), ...next.slice(0, -1), `${next[next.length - 1]}comes next`];
+  return [...lastOf(lines), ...next.slice(0, -1), say.comesNext(next[next.length - 1])];
 }
 
 /**

@@ -2,6 +2,7 @@
 
 import { LONGEST_RUN } from "../worker/key_queue.js";
 import { Answers, readTraced } from "../worker/tracing.js";
+import * as say from "../words/testing.js";
 
 /**
  * @typedef {import("../debug/conditions.js").Condition} Condition
@@ -60,10 +61,10 @@ export function lastPassed({ engine, begun, all }, addresses) {
 export function wordsOfPassed(session, map, { address, text }) {
   const labels = [...map.names.values()].filter(({ isLabel }) => isLabel);
   const any = lastPassed(session, new Set(labels.map(({ value }) => value)));
-  const ago = (/** @type {Passed} */ { cycles }) => `${session.elapsed - cycles} cycle${session.elapsed - cycles === 1 ? "" : "s"} ago`;
+  const ago = (/** @type {Passed} */ { cycles }) => say.cyclesAgo(session.elapsed - cycles);
   const named = any && labels.find(({ value }) => value === any.address);
-  const last = any && named ? `; the label passed last is ${named.name}, ${ago(any)}` : "";
+  const last = any && named ? say.lastLabel(named.name, ago(any)) : "";
   if (address < 0) return last;
   const own = lastPassed(session, new Set([address]));
-  return `${last}; ${text.startsWith("@") ? text : `pc ${address}`} was ${own ? `passed last ${ago(own)}` : "not passed in this test"}`;
+  return say.wasPassed(last, text.startsWith("@") ? text : `pc ${address}`, own ? say.passedLast(ago(own)) : say.NOT_PASSED);
 }

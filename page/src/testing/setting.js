@@ -2,6 +2,7 @@
 
 import { Unreadable, largestOf, placesOf, valueOf } from "../debug/condition_terms.js";
 import { numberOf } from "../bench/numbers.js";
+import * as say from "../words/testing.js";
 
 /**
  * @typedef {import("../debug/conditions.js").Names} Names
@@ -19,7 +20,7 @@ function romAddress(place, { board }, fail) {
   const [kind, word, ...more] = place.split(".");
   const address = numberOf(word || "");
   if (kind !== "rom" || more.length > 0 || !(address >= 0)) return -1;
-  return board.roms.some(({ chip }) => Number(chip) === Math.floor(address / 256)) ? address : fail(`the board has no ROM at ${word}`);
+  return board.roms.some(({ chip }) => Number(chip) === Math.floor(address / 256)) ? address : fail(say.noRomAt(word));
 }
 
 /**
@@ -29,14 +30,14 @@ function romAddress(place, { board }, fail) {
  * @returns {{ command: string, changesRom: boolean }}
  */
 export function readSetting(words, names, fail) {
-  if (words.length !== 2) fail("it is written as `set PLACE VALUE`, as in: set test 0, set ram.0.0x12 7");
+  if (words.length !== 2) fail(say.SET_FORM);
   const [place, word] = words;
   try {
     const value = valueOf(word, names);
     const changesRom = romAddress(place, names, fail) >= 0;
-    if (!changesRom) placesOf(place, 1, names, " and rom.A");
+    if (!changesRom) placesOf(place, 1, names, say.AND_ROM);
     const most = changesRom ? LARGEST_BYTE : largestOf(place);
-    if (!(value <= most)) fail(`${place} holds 0 to ${most}, not ${word}`);
+    if (!(value <= most)) fail(say.holds(place, most, word));
     return { command: place === "test" ? `test ${value}` : `poke ${place} ${value}`, changesRom };
   } catch (fault) {
     if (fault instanceof Unreadable) fail(fault.message);

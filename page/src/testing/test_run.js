@@ -9,6 +9,7 @@ import { wordsOfPassed } from "./last_passed.js";
 import { Paper } from "./paper.js";
 import { TestSession } from "./test_session.js";
 import { keysOf } from "./test_text.js";
+import * as say from "../words/testing.js";
 
 /**
  * @typedef {import("./account.js").Account} Account
@@ -63,7 +64,7 @@ export class TestRun {
   async run({ name, line, from, steps }, savedBy) {
     const begun = from === "" ? { file: this.prepared.file, codes: [] } : this.states.get(from);
     if (!begun) {
-      const words = `the state ${from} is not there, since the test \`${savedBy}\` did not come to save it`;
+      const words = say.stateNotThere(from, savedBy);
       const [step] = steps;
       const failure = { line: step.line, text: step.text, words, cycles: 0, lamps: "", registers: "", trace: [], file: null };
       return { name, line, cycles: 0, failure };
@@ -107,9 +108,9 @@ export class TestRun {
    * @param {string[]} within
    */
   async runInner(session, action, line, within) {
-    if (action.kind === "do") return this.runSteps(session, action.steps, [`the steps ${action.name} of line ${line}`, ...within]);
+    if (action.kind === "do") return this.runSteps(session, action.steps, [say.stepsOfLine(action.name, line), ...within]);
     for (let turn = 1; turn <= action.times; turn++) {
-      const failure = await this.runSteps(session, action.steps, [`turn ${turn} of ${action.times} of line ${line}`, ...within]);
+      const failure = await this.runSteps(session, action.steps, [say.turnOf(turn, action.times, line), ...within]);
       if (failure) return failure;
       await this.breathe();
     }
@@ -160,12 +161,12 @@ export class TestRun {
    */
   async advance(session, cycles) {
     const stop = await session.run(cycles);
-    return stop === "code" ? `the run stopped after ${session.elapsed} cycles ${this.wordsOfCode(session)}` : "";
+    return stop === "code" ? say.runStopped(session.elapsed, this.wordsOfCode(session)) : "";
   }
 
   /** @param {TestSession} session stands before a code that is no instruction */
   wordsOfCode({ counter }) {
-    return `before a code that is no instruction, at ${this.named(counter)}`;
+    return say.beforeCode(this.named(counter));
   }
 
   /** @param {number} address */
@@ -182,12 +183,12 @@ export class TestRun {
    */
   choose(session, { word, place, probe, keys }) {
     const value = parseInt(valuesOf(new Answers(session.ask(`trace 1 ${probe}\n`)).takeTrace().row)[0], 16);
-    const what = `${place} is ${value}, and `;
-    if (keys.length > 0) return { key: keys[value], words: `${what}${word} has ${counted(keys.length, "key")}` };
+    const what = say.isAnd(place, value);
+    if (keys.length > 0) return { key: keys[value], words: say.hasKeys(what, word, counted(keys.length, "key")) };
     const own = keysOf(this.prepared.names.face);
     const digit = hex(value, 1);
     const key = own.get(String(value)) || own.get(digit);
-    return { key, words: `${what}the board has no key ${value}${value > 9 ? `, nor ${digit}` : ""}` };
+    return { key, words: say.hasNoKey(what, value, value > 9 ? say.norKey(digit) : "") };
   }
 
   /**
@@ -227,8 +228,8 @@ export class TestRun {
     const stop = isLabel ? await this.untilLabel(session, condition, end) : await this.untilChange(session, condition, end);
     const { holds, told } = session.look(condition);
     if (holds) return "";
-    if (stop === "code") return `the run stopped after ${session.elapsed - begun} cycles ${this.wordsOfCode(session)}; ${told}`;
-    return `it did not come within ${within} cycles: ${told}${wordsOfPassed(session, this.prepared.names.map, condition)}`;
+    if (stop === "code") return say.runStoppedAt(session.elapsed - begun, this.wordsOfCode(session), told);
+    return say.didNotCome(within, told, wordsOfPassed(session, this.prepared.names.map, condition));
   }
 
   /**

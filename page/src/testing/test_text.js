@@ -4,6 +4,7 @@
 import { durationOf, wholeDuration } from "../debug/durations.js";
 import { testConditionOf } from "../debug/conditions.js";
 import { readSetting } from "./setting.js";
+import * as say from "../words/testing.js";
 
 /**
  * @typedef {import("../debug/conditions.js").Condition} Condition
@@ -29,10 +30,6 @@ import { readSetting } from "./setting.js";
  * @typedef {{ tests: Test[], faults: Fault[] }} TestText
  */
 
-const NO_RUN = "it is written as `run TIME`, as in: run 500, run 20 ms, run 1.5 s";
-const NO_REPEAT = "it is written as `repeat COUNT`, 1 to 100,000: the lines down to its `end` are done so often";
-const NO_CHOICE = "a key by a value is written as `{PLACE}` or `{PLACE:KEY,KEY}`; places are acc, cy, dcl, r0 to r15, ram.B.S and st.B.H.K";
-const FIRST_WORDS = "test, steps, from, save, press, release, keys, pace, run, until, expect, mark, set, reset, do, repeat or end";
 /** What is repeated is done so often at most, and all of a test comes to so many lines. */
 const MOST_TIMES = 100000;
 const MOST_LINES = 1000000;
@@ -111,7 +108,7 @@ class TestReader {
       }
     }
     this.closeRepeats();
-    if (this.tests.length === 0 && this.faults.length === 0) this.faults.push({ line: 1, words: "there is no line `test NAME`" });
+    if (this.tests.length === 0 && this.faults.length === 0) this.faults.push({ line: 1, words: say.NO_TEST });
   }
 
   /**
@@ -131,14 +128,14 @@ class TestReader {
    * @param {number} line
    */
   readLine(text, line) {
-    if (/[^\t -~]/.test(text)) fail("a byte that is neither a tab nor a printing character of ASCII");
+    if (/[^\t -~]/.test(text)) fail(say.NOT_ASCII);
     const words = text.split(/[ \t]+/);
     if (words[0] === "test" || words[0] === "steps") {
       this.begin();
       if (words[0] === "steps") this.beginShared(words, line);
       else this.beginTest(text.replace(/^test[ \t]*/, ""), line);
     } else if (!this.hasBegun) {
-      fail(`a text of tests begins with \`test NAME\`, and this is: ${text.slice(0, 60)}`);
+      fail(say.beginsWithTest(text.slice(0, 60)));
     } else if (words[0] === "end") {
       this.endRepeat(words);
     } else {
@@ -161,7 +158,7 @@ class TestReader {
     this.sharing = null;
     this.steps = [];
     this.tests.push({ name, line, from: "", steps: this.steps });
-    if (name === "") fail("a test has a name: test NAME");
+    if (name === "") fail(say.TEST_NAME);
   }
 
   /**
@@ -174,22 +171,22 @@ class TestReader {
     this.steps = [];
     this.sharing = { name, line, steps: this.steps, lines: 0 };
     this.shared.set(name, this.sharing);
-    if (name === "") fail("shared steps have a name, one word: steps NAME");
-    if (before) fail(`the steps ${name} stand at line ${before.line} already`);
+    if (name === "") fail(say.STEPS_NAME);
+    if (before) fail(say.stepsAlready(name, before.line));
   }
 
   // --- what is repeated ---
 
   closeRepeats() {
-    for (const { line } of this.repeats.splice(0)) this.faults.push({ line, words: "this `repeat` has no `end`" });
+    for (const { line } of this.repeats.splice(0)) this.faults.push({ line, words: say.NO_END });
   }
 
   /** @param {string[]} words */
   endRepeat(words) {
     const open = this.repeats.pop();
     if (open) this.steps = open.outer;
-    if (words.length > 1) fail("`end` stands alone");
-    if (!open) fail("there is no `repeat` for this `end`");
+    if (words.length > 1) fail(say.END_FORM);
+    if (!open) fail(say.NO_REPEAT);
   }
 
   /**
@@ -200,7 +197,7 @@ class TestReader {
     const before = this.lines;
     this.lines += this.repeats.reduce((product, { times }) => product * times, more);
     if (this.sharing) this.sharing.lines = this.lines;
-    if (before <= MOST_LINES && this.lines > MOST_LINES) fail("what is repeated here comes to more than 1,000,000 lines");
+    if (before <= MOST_LINES && this.lines > MOST_LINES) fail(say.TOO_MANY_LINES);
   }
 
   /**
@@ -219,7 +216,7 @@ class TestReader {
       this.steps = [];
       step.action = { kind: "repeat", times, steps: this.steps };
       this.repeats.push({ line, times, outer });
-      if (!isCount) fail(NO_REPEAT);
+      if (!isCount) fail(say.REPEAT_FORM);
     } else if (words[0] === "do") {
       step.action = this.readDo(words);
     } else {
@@ -234,14 +231,14 @@ class TestReader {
    * @returns {Action}
    */
   readDo(words) {
-    if (words.length !== 2) fail("it is written as `do STEPS`, the name of shared steps");
+    if (words.length !== 2) fail(say.DO_FORM);
     const [, name] = words;
-    if (this.sharing && this.sharing.name === name) fail(`the steps ${name} cannot do themselves`);
+    if (this.sharing && this.sharing.name === name) fail(say.stepsOfThemselves(name));
     const there = [...this.shared.keys()].filter((each) => each !== "" && (!this.sharing || each !== this.sharing.name));
     const found = this.shared.get(name);
     if (!found) {
-      const which = there.length > 0 ? `; there are: ${there.join(" ")}` : `; \`steps ${name}\` begins them`;
-      return fail(`there are no steps ${name} before this line${which}`);
+      const which = say.stepsThere(there.join(" "), name);
+      return fail(say.noSteps(name, which));
     }
     this.addLines(found.lines);
     return { kind: "do", name, steps: found.steps };
@@ -256,12 +253,12 @@ class TestReader {
     if (kind === "from" || kind === "save") return this.readState(kind, rest);
     if (kind === "press" || kind === "release" || kind === "keys") return this.readKeys(kind, rest);
     if (kind === "pace") return readPace(rest);
-    if (kind === "run") return { kind, cycles: wholeDuration(rest) || fail(NO_RUN) };
+    if (kind === "run") return { kind, cycles: wholeDuration(rest) || fail(say.RUN_FORM) };
     if (kind === "until") return this.readUntil(rest);
     if (kind === "expect") return { kind, condition: this.readCondition(rest) };
     if (kind === "set") return { kind, ...readSetting(rest, this.names, fail) };
-    if (kind === "mark" || kind === "reset") return rest.length === 0 ? { kind } : fail(`\`${kind}\` stands alone`);
-    return fail(`no line of a test begins with \`${kind.slice(0, 30)}\`; they begin with ${FIRST_WORDS}`);
+    if (kind === "mark" || kind === "reset") return rest.length === 0 ? { kind } : fail(say.standsAlone(kind));
+    return fail(say.noForm(kind.slice(0, 30), say.FIRST_WORDS));
   }
 
   /**
@@ -271,19 +268,19 @@ class TestReader {
    */
   readState(kind, words) {
     const [state] = words;
-    if (words.length !== 1) fail(`it is written as \`${kind} STATE\`, a word`);
-    if (kind === "save" && this.repeats.length > 0) fail("a state is saved once: `save` stands in no `repeat`");
-    if (this.sharing) fail(`shared steps have no states: \`${kind}\` stands in a test`);
+    if (words.length !== 1) fail(say.stateForm(kind));
+    if (kind === "save" && this.repeats.length > 0) fail(say.SAVED_ONCE);
+    if (this.sharing) fail(say.noStates(kind));
     const before = this.savedBy.get(state);
     if (kind === "save") {
-      if (before) fail(`the state ${state} is saved by the test before, \`${before.name}\``);
+      if (before) fail(say.savedBefore(state, before.name));
       this.savedBy.set(state, this.test);
       return { kind, state };
     }
-    if (this.test.steps.length > 1 || this.repeats.length > 0) fail("`from` stands right below `test`");
-    const there = this.savedBy.size > 0 ? `; there is: ${[...this.savedBy.keys()].join(" ")}` : "";
-    if (!before) fail(`no test before it saves a state ${state}${there}`);
-    if (before === this.test) fail("a test cannot begin with a state of its own");
+    if (this.test.steps.length > 1 || this.repeats.length > 0) fail(say.FROM_FORM);
+    const there = this.savedBy.size > 0 ? say.statesThere([...this.savedBy.keys()].join(" ")) : "";
+    if (!before) fail(say.noSuchState(state, there));
+    if (before === this.test) fail(say.OWN_STATE);
     this.test.from = state;
     return { kind, state };
   }
@@ -295,7 +292,7 @@ class TestReader {
    * @returns {Action}
    */
   readKeys(kind, words) {
-    if (words.length === 0) fail(`it is written as \`${kind} ${kind === "keys" ? "KEYS" : "KEY .."}\``);
+    if (words.length === 0) fail(say.keysForm(kind, kind === "keys" ? "KEYS" : "KEY .."));
     const keys = words.flatMap((word) => {
       const key = this.keys.get(word) || this.chosenKey(word);
       if (key) return [key];
@@ -313,7 +310,7 @@ class TestReader {
     const [, inner] = /^\{([^{}]+)\}$/.exec(word) || [];
     if (inner === undefined) return null;
     const [, place, list] = /^([^:]*)(?::(.*))?$/.exec(inner) || ["", ""];
-    if (!/^(acc|cy|dcl|r[0-9]+|(ram|st)\.[0-9A-Za-z.]+)$/.test(place) || list === "") return fail(NO_CHOICE);
+    if (!/^(acc|cy|dcl|r[0-9]+|(ram|st)\.[0-9A-Za-z.]+)$/.test(place) || list === "") return fail(say.CHOICE_FORM);
     const keys = list === undefined ? [] : list.split(",").map((name) => this.keys.get(name) || this.noKey(name, name));
     const [probe] = this.readCondition([place, "0"]).places;
     return { word, place, probe, keys };
@@ -326,8 +323,8 @@ class TestReader {
    */
   noKey(name, word) {
     const there = [...this.keys.keys()].join(" ");
-    const what = word.length > name.length ? `${name}, nor ${word}` : name;
-    return fail(`the board has no key ${what}${there ? `; it has: ${there}` : "; its text names no keys (`# row 0: NAME ..`)"}`);
+    const what = word.length > name.length ? say.nor(name, word) : name;
+    return fail(say.noKey(what, there));
   }
 
   /** @param {string[]} words */
@@ -342,11 +339,11 @@ class TestReader {
    */
   readUntil(words) {
     const within = words.slice(0, -1).lastIndexOf("within");
-    if (within < 1) fail("it is written as `until CONDITION within TIME`");
+    if (within < 1) fail(say.UNTIL_FORM);
     const cycles = wholeDuration(words.slice(within + 1));
-    if (cycles < 1) fail("it ends with `within TIME`, as in: within 500, within 20 ms, within 1.5 s");
+    if (cycles < 1) fail(say.WITHIN_FORM);
     const condition = this.readCondition(words.slice(0, within));
-    if (condition.needs.includes("cycles")) fail("cycles are no condition of `until`; use `run` or `expect`");
+    if (condition.needs.includes("cycles")) fail(say.NO_CYCLES);
     return { kind: "until", condition, cycles };
   }
 }
@@ -360,7 +357,7 @@ function readPace(words) {
   const up = durationOf(words, down.words);
   const isWhole = down.cycles > 0 && up.cycles > 0 && down.words + up.words === words.length;
   return isWhole ? { kind: "pace", down: down.cycles, up: up.cycles }
-    : fail("it is written as `pace TIME TIME`: how long a key is down, and how long it is up after it");
+    : fail(say.PACE_FORM);
 }
 
 /**

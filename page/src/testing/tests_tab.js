@@ -8,6 +8,7 @@ import { defineTestMode } from "../text/test_mode.js";
 import { completeTest, helpForTest, testForms } from "../text/test_words.js";
 import { markOfOutcomes, wordsOfFaults, wordsOfOutcomes } from "../words/results.js";
 import { TestsView } from "./tests_view.js";
+import * as say from "../words/testing.js";
 
 /**
  * @typedef {import("./prepared.js").TextFault} TextFault
@@ -25,9 +26,6 @@ import { TestsView } from "./tests_view.js";
  *   edited: () => void, failed: (fault: unknown) => void }} TestsCalls
  */
 
-const FIRST_TEST = "# What has to be, line by line. F1 has the words; Ctrl and Space completes them.\n\n"
-  + "test it has run for 100 cycles\n  run 100\n  expect cycles 100\n";
-
 export class TestsTab {
   /**
    * @param {import("../help/manual.js").ManualSection[]} manual
@@ -39,7 +37,7 @@ export class TestsTab {
     this.beside = new BesideText({
       name: "tests",
       firstButton: "first-test",
-      firstText: () => FIRST_TEST,
+      firstText: () => say.FIRST_TEST,
       forms: testForms(manual),
       wordsAt: helpForTest,
       complete: completeTest,
@@ -104,7 +102,7 @@ export class TestsTab {
       if (round === this.round) this.show(report, texts);
     } catch (fault) {
       if (!(fault instanceof Cancelled)) throw fault;
-      this.editor.tell("It was cancelled; what was shown is from before.");
+      this.editor.tell(say.WAS_CANCELLED);
     } finally {
       this.isRunning = false;
     }

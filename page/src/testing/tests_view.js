@@ -3,6 +3,7 @@
 import { Cell, below, block, element, onClick } from "../ui/dom.js";
 import { hex } from "../bench/numbers.js";
 import { wordsOfCounts, wordsOfTime } from "../words/results.js";
+import * as say from "../words/testing.js";
 
 /**
  * @typedef {import("./profile.js").Profile} Profile
@@ -58,7 +59,7 @@ export class TestsView {
   /** @param {Outcome} outcome */
   row(outcome) {
     const { name, line, failure } = outcome;
-    const mark = element("b", { className: failure ? "not-ok" : "ok" }, failure ? "not ok" : "ok");
+    const mark = element("b", { className: failure ? "not-ok" : "ok" }, failure ? say.NOT_OK : "ok");
     const head = element("p", {}, mark, " ", buttonOf(name, () => this.calls.goTo(line), { className: "name", title: `line ${line}` }),
       element("span", { className: "time" }, ` ${wordsOfTime(outcome)}`));
     return element("li", {}, head, ...(failure ? this.failed(outcome, failure) : []));
@@ -74,8 +75,8 @@ export class TestsView {
     const state = `${lamps && `lamps ${lamps}\n`}${registers}\n`;
     const last = element("pre", { tabIndex: 0 }, `${state}${trace.join("\n")}`);
     return [told,
-      element("details", {}, element("summary", {}, "The last instructions"), last),
-      element("p", { className: "bar" }, buttonOf("Open the session as it is there", () => this.calls.open(outcome)))];
+      element("details", {}, element("summary", {}, say.LAST_INSTRUCTIONS), last),
+      element("p", { className: "bar" }, buttonOf(say.OPEN_THERE, () => this.calls.open(outcome)))];
   }
 
   /** @param {Profile} profile */
@@ -83,11 +84,11 @@ export class TestsView {
     const cells = (/** @type {(string | Node)[]} */ ...texts) => element("tr", {}, ...texts.map((text) => element("td", {}, text)));
     const percent = (/** @type {number} */ own) => ((100 * own) / total).toFixed(1);
     const told = rows.map(({ label, address, own, calls }) => {
-      const name = address < 0 ? "(no label)" : buttonOf(label, () => this.calls.goToAddress(address), { className: "name" });
+      const name = address < 0 ? say.NO_LABEL : buttonOf(label, () => this.calls.goToAddress(address), { className: "name" });
       const called = calls ? [calls.times, calls.withCalls, calls.longest].map((each) => each.toLocaleString("en")) : ["", "", ""];
       return cells(name, address < 0 ? "" : hex(address, 3), own.toLocaleString("en"), percent(own), ...called);
     });
-    if (begunBefore > 0) told.push(cells("(begun before)", "", begunBefore.toLocaleString("en"), percent(begunBefore), "", "", ""));
+    if (begunBefore > 0) told.push(cells(say.BEGUN_BEFORE, "", begunBefore.toLocaleString("en"), percent(begunBefore), "", "", ""));
     this.labels.replaceChildren(...told);
     this.keys.hidden = keys.length === 0;
     below(this.keys, "tbody", HTMLElement).replaceChildren(...keys.map(({ key, presses, answered, first, last }) => (

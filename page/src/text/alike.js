@@ -1,5 +1,7 @@
 // Words that are meant by one that is nearly so.
 
+import * as say from "../words/text.js";
+
 /**
  * How many letters have to be put in, taken away, changed, or changed with their neighbour to make one word of the other.
  * @param {string} one
@@ -39,5 +41,5 @@ export function mostAlike(wanted, words) {
  * @param {string[]} words
  */
 export function meant(words) {
-  return words.length === 0 ? "" : `; ${words.join(" or ")}?`;
+  return words.length === 0 ? "" : `; ${words.join(say.OR)}?`;
 }

@@ -2,6 +2,7 @@
 
 import { counted, hex } from "../bench/numbers.js";
 import { LONGEST_TEXT } from "./text_fault.js";
+import * as say from "../words/text.js";
 
 /**
  * What a program does not fill: how many bytes it puts, and the addresses of the bytes that stand in ROM beside it and are not 0.
@@ -91,6 +92,6 @@ export function programTexts(program, addresses) {
  */
 export function wordsOfAssembled({ size, left }, counter) {
   const first = left.length > 0 ? `0x${hex(left[0], 3)}` : "";
-  const stay = `${counted(left.length, "byte")} of before ${left.length === 1 ? "stays" : "stay"} in ROM, from ${first} on.`;
-  return `${counted(size, "byte")} assembled.${left.length > 0 ? ` ${stay}` : ""} The counter stays at ${counter}; nothing was reset.`;
+  const stay = say.stays(counted(left.length, "byte"), left.length === 1, first);
+  return say.assembled(counted(size, "byte"), left.length > 0 ? ` ${stay}` : "", counter);
 }

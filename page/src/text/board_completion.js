@@ -7,6 +7,7 @@ import { partsWithLines, readBoardText } from "./board_reader.js";
 import { alone, fitting } from "./completion.js";
 import { tableAt } from "./text_help.js";
 import { commentAt } from "./text_fault.js";
+import * as say from "../words/text.js";
 
 /**
  * @typedef {import("./completion.js").Completion} Completion
@@ -23,8 +24,8 @@ const VALUE = /(\w+)\s*=\s*(?:\[(?:[^\][\]"]|"[^"\n]*")*)?("?)([\w.]*)$/;
  */
 function wordsOfLine({ name, kind, isInput }) {
   const [first, second, third] = name.match(/\d+/g) || [];
-  if (kind === "rom") return `${isInput ? "input" : "output"} line ${second} of ROM ${first}`;
-  return kind === "ram" ? `line ${third} of RAM chip ${second} in bank ${first}` : `bit ${second} of chain ${first}`;
+  if (kind === "rom") return say.lineOfRom(isInput, second, first);
+  return kind === "ram" ? say.lineOfRam(third, second, first) : say.bitOfChain(second, first);
 }
 
 /** The parts of a board's text, as far as it can be read. */
@@ -54,7 +55,7 @@ class Parts {
     switch (`${table}.${key}`) {
       case "rom.chip": return numbers(this.chips);
       case "ram.bank": return numbers(this.banks);
-      case "rom.port": return { list: [{ text: "iiii", what: "input lines" }, { text: "0000", what: "output lines" }], isQuoted: true };
+      case "rom.port": return { list: [{ text: "iiii", what: say.INPUT_LINES }, { text: "0000", what: say.OUTPUT_LINES }], isQuoted: true };
       case "chain.clock": case "chain.data": return lines(this.outputs);
       case "lamp.line": return lines([...this.outputs, ...this.bits]);
       case "keys.columns": return lines(this.inputs);
@@ -71,11 +72,11 @@ class Parts {
     const [input] = this.inputs;
     const [clock = "", data = ""] = this.outputs.map(({ name }) => name);
     return [
-      { text: `[[rom]]\nchip = ${this.chips[0]}\nport = "0000"`, what: "a ROM with its port" },
-      { text: `[[ram]]\nbank = ${this.banks[0]}\nchips = 1`, what: "a bank of RAM chips" },
-      { text: `[[chain]]\nclock = "${clock}"\ndata = "${data}"\nchips = 1`, what: "a chain of shift registers" },
-      { text: `[keys]\nchain = 0\nfirst = 0\nrows = 4\ncolumns = ["${input ? input.name : ""}"]`, what: "the key matrix" },
-      { text: `[[lamp]]\nline = "${clock}"`, what: "a lamp" },
+      { text: `[[rom]]\nchip = ${this.chips[0]}\nport = "0000"`, what: say.ROM_WITH_PORT },
+      { text: `[[ram]]\nbank = ${this.banks[0]}\nchips = 1`, what: say.BANK_OF_RAM },
+      { text: `[[chain]]\nclock = "${clock}"\ndata = "${data}"\nchips = 1`, what: say.CHAIN_OF_REGISTERS },
+      { text: `[keys]\nchain = 0\nfirst = 0\nrows = 4\ncolumns = ["${input ? input.name : ""}"]`, what: say.KEY_MATRIX },
+      { text: `[[lamp]]\nline = "${clock}"`, what: say.A_LAMP },
     ].filter(({ text }) => !text.includes("undefined"));
   }
 }

@@ -3,6 +3,7 @@
 
 import { BITS, MOST } from "../bench/board_form.js";
 import { partsWithLines } from "./board_reader.js";
+import * as say from "../words/text.js";
 
 /**
  * @typedef {import("./board_reader.js").Entry} Entry
@@ -41,11 +42,11 @@ class Parts {
    */
   lackOf(name) {
     const [kind, first, second] = /** @type {string[]} */ (/^([a-z]+)(\d+)\.(\d+)/.exec(name)).slice(1);
-    if (kind === "rom") return this.ports.has(Number(first)) ? "" : `the board has no ROM ${first}`;
+    if (kind === "rom") return this.ports.has(Number(first)) ? "" : say.noRom(first);
     if (kind === "chain") return this.lackOfBit(Number(first), Number(second));
     const chips = this.banks.get(Number(first));
-    if (chips === undefined) return `the board has no RAM in bank ${first}`;
-    return Number(second) < chips ? "" : `bank ${first} has ${chips === 1 ? "chip 0 alone" : `chips 0 to ${chips - 1}`}`;
+    if (chips === undefined) return say.noRamInBank(first);
+    return Number(second) < chips ? "" : say.bankHas(first, chips);
   }
 
   /**
@@ -53,9 +54,9 @@ class Parts {
    * @param {number} bit
    */
   lackOfBit(chain, bit) {
-    if (chain >= this.chains.length) return `the board has no chain ${chain}`;
+    if (chain >= this.chains.length) return say.noChain(chain);
     const last = this.chains[chain] * BITS - 1;
-    return bit <= last ? "" : `chain ${chain} has bits 0 to ${last}`;
+    return bit <= last ? "" : say.bitsOfChain(chain, last);
   }
 
   /**
@@ -77,10 +78,10 @@ class Parts {
     const lack = this.lackOf(name);
     if (lack) return [fault(25, value, `${name}: ${lack}`)];
     const isInput = this.isInput(name);
-    if (what === "columns") return isInput ? [] : [fault(26, value, `${name} is not an input line: a column needs an i in its ROM's port`)];
-    if (isInput) return [fault(26, value, `${name} is an input line (i in its ROM's port); ${what} takes an output line`)];
+    if (what === "columns") return isInput ? [] : [fault(26, value, say.noInputLine(name))];
+    if (isInput) return [fault(26, value, say.isInputLine(name, what))];
     const isBit = name.startsWith("chain") && what !== "line";
-    return isBit ? [fault(26, value, `${name} is a bit of a chain; ${what} takes an output line of a ROM or a RAM chip`)] : [];
+    return isBit ? [fault(26, value, say.isBitOfChain(name, what))] : [];
   }
 
   /**
@@ -116,14 +117,14 @@ function faultsOfCounts(entries) {
     const { table, keys } = entry;
     const count = (counts.get(table) || 0) + 1;
     counts.set(table, count);
-    if (table === "[keys]" && count > 1) return [fault(20, entry, "keys is there already: a board has one key matrix")];
-    if (count > (MOST[table] || count)) return [fault(27, entry, `a board has at most ${MOST[table]} ${table}`)];
+    if (table === "[keys]" && count > 1) return [fault(20, entry, say.KEYS_ALREADY)];
+    if (count > (MOST[table] || count)) return [fault(27, entry, say.mostOf(MOST[table], table))];
     const key = keys.find(({ name }) => name === NUMBERS[table]);
     if (!key) return [];
     const name = `${key.name} ${key.value.inner}`;
     const before = seen.get(name);
     seen.set(name, entry.line);
-    return before ? [fault(24, key.value, `${name} is there already, in line ${before}`)] : [];
+    return before ? [fault(24, key.value, say.alreadyThere(name, before))] : [];
   });
 }
 

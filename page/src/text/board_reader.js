@@ -3,6 +3,7 @@
 
 import { RANGES } from "../bench/board_form.js";
 import { tomlWords } from "./toml_words.js";
+import * as say from "../words/text.js";
 
 /**
  * @typedef {import("./text_fault.js").Fault} Fault
@@ -105,17 +106,17 @@ class BoardReader {
     const isArray = this.words[this.at + 1].text === "[" && this.words[this.at + 1].kind === "mark";
     this.at += isArray ? 2 : 1;
     const name = this.word;
-    if (name.kind !== "bare" && name.kind !== "string") throw new NotToml(name, "a table's name stands in brackets: [[rom]]");
+    if (name.kind !== "bare" && name.kind !== "string") throw new NotToml(name, say.TABLE_FORM);
     this.at += 1;
-    this.take("]", `] is missing: [${isArray ? "[" : ""}${name.text}]${isArray ? "]" : ""}`);
-    if (isArray) this.take("]", `] is missing: [[${name.text}]]`);
+    this.take("]", say.bracketMissing(isArray ? `[[${name.text}]]` : `[${name.text}]`));
+    if (isArray) this.take("]", say.bracketMissing(`[[${name.text}]]`));
     this.open = { table: isArray ? name.text : `[${name.text}]`, line, from, to: name.to + (isArray ? 2 : 1), keys: [] };
     this.entries.push(this.open);
     this.endLine();
   }
 
   endLine() {
-    if (this.word.kind !== "end") throw new NotToml(this.word, this.word.fault || "the line has to end here");
+    if (this.word.kind !== "end") throw new NotToml(this.word, this.word.fault || say.LINE_ENDS);
     this.at += 1;
   }
 
@@ -150,9 +151,9 @@ class BoardReader {
   /** @returns {Key} */
   readKey() {
     const name = this.word;
-    if (name.kind !== "bare" && name.kind !== "string") throw new NotToml(name, name.fault || "a key stands before =");
+    if (name.kind !== "bare" && name.kind !== "string") throw new NotToml(name, name.fault || say.KEY_FORM);
     this.at += 1;
-    this.take("=", `= is missing after ${name.text}`);
+    this.take("=", say.equalsMissing(name.text));
     return { name: name.text, line: name.line, from: name.from, to: name.to, value: this.readValue(name.text) };
   }
 
@@ -165,8 +166,8 @@ class BoardReader {
     const place = { line, from, to };
     if (this.isMark("[")) return { inner: this.readArray(key), whole: true, ...place, end: this.lastEnd };
     if (this.isMark("{")) return { inner: this.readTable(), whole: true, ...place, end: this.lastEnd };
-    if (kind === "end") throw new NotToml(this.word, `the value of ${key} is missing`);
-    if (kind === "mark" || kind === "bad") throw new NotToml(this.word, fault || `a value stands here, not ${text}`);
+    if (kind === "end") throw new NotToml(this.word, say.valueMissing(key));
+    if (kind === "mark" || kind === "bad") throw new NotToml(this.word, fault || say.noValue(text));
     const inner = this.innerOf(kind, text);
     this.at += 1;
     return { inner, whole: typeof inner !== "number" || INTEGER.test(text), ...place, end: { line, to } };
@@ -182,8 +183,8 @@ class BoardReader {
     if (INTEGER.test(text)) return Number(text.replace(/_/g, ""));
     if (text === "true" || text === "false") return text === "true";
     if (/^[+-]?\d+(\.\d+)?([eE][+-]?\d+)?$/.test(text) && !/^[+-]?0\d/.test(text)) return Number(text);
-    if (/^0\d+$/.test(text)) throw new NotToml(this.word, `a number has no 0 before it; a text stands in quotes: "${text}"`);
-    throw new NotToml(this.word, `${text} is a text, so it stands in quotes: "${text}"`);
+    if (/^0\d+$/.test(text)) throw new NotToml(this.word, say.numberForm(text));
+    throw new NotToml(this.word, say.textForm(text));
   }
 
   skipEnds() {
@@ -199,11 +200,11 @@ class BoardReader {
     this.at += 1;
     const values = [];
     for (this.skipEnds(); !this.isMark("]"); this.skipEnds()) {
-      if (this.word.kind === "end") throw new NotToml(opened, "the closing ] is missing");
+      if (this.word.kind === "end") throw new NotToml(opened, say.NO_BRACKET);
       values.push(this.readValue(key));
       this.skipEnds();
       if (this.isMark(",")) this.at += 1;
-      else if (!this.isMark("]")) throw new NotToml(this.word, this.word.fault || "a comma stands between two values, ] after the last");
+      else if (!this.isMark("]")) throw new NotToml(this.word, this.word.fault || say.COMMA_OF_VALUES);
     }
     this.at += 1;
     return values;
@@ -215,10 +216,10 @@ class BoardReader {
     this.at += 1;
     const keys = [];
     while (!this.isMark("}")) {
-      if (this.word.kind === "end") throw new NotToml(this.word, "the closing } is missing in this line");
+      if (this.word.kind === "end") throw new NotToml(this.word, say.NO_BRACE);
       keys.push(this.readKey());
       if (this.isMark(",")) this.at += 1;
-      else if (!this.isMark("}")) throw new NotToml(this.word, this.word.fault || "a comma stands between two keys, } after the last");
+      else if (!this.isMark("}")) throw new NotToml(this.word, this.word.fault || say.COMMA_OF_KEYS);
     }
     this.at += 1;
     return { table: "", line, from, to, keys, end: this.lastEnd };

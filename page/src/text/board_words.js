@@ -4,6 +4,7 @@ import { KEYS, LINE_NAMES, MOST_COLUMNS, RANGES } from "../bench/board_form.js";
 import { meant, mostAlike } from "./alike.js";
 import { faultsOfParts } from "./board_parts.js";
 import { readBoardText } from "./board_reader.js";
+import * as say from "../words/text.js";
 
 /**
  * @typedef {import("./board_reader.js").BoardText} BoardText
@@ -13,7 +14,6 @@ import { readBoardText } from "./board_reader.js";
  * @typedef {import("./text_fault.js").Fault} Fault
  */
 
-const LINE_FORMS = "rom1.0, ram0.0.3 or chain0.5";
 
 /**
  * @param {number} number
@@ -52,14 +52,14 @@ function wordsOfValue(table, { name, value }) {
   const range = RANGES[`${table}.${name}`];
   if (range) {
     const fits = typeof inner === "number" && whole && inner >= range.from && inner <= range.to;
-    const kind = typeof inner === "string" ? ", a number without quotes" : "";
-    return fits ? "" : `${name} is ${range.from} to ${range.to}${kind}`;
+    const kind = typeof inner === "string" ? say.NO_QUOTES : "";
+    return fits ? "" : say.range(name, range.from, range.to, kind);
   }
   if (name === "port") {
-    const words = "port is four characters for lines 3, 2, 1 and 0, each i, 0 or 1: \"iiii\"";
+    const words = say.PORT_FORM;
     return typeof inner === "string" && /^[i01]{4}$/.test(inner) ? "" : words;
   }
-  if (name === "columns") return Array.isArray(inner) && inner.length > 0 ? "" : "columns is one to eight lines: [\"rom1.0\", \"rom1.1\"]";
+  if (name === "columns") return Array.isArray(inner) && inner.length > 0 ? "" : say.COLUMNS_FORM;
   return wordsOfLine(name, value);
 }
 
@@ -68,7 +68,7 @@ function wordsOfValue(table, { name, value }) {
  * @param {Value} value
  */
 function wordsOfLine(name, { inner }) {
-  return typeof inner === "string" && LINE_NAMES.has(inner) ? "" : `${name} is the name of a line, in quotes: ${LINE_FORMS}`;
+  return typeof inner === "string" && LINE_NAMES.has(inner) ? "" : say.lineForm(name, say.LINE_FORMS);
 }
 
 /**
@@ -80,16 +80,16 @@ function faultsOfKey({ table }, key) {
   const kind = table.replace(/[[\]]/g, "");
   if (!KEYS[kind].includes(key.name)) {
     const likes = mostAlike(key.name, KEYS[kind]);
-    const words = `${key.name} is no key of ${kind}${meant(likes) || `, which has ${KEYS[kind].join(", ")}`}`;
+    const words = say.noKeyOf(key.name, kind, meant(likes) || say.whichHas(KEYS[kind].join(", ")));
     return [curable(faultAt(21, key, words), likes)];
   }
   const words = wordsOfValue(kind, key);
   if (words) return [faultAt(23, key.value, words)];
   if (key.name !== "columns" || !Array.isArray(key.value.inner)) return [];
   const [ninth] = key.value.inner.slice(MOST_COLUMNS);
-  const bad = key.value.inner.map((value) => ({ value, words: wordsOfLine("a column", value) })).filter((each) => each.words);
+  const bad = key.value.inner.map((value) => ({ value, words: wordsOfLine(say.A_COLUMN, value) })).filter((each) => each.words);
   const faults = bad.map((each) => faultAt(23, each.value, each.words));
-  return ninth ? [...faults, faultAt(27, ninth, `a matrix has at most ${MOST_COLUMNS} columns`)] : faults;
+  return ninth ? [...faults, faultAt(27, ninth, say.mostColumns(MOST_COLUMNS))] : faults;
 }
 
 /**
@@ -100,22 +100,22 @@ function faultsOfEntry(entry) {
   const kind = entry.table.replace(/[[\]]/g, "");
   if (!KEYS[kind]) {
     const likes = mostAlike(kind, Object.keys(KEYS));
-    const words = `${kind} is no part of a board${meant(likes) || `, which has ${Object.keys(KEYS).join(", ")}`}`;
+    const words = say.noPart(kind, meant(likes) || say.whichHas(Object.keys(KEYS).join(", ")));
     return [curable(faultAt(21, entry, words), likes.map(header))];
   }
   const isSingle = entry.table.startsWith("[");
   if (isSingle !== (kind === "keys")) {
-    const words = kind === "keys" ? "a board has one key matrix: [keys]" : `there may be several: [[${kind}]]`;
+    const words = kind === "keys" ? say.ONE_MATRIX : say.several(kind);
     return [curable(faultAt(23, entry, words), [header(kind)])];
   }
   const seen = new Map();
   const faults = entry.keys.flatMap((key) => {
     const before = seen.get(key.name);
     seen.set(key.name, key.line);
-    return before ? [faultAt(20, key, `${key.name} is there already, in line ${before}`)] : faultsOfKey(entry, key);
+    return before ? [faultAt(20, key, say.alreadyThere(key.name, before))] : faultsOfKey(entry, key);
   });
   const lacks = KEYS[kind].filter((name) => !seen.has(name));
-  return [...faults, ...(lacks.length > 0 ? [faultAt(22, entry, `this ${kind} lacks ${lacks.join(" and ")}`)] : [])];
+  return [...faults, ...(lacks.length > 0 ? [faultAt(22, entry, say.lacks(kind, lacks.join(say.AND)))] : [])];
 }
 
 /**
@@ -135,8 +135,8 @@ function surest(faults) {
  */
 export function faultsOfBoard(sent) {
   const { entries, others, faults } = readBoardText(sent);
-  const unknown = others.map((key) => (KEYS[key.name] ? faultAt(23, key.value, `${key.name} is a table, or an array of tables`)
-    : faultAt(21, key, `${key.name} is no key at the top of a board`)));
+  const unknown = others.map((key) => (KEYS[key.name] ? faultAt(23, key.value, say.isTable(key.name))
+    : faultAt(21, key, say.noKeyAtTop(key.name))));
   const all = [...faults, ...unknown, ...entries.flatMap(faultsOfEntry)];
   if (all.length === 0) all.push(...faultsOfParts(entries));
   return surest(all).sort((one, other) => one.line - other.line || one.from - other.from);

@@ -1,5 +1,7 @@
 // How often the lines of a program were run, in the margin of its text. The counts are those of one text: an edit takes them away.
 
+import * as say from "../words/text.js";
+
 /**
  * @typedef {import("codemirror").Editor} Editor
  * @typedef {import("codemirror").LineHandle} LineHandle
@@ -17,7 +19,7 @@ export function textOfCount({ count, isJump, taken }) {
 
 /** @param {number} number */
 function times(number) {
-  return ["never", "once"][number] || `${number.toLocaleString("en")} times`;
+  return say.timesOf(number);
 }
 
 /**
@@ -25,8 +27,8 @@ function times(number) {
  * @param {Covered} covered
  */
 export function wordsOfCount({ count, isJump, taken }) {
-  if (count === 0) return "no test runs it";
-  return `run ${times(count)}${isJump ? `; it jumped ${times(taken)}, and went on ${times(count - taken)}` : ""}`;
+  if (count === 0) return say.NO_TEST_RUNS;
+  return say.ran(times(count)) + (isJump ? say.jumped(times(taken), times(count - taken)) : "");
 }
 
 export class CountMarks {

@@ -11,6 +11,7 @@ import { NameView } from "./name_view.js";
 import { SearchBar } from "./search_bar.js";
 import { TextEditor } from "./text_editor.js";
 import { LONGEST_KEPT, LONGEST_TEXT, alignedText, sentText } from "./text_fault.js";
+import * as say from "../words/text.js";
 
 /**
  * @typedef {import("../machine/breakpoint_marks.js").BreakpointMark} BreakpointMark
@@ -50,7 +51,7 @@ export class EditorView {
     const root = block(id);
     const paper = below(root, ".paper", HTMLElement);
     const place = element("div", { className: "text" });
-    const list = element("ul", { "className": "faults-told", "aria-label": "Faults" });
+    const list = element("ul", { "className": "faults-told", "aria-label": say.FAULTS });
     this.meaning = new MeaningView(language.offer || (() => {}));
     this.counter = new Cell(element("p", { className: "size" }));
     paper.append(place, list, element("div", { className: "strip" }, this.meaning.node, this.counter.node));
@@ -104,8 +105,7 @@ export class EditorView {
       clickedGutter: (line) => this.calls.toggleBreakpoint(line),
       askedGutter: (line, event) => this.askedFor(line, event),
       clickedName: () => this.language.isInstruction && this.names.define(),
-      refused: (size) => this.told.set(`It was not put in: the text would have ${size.toLocaleString("en")} characters, and `
-        + `${LONGEST_KEPT.toLocaleString("en")} is the most.`),
+      refused: (size) => this.told.set(say.notPutIn(size.toLocaleString("en"), LONGEST_KEPT.toLocaleString("en"))),
     };
   }
 
@@ -295,7 +295,7 @@ export class EditorView {
     this.counting = window.setTimeout(() => {
       const { isUnsent } = this.language;
       const [{ length }, most, unit] = isUnsent ? [this.text, LONGEST_KEPT, "characters"] : [this.sent, LONGEST_TEXT, "bytes"];
-      this.counter.set(`${length.toLocaleString("en")} of ${most.toLocaleString("en")} ${unit}`);
+      this.counter.set(say.sizeOf(length.toLocaleString("en"), most.toLocaleString("en"), unit));
       this.counter.node.classList.toggle("too-many", length > most);
     }, REST_TIME);
   }

@@ -16,6 +16,7 @@ import { instructionsOf } from "../help/manual.js";
 import { MOST_FAULTS } from "./program_faults.js";
 import { boardTables, helpForBoard, helpForProgram } from "./text_help.js";
 import { TOUR_BOARD } from "../words/help.js";
+import * as say from "../words/text.js";
 
 /**
  * @typedef {import("../bench/bench.js").Bench} Bench
@@ -152,7 +153,7 @@ export class Editors {
    */
   show(name, { faults, areAll }) {
     const told = name === "board" ? [...faults, ...faultsOfFace(this.board.text)] : faults;
-    const more = areAll || faults.length < 2 ? "" : "There may be more.";
+    const more = areAll || faults.length < 2 ? "" : say.MAY_BE_MORE;
     this[name].showFaults(told.slice(0, MOST_FAULTS), moreThan(told, MOST_FAULTS) || more);
     this.calls.hasFaults(name, told.length);
   }
@@ -169,7 +170,7 @@ export class Editors {
     const answer = await this.calls.act(`${lines}reset\n`);
     if (answer === null) return;
     const refusal = refusalOf(answer);
-    const done = `${counted(size, "byte")} assembled, the rest of ROM is 0. It runs from 000 on.`;
+    const done = say.assembledAll(counted(size, "byte"));
     this.program.tell(refusal ? this.wordsOfRefusal(refusal) : done);
     if (refusal) return;
     await this.calls.assembled(true);
@@ -193,13 +194,13 @@ export class Editors {
     const answer = await this.calls.act(`wire\n${this.board.sent}.\n`);
     if (answer === null) return;
     const refusal = refusalOf(answer);
-    this.board.tell(refusal ? this.wordsOfRefusal(refusal) : "The board is wired.");
+    this.board.tell(refusal ? this.wordsOfRefusal(refusal) : say.BOARD_WIRED);
     await this.programFaults.look();
   }
 
   /** An empty bench gets a board. */
   async wireFirst() {
-    this.calls.replaceBoard(TOUR_BOARD, "The first board's text stands in Board.");
+    this.calls.replaceBoard(TOUR_BOARD, say.FIRST_BOARD);
     await this.wire();
   }
 
@@ -225,7 +226,7 @@ export class Editors {
    */
   refuseFaults(name, faults) {
     const [{ line, words }] = faults;
-    this[name].tell(`line ${line}: ${words}${faults.length > 1 ? `, and ${faults.length - 1} more` : ""}`);
+    this[name].tell(say.firstFault(line, words, faults.length - 1));
     this[name].reveal(line);
   }
 

@@ -1,6 +1,7 @@
 // A bar above a text with one field: a line to go to, another name.
 
 import { Cell, element, onClick } from "../ui/dom.js";
+import * as say from "../words/text.js";
 
 /**
  * What is asked: its label, what stands in the field at first, the word of the button; and what is done with what was typed, which gives
@@ -18,8 +19,8 @@ export class FieldBar {
     this.label = new Cell(element("span"));
     this.field = element("input", { autocomplete: "off", spellcheck: false });
     this.told = new Cell(element("p", { role: "status" }));
-    this.act = element("button", { type: "button", title: "Enter" }, "Go");
-    const close = element("button", { type: "button", title: "Escape" }, "Close");
+    this.act = element("button", { type: "button", title: "Enter" }, say.GO);
+    const close = element("button", { type: "button", title: "Escape" }, say.CLOSE);
     this.bar = element("div", { role: "group", className: "search bar", hidden: true },
       element("label", {}, this.label.node, " ", this.field), this.act, close, this.told.node);
     place.prepend(this.bar);

@@ -3,6 +3,7 @@
 import { counted } from "../bench/numbers.js";
 import { element } from "../ui/dom.js";
 import { headOf, lastFolded } from "./folding.js";
+import * as say from "../words/text.js";
 
 /**
  * @typedef {import("codemirror").Editor} Editor
@@ -28,7 +29,7 @@ function linesOf(editor) {
  * @param {number} count
  */
 function makeWidget(count) {
-  return element("span", { className: "folded-lines", title: "a click unfolds them" }, `… ${counted(count, "line")}`);
+  return element("span", { className: "folded-lines", title: say.UNFOLDS }, `… ${counted(count, "line")}`);
 }
 
 /**

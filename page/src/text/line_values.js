@@ -1,6 +1,7 @@
 // Words behind lines of a text, greyed: what these lines have changed. They are no part of the text, and go with their lines.
 
 import { element } from "../ui/dom.js";
+import * as say from "../words/text.js";
 
 /**
  * @typedef {import("codemirror").Editor} Editor
@@ -26,7 +27,7 @@ export class LineValues {
       const told = [...lines].filter(([line, words]) => words !== "" && line <= editor.lineCount());
       this.marks = told.map(([line, words], at) => {
         const className = at === told.length - 1 ? "line-values last" : "line-values";
-        const widget = element("span", { className, title: "what this line has changed" }, words);
+        const widget = element("span", { className, title: say.LINE_CHANGED }, words);
         return editor.setBookmark({ line: line - 1, ch: editor.getLine(line - 1).length }, { widget, insertLeft: true });
       });
     });

@@ -4,6 +4,7 @@
 import { element } from "../ui/dom.js";
 import { putBelow } from "../ui/told_at.js";
 import { textOf } from "../debug/value_words.js";
+import * as say from "../words/text.js";
 
 /**
  * @typedef {import("../debug/value_words.js").Piece} Piece
@@ -59,7 +60,7 @@ export class MeaningView {
 
   /** @param {Value} value */
   cellOf(value) {
-    const cell = element("button", { "type": "button", "className": "value", "title": `${value.name}: a double click or Enter edits it` });
+    const cell = element("button", { "type": "button", "className": "value", "title": say.edits(value.name) });
     cell.setAttribute("aria-label", value.name);
     cell.textContent = value.value;
     this.offer(cell, value);

@@ -5,13 +5,13 @@ import CodeMirror from "codemirror";
 import { element, onClick } from "../ui/dom.js";
 import { FieldBar } from "./field_bar.js";
 import { definitionOf, faultOfRenaming, nameAt, referencesOf } from "./references.js";
+import * as say from "../words/text.js";
 
 /**
  * @typedef {import("./text_editor.js").TextEditor} TextEditor
  * @typedef {import("./references.js").Reference} Reference
  */
 
-const NO_NAME = "No name of this text stands at the caret.";
 /** Words of a line in the list of places. */
 const LONGEST_WORDS = 60;
 
@@ -25,7 +25,7 @@ export class NameView {
     this.text = text;
     this.calls = calls;
     this.bar = new FieldBar(place, () => text.editor.focus());
-    this.list = element("ul", { "className": "places", "aria-label": "Places of a name", "hidden": true });
+    this.list = element("ul", { "className": "places", "aria-label": say.PLACES_OF_NAME, "hidden": true });
     place.append(this.list);
   }
 
@@ -37,7 +37,7 @@ export class NameView {
   nameAtCaret() {
     const { line, ch } = this.text.editor.getCursor();
     const name = nameAt(this.lines, line, ch);
-    if (name === "") this.calls.tell(NO_NAME);
+    if (name === "") this.calls.tell(say.NO_NAME);
     return name;
   }
 
@@ -62,9 +62,9 @@ export class NameView {
     if (name === "") return;
     const { lines } = this;
     const places = referencesOf(lines, name);
-    const close = element("button", { type: "button" }, "Close");
+    const close = element("button", { type: "button" }, say.CLOSE);
     onClick(close, () => this.close());
-    this.list.replaceChildren(element("li", {}, `${name} stands at ${counted(places.length, "place")} `, close),
+    this.list.replaceChildren(element("li", {}, say.nameIsAt(name, counted(places.length, "place")), close),
       ...places.map((place) => this.row(place, lines[place.line - 1])));
     this.list.hidden = false;
   }
@@ -74,7 +74,7 @@ export class NameView {
    * @param {string} text of its line
    */
   row(place, text) {
-    const made = element("button", { type: "button" }, `line ${place.line}${place.isDefinition ? ", where it is defined" : ""}`);
+    const made = element("button", { type: "button" }, say.lineOfName(place.line, place.isDefinition));
     onClick(made, () => this.show(place));
     return element("li", {}, made, " ", element("code", {}, text.trim().slice(0, LONGEST_WORDS)));
   }
@@ -88,7 +88,7 @@ export class NameView {
   rename() {
     const name = this.nameAtCaret();
     if (name === "") return;
-    this.bar.open({ label: `Another name for ${name}`, value: name, word: "Rename", act: (wanted) => this.renameTo(name, wanted) });
+    this.bar.open({ label: say.otherName(name), value: name, word: say.RENAME, act: (wanted) => this.renameTo(name, wanted) });
   }
 
   /**
@@ -105,7 +105,7 @@ export class NameView {
         text.editor.replaceRange(wanted, CodeMirror.Pos(line - 1, from), CodeMirror.Pos(line - 1, to), "rename");
       }
     });
-    calls.tell(`${name} is ${wanted} now, at ${counted(places.length, "place")}.`);
+    calls.tell(say.renamed(name, wanted, counted(places.length, "place")));
     return "";
   }
 
@@ -113,12 +113,12 @@ export class NameView {
   goToLine() {
     const last = this.text.editor.lineCount();
     this.bar.open({
-      label: `Line, 1 to ${last.toLocaleString("en")}`,
+      label: say.lineOfText(last.toLocaleString("en")),
       value: "",
-      word: "Go",
+      word: say.GO,
       act: (typed) => {
         const line = /^\d+$/.test(typed) ? Number(typed) : 0;
-        if (line < 1 || line > last) return `A line is a number from 1 to ${last.toLocaleString("en")}.`;
+        if (line < 1 || line > last) return say.lineIs(last.toLocaleString("en"));
         this.text.goTo({ line: line - 1, ch: 0 });
         this.text.reveal(line);
         return "";

@@ -5,6 +5,7 @@ import { NAME, namesOf, partsOf } from "./assembly.js";
 import { hex } from "../bench/numbers.js";
 import { wordsOfProgramLine } from "./program_words.js";
 import { alignedText, faultsOfLines, sentText } from "./text_fault.js";
+import * as say from "../words/text.js";
 
 /**
  * @typedef {import("../bench/answers.js").Refusal} Refusal
@@ -139,7 +140,7 @@ export function lacksOfRom(lines, map, roms) {
     if (address === undefined) return;
     const chip = [Math.floor(address / 256), Math.floor((address + map.sizes[line] - 1) / 256)].find((each) => !roms.has(each));
     if (chip === undefined || faults.has(chip)) return;
-    const words = `the board has no ROM ${chip}, where this line stands (${hex(address, 3)}): wire a [[rom]] with chip = ${chip}`;
+    const words = say.noRomForLine(chip, hex(address, 3));
     faults.set(chip, faultAt(text, text, line, { word: null, words }, LACKS_ROM, () => words));
   });
   return [...faults.values()];

@@ -2,6 +2,7 @@
 
 import { meant, mostAlike } from "./alike.js";
 import { DIRECTIVES, LONGEST_NAME, NAME, NUMBER, PAIR, REGISTER, partsOf } from "./assembly.js";
+import * as say from "../words/text.js";
 
 /**
  * @typedef {import("./assembly.js").Parts} Parts
@@ -20,12 +21,12 @@ import { DIRECTIVES, LONGEST_NAME, NAME, NUMBER, PAIR, REGISTER, partsOf } from 
  * @type {Record<string, { what: string, most: number }>}
  */
 const OPERANDS = {
-  Pk: { what: "a pair, P0 to P7", most: 0 },
-  Rk: { what: "a register, R0 to R15", most: 0 },
-  c: { what: "a condition, 0 to 15", most: 15 },
-  d: { what: "a value, 0 to 15", most: 15 },
-  b: { what: "a byte, 0 to 255", most: 255 },
-  t: { what: "an address, 0 to 4095, or a name", most: 4095 },
+  Pk: { what: say.A_PAIR, most: 0 },
+  Rk: { what: say.A_REGISTER, most: 0 },
+  c: { what: say.A_CONDITION, most: 15 },
+  d: { what: say.A_VALUE, most: 15 },
+  b: { what: say.A_BYTE, most: 255 },
+  t: { what: say.AN_ADDRESS, most: 4095 },
 };
 /** What other assemblers call it, and what does it here. */
 const ELSEWHERE = new Map(Object.entries({
@@ -47,10 +48,10 @@ function foreignNumber(text) {
   const number = (hexadecimal && `0x${hexadecimal[1].toUpperCase()}`) || (binary && `${parseInt(binary[1], 2)}`)
     || (letter && `0x${letter[2].charCodeAt(0).toString(16).toUpperCase()}`) || (mark && mark[1]);
   if (!number) return null;
-  if (hexadecimal) return { number, words: `hexadecimal is ${number}` };
-  if (binary) return { number, words: `binary numbers are not written; it is ${number}` };
-  if (letter) return { number, words: `letters are not written; the code of ${letter[2]} is ${number}` };
-  return { number, words: `without #: ${number}` };
+  if (hexadecimal) return { number, words: say.isHexadecimal(number) };
+  if (binary) return { number, words: say.isBinary(number) };
+  if (letter) return { number, words: say.isLetter(letter[2], number) };
+  return { number, words: say.withoutMark(number) };
 }
 
 /**
@@ -60,10 +61,10 @@ function foreignNumber(text) {
 function wordsOfNumber(text) {
   const foreign = foreignNumber(text);
   if (foreign) return foreign.words;
-  if (/^-\d+$/.test(text)) return "there are no negative numbers";
-  if (/[-+*/()<>]/.test(text)) return "there are no expressions: write one number or one name";
-  if (/\s/.test(text)) return "a comma stands between two operands";
-  if (/^\d/.test(text)) return "a number is decimal digits, or 0x and hexadecimal digits";
+  if (/^-\d+$/.test(text)) return say.NO_NEGATIVES;
+  if (/[-+*/()<>]/.test(text)) return say.NO_EXPRESSIONS;
+  if (/\s/.test(text)) return say.COMMA_OF_OPERANDS;
+  if (/^\d/.test(text)) return say.NUMBER_FORM;
   return "";
 }
 
@@ -94,11 +95,11 @@ function curable(word, words, cures) {
  */
 function wordsOfName(text, { instructions }) {
   const upper = text.toUpperCase();
-  if (text.length > LONGEST_NAME) return `a name has at most ${LONGEST_NAME} characters; this has ${text.length}`;
-  if (!NAME.test(text)) return "a name begins with a letter or _ and goes on with letters, digits and _";
-  if (instructions.has(upper)) return `${text} is an instruction, so it cannot be a name`;
-  if (upper === "WPM" || DIRECTIVES.includes(upper)) return `${text} cannot be a name`;
-  return REGISTER.test(text) || PAIR.test(text) ? `${text} is a register, so it cannot be a name` : "";
+  if (text.length > LONGEST_NAME) return say.nameTooLong(LONGEST_NAME, text.length);
+  if (!NAME.test(text)) return say.NAME_FORM;
+  if (instructions.has(upper)) return say.isInstruction(text);
+  if (upper === "WPM" || DIRECTIVES.includes(upper)) return say.cannotBeName(text);
+  return REGISTER.test(text) || PAIR.test(text) ? say.isRegister(text) : "";
 }
 
 /**
@@ -112,7 +113,7 @@ function wordsOfName(text, { instructions }) {
  */
 function faultOfOperand(head, kind, word, facts, isFirst) {
   const { what } = OPERANDS[kind];
-  const takes = isFirst ? `${head} takes ${what}` : `${head} takes ${what}, after the comma`;
+  const takes = isFirst ? say.takes(head, what) : say.takesAfterComma(head, what);
   const { text } = word;
   if (kind === "Pk" && PAIR.test(text)) return null;
   if (kind === "Rk" && REGISTER.test(text)) return null;
@@ -140,14 +141,14 @@ export function operandsOfForm(form) {
  */
 function faultOfHead({ label, operands }, head, { instructions }) {
   const upper = head.text.toUpperCase();
-  if (upper === "WPM") return { word: head, words: "WPM is not on this bench: its ROM cannot be written by a program" };
+  if (upper === "WPM") return { word: head, words: say.NO_WPM };
   const given = operands.length === 1 && NAME.test(head.text) && /^(?:EQU|SET)\s+(.*)$/i.exec(operands[0].text);
-  if (given) return { word: operands[0], words: `a name gets its number by =: ${head.text} = ${given[1]}`, cures: [`= ${given[1]}`] };
+  if (given) return { word: operands[0], words: say.nameGetsNumber(head.text, given[1]), cures: [`= ${given[1]}`] };
   const other = ELSEWHERE.get(upper);
   const isAlone = !label && operands.length === 0 && NAME.test(head.text);
   const likes = other ? [] : mostAlike(upper, [...instructions.keys(), ...DIRECTIVES]);
   const question = other ? `; ${other}?` : meant(likes);
-  const words = `${head.text} is no instruction${question || (isAlone ? `; a label has a colon: ${head.text}:` : "")}`;
+  const words = say.noInstruction(head.text, question || (isAlone ? say.labelForm(head.text) : ""));
   const alone = isAlone && !question ? [`${head.text}:`] : likes;
   return curable(head, words, other ? other.split(" or ").filter((each) => /^[A-Z]+( \d+,?)?$/.test(each)).map(asHead) : alone);
 }
@@ -171,10 +172,10 @@ function faultOfDirective(head, operands, facts) {
     const isNumber = operands.length === 1 && NUMBER.test(operands[0].text);
     if (isNumber) return null;
     const reason = operands[0] && !NAME.test(operands[0].text) ? wordsOfNumber(operands[0].text) : "";
-    const words = `ORG takes one number, 0 to 4095 (0xFFF)${reason ? `; ${reason}` : ""}`;
+    const words = say.orgForm(reason && `; ${reason}`);
     return curable(operands[0] || head, words, reason ? curesOfNumber(operands[0].text) : []);
   }
-  if (operands.length === 0) return { word: head, words: "DB takes bytes, 0 to 255, with commas between them" };
+  if (operands.length === 0) return { word: head, words: say.DB_FORM };
   return operands.map((word) => faultOfOperand("DB", "b", word, facts, true)).find((found) => found !== null) || null;
 }
 
@@ -190,23 +191,23 @@ function faultOfForm(parts, facts) {
   if (badName) return { word: label, words: badName };
   if (defines) {
     const reason = operands[0] ? wordsOfNumber(operands[0].text) : "";
-    const words = `after = stands one number${reason ? `; ${reason}` : ""}`;
+    const words = say.equalsForm(reason && `; ${reason}`);
     return curable(operands[0] || label, words, reason ? curesOfNumber(operands[0].text) : []);
   }
-  if (!head) return { word: label, words: "a name stands before the colon" };
+  if (!head) return { word: label, words: say.COLON_FORM };
   const upper = head.text.toUpperCase();
   if (DIRECTIVES.includes(upper)) return faultOfDirective(head, operands, facts);
   const instruction = facts.instructions.get(upper);
   if (!instruction) return faultOfHead(parts, head, facts);
   const kinds = operandsOfForm(instruction.form);
-  if (kinds.length === 0) return { word: operands[0] || head, words: `${upper} takes nothing after it` };
+  if (kinds.length === 0) return { word: operands[0] || head, words: say.takesNothing(upper) };
   for (let at = 0; at < Math.min(kinds.length, operands.length); at++) {
     const found = faultOfOperand(upper, kinds[at], operands[at], facts, at === 0);
     if (found) return found;
   }
   const extra = operands[kinds.length];
-  const wanted = kinds.map((kind) => OPERANDS[kind].what).join(", and ");
-  return { word: extra || head, words: `${upper} takes ${wanted}${extra ? ", no more" : ""}` };
+  const wanted = kinds.map((kind) => OPERANDS[kind].what).join(say.AND_AFTER);
+  return { word: extra || head, words: say.takesNoMore(upper, wanted, Boolean(extra)) };
 }
 
 /**
@@ -216,7 +217,7 @@ function faultOfForm(parts, facts) {
  * @returns {Found | null}
  */
 function faultOfValue({ head, operands, defines, label }, { instructions }) {
-  if (defines) return { word: operands[0] || label, words: "a number of a name is 0 to 4095" };
+  if (defines) return { word: operands[0] || label, words: say.NUMBER_OF_NAME };
   if (!head) return null;
   const upper = head.text.toUpperCase();
   const instruction = instructions.get(upper);
@@ -226,8 +227,8 @@ function faultOfValue({ head, operands, defines, label }, { instructions }) {
   const named = values.find(({ word }) => NAME.test(word.text));
   const found = tooLarge || named;
   if (!found) return null;
-  const what = upper === "ORG" ? "an address, 0 to 4095" : found.kind.what;
-  return { word: found.word, words: `${upper} takes ${what}${tooLarge ? "" : `; ${found.word.text} is more`}` };
+  const what = upper === "ORG" ? say.ORG_ADDRESS : found.kind.what;
+  return { word: found.word, words: say.takesBut(upper, what, tooLarge ? "" : say.isMore(found.word.text)) };
 }
 
 /**
@@ -249,7 +250,7 @@ function faultOfUnknown({ operands }, { names }) {
   const likes = mostAlike(word.text, names.keys());
   const isHex = /^[0-9A-Fa-f]+$/.test(word.text) && likes.length === 0;
   const cures = isHex ? [`0x${word.text.toUpperCase()}`] : likes;
-  return curable(word, `${word.text} is not defined${cures.length > 0 ? meant(cures) : ""}`, cures);
+  return curable(word, say.notDefined(word.text, cures.length > 0 ? meant(cures) : ""), cures);
 }
 
 /**
@@ -263,15 +264,15 @@ export function wordsOfProgramLine(line, number, facts) {
   const parts = partsOf(line);
   if (number === 30) return faultOfForm(parts, facts);
   if (number === 31 && parts.label) {
-    return { word: parts.label, words: `${parts.label.text} is defined in line ${facts.names.get(parts.label.text)} already` };
+    return { word: parts.label, words: say.definedAlready(parts.label.text, facts.names.get(parts.label.text)) };
   }
   if (number === 32) return faultOfUnknown(parts, facts);
   if (number === 33) return faultOfValue(parts, facts);
   if (number === 34 && parts.head) {
     const word = target(parts);
     const head = parts.head.text.toUpperCase();
-    return { word, words: `${word ? word.text : "it"} is on another page; ${head} reaches the page of the address after its two words` };
+    return { word, words: say.otherPage(word ? word.text : say.IT, head) };
   }
-  if (number === 35) return { word: parts.head, words: "an earlier line has put a byte at this address; look at the ORG lines" };
+  if (number === 35) return { word: parts.head, words: say.BYTE_ALREADY };
   return null;
 }

@@ -1,6 +1,7 @@
 // Words of a text of properties: what a word does, by the manual, and what it can become, with the names of the board and the program.
 
 import { alone, completeWord, fittings, formsOfTables, saidOf, testForms, wordsOfCondition, wordsUpTo } from "./test_words.js";
+import * as say from "../words/text.js";
 
 /**
  * @typedef {import("../help/manual.js").ManualSection} ManualSection
@@ -11,7 +12,7 @@ import { alone, completeWord, fittings, formsOfTables, saidOf, testForms, wordsO
  * @typedef {{ lines: Form[], conditions: Form[] }} PropertyForms
  */
 
-const SECTIONS = ["What may change", "What must hold"];
+const SECTIONS = [say.MAY_CHANGE, say.MUST_HOLD];
 /** What a line begins with, before a condition. */
 const BEFORE = /^(never|always|reach)$/;
 /** What can stand behind a condition. */
@@ -34,8 +35,8 @@ export function propertyForms(manual) {
  */
 export function firstProperties({ keys, lamps }) {
   const [lamp = "0"] = lamps;
-  return "# What must hold, whatever is pressed and whenever. F1 has the words; Ctrl and Space completes them.\n\n"
-    + `${keys.length === 0 ? "test\n" : ""}wait 1 ms to 20 ms\nnote lamps\n\nreach lamp ${lamp} on\nreach lamp ${lamp} off\n`;
+  const begun = `${say.FIRST_PROPERTIES}${keys.length === 0 ? "test\n" : ""}`;
+  return `${begun}wait 1 ms to 20 ms\nnote lamps\n\nreach lamp ${lamp} on\nreach lamp ${lamp} off\n`;
 }
 
 /**

@@ -1,6 +1,7 @@
 // Where a name of a program stands: where it is defined, where it is used, and the text in which it has another name.
 
 import { DIRECTIVES, LONGEST_NAME, NAME, PAIR, REGISTER, namesOf, partsOf, wordAt } from "./assembly.js";
+import * as say from "../words/text.js";
 
 /**
  * A place of a name: its line from 1, and its characters there.
@@ -62,10 +63,10 @@ export function definitionOf(lines, name) {
  */
 export function faultOfRenaming(lines, name, wanted, isInstruction) {
   const upper = wanted.toUpperCase();
-  if (!NAME.test(wanted)) return "A name has letters of ASCII, digits and _, and begins with no digit.";
-  if (wanted.length > LONGEST_NAME) return `A name has at most ${LONGEST_NAME} characters; this has ${wanted.length}.`;
-  if (isInstruction(upper) || upper === "WPM" || DIRECTIVES.includes(upper)) return `${wanted} is an instruction.`;
-  if (REGISTER.test(wanted) || PAIR.test(wanted)) return `${wanted} is a register.`;
+  if (!NAME.test(wanted)) return say.NAME_IS;
+  if (wanted.length > LONGEST_NAME) return say.nameHasMost(LONGEST_NAME, wanted.length);
+  if (isInstruction(upper) || upper === "WPM" || DIRECTIVES.includes(upper)) return say.isAnInstruction(wanted);
+  if (REGISTER.test(wanted) || PAIR.test(wanted)) return say.isARegister(wanted);
   const line = namesOf(lines).get(wanted);
-  return wanted !== name && line ? `${wanted} is defined already, in line ${line}.` : "";
+  return wanted !== name && line ? say.isDefined(wanted, line) : "";
 }

@@ -2,6 +2,7 @@
 
 import CodeMirror from "codemirror";
 import { Cell, element, onClick } from "../ui/dom.js";
+import * as say from "../words/text.js";
 
 /** @typedef {import("codemirror").Editor} Editor */
 
@@ -16,14 +17,16 @@ export class SearchBar {
    */
   constructor(editor, place, label) {
     this.editor = editor;
-    this.field = element("input", { "type": "search", "aria-label": `Search in ${label}`, "autocomplete": "off", "spellcheck": false });
+    this.field = element("input", { "type": "search", "aria-label": say.searchIn(label), "autocomplete": "off", "spellcheck": false });
     this.told = new Cell(element("p", { role: "status" }));
-    const before = element("button", { type: "button", title: "Shift and Enter" }, "Previous");
-    const next = element("button", { type: "button", title: "Enter" }, "Next");
-    const close = element("button", { type: "button", title: "Escape" }, "Close");
-    this.other = element("input", { "aria-label": "Replace by", "placeholder": "replace by", "autocomplete": "off", "spellcheck": false });
-    const one = element("button", { type: "button", title: "Enter: this one, and on to the next" }, "Replace");
-    const all = element("button", { type: "button" }, "Replace all");
+    const before = element("button", { type: "button", title: say.SHIFT_ENTER }, say.PREVIOUS);
+    const next = element("button", { type: "button", title: "Enter" }, say.NEXT);
+    const close = element("button", { type: "button", title: "Escape" }, say.CLOSE);
+    this.other = element("input", {
+      "aria-label": say.REPLACE_BY, "placeholder": say.REPLACE_BY_HINT, "autocomplete": "off", "spellcheck": false,
+    });
+    const one = element("button", { type: "button", title: say.REPLACE_TITLE }, say.REPLACE);
+    const all = element("button", { type: "button" }, say.REPLACE_ALL);
     this.replacing = element("div", { className: "bar", hidden: true }, this.other, one, all);
     this.bar = element("div", { role: "search", className: "search bar", hidden: true }, this.field, before, next, close, this.told.node,
       this.replacing);
@@ -89,7 +92,7 @@ export class SearchBar {
         count += 1;
       }
     });
-    this.told.set(count === 0 ? "not found" : `${count.toLocaleString("en")} replaced`);
+    this.told.set(count === 0 ? say.NOT_FOUND : say.replaced(count.toLocaleString("en")));
   }
 
   /**
@@ -106,7 +109,7 @@ export class SearchBar {
     const { editor } = this;
     const edge = isBack ? CodeMirror.Pos(editor.lastLine()) : CodeMirror.Pos(editor.firstLine(), 0);
     const found = [from, edge].map((place) => this.cursorAt(wanted, place)).find((cursor) => cursor.find(isBack));
-    this.told.set(found ? this.count(wanted) : "not found");
+    this.told.set(found ? this.count(wanted) : say.NOT_FOUND);
     if (!found) return;
     editor.setSelection(found.from(), found.to());
     editor.scrollIntoView({ from: found.from(), to: found.to() }, 60);
@@ -130,6 +133,6 @@ export class SearchBar {
       count += 1;
       if (CodeMirror.cmpPos(cursor.from(), here) <= 0) at = count;
     }
-    return `${Math.max(1, at)} of ${count}`;
+    return say.foundOf(Math.max(1, at), count);
   }
 }

@@ -1,6 +1,7 @@
 // Words of a text of tests: what a word does, by the manual, and what it can become, with the names of the board and the program.
 
 import { piecesOf, plain } from "../help/manual.js";
+import * as say from "../words/text.js";
 
 /**
  * @typedef {import("../help/manual.js").ManualSection} ManualSection
@@ -15,7 +16,6 @@ import { piecesOf, plain } from "../help/manual.js";
  * @typedef {{ steps: Form[], conditions: Form[] }} TestForms
  */
 
-const SECTION = "The lines of a test";
 
 /**
  * The forms in the rows of a table; a row may have several.
@@ -43,7 +43,7 @@ export function formsOfTables(manual, title) {
  * @returns {TestForms}
  */
 export function testForms(manual) {
-  const [steps, conditions] = formsOfTables(manual, SECTION);
+  const [steps, conditions] = formsOfTables(manual, say.LINES_OF_TEST);
   return { steps: steps || [], conditions: conditions || [] };
 }
 

@@ -5,6 +5,7 @@ import CodeMirror from "codemirror";
 import { upTo } from "../bench/numbers.js";
 import { FOLD_GUTTER, offerFolding, unfold } from "./fold_view.js";
 import { LONGEST_KEPT, commented } from "./text_fault.js";
+import * as say from "../words/text.js";
 
 /**
  * @typedef {import("codemirror").Editor} Editor
@@ -78,7 +79,7 @@ export class TextEditor {
     const input = this.editor.getInputField();
     input.setAttribute("role", "textbox");
     input.setAttribute("aria-multiline", "true");
-    input.setAttribute("aria-description", "Tab indents. Escape and then Tab leaves the text.");
+    input.setAttribute("aria-description", say.TAB_INDENTS);
   }
 
   listen() {

@@ -1,6 +1,8 @@
 // A text as it is sent, and its lines that cannot be sent. It is sent line for line, without comments and indentation, so these take no
 // room there, and any character may stand in a comment. Everywhere else one that is not of ASCII is at fault.
 
+import * as say from "../words/text.js";
+
 /**
  * @typedef {{ from: number, to: number }} Lines lines of a text, counted from 1
  *
@@ -102,14 +104,14 @@ export function sentText(text, mark) {
  * @param {string} character
  */
 function wordsOfCharacter(character) {
-  if (/[\u2018\u2019\u201c\u201d\u00ab\u00bb]/.test(character)) return `${character} is not the mark " of ASCII`;
-  if (character === "\u00a0") return "a blank that does not break (U+00A0); write a plain one";
+  if (/[\u2018\u2019\u201c\u201d\u00ab\u00bb]/.test(character)) return say.otherQuote(character);
+  if (character === "\u00a0") return say.OTHER_BLANK;
   if (/[\p{Cf}\p{Zs}\p{Zl}\p{Zp}\p{Cc}]/u.test(character) && character >= "\u0080") {
     const code = (character.codePointAt(0) || 0).toString(16).toUpperCase().padStart(4, "0");
-    return `a character that is not to be seen (U+${code}); delete it`;
+    return say.unseen(code);
   }
-  if (character < " " || character === "\u007f") return "a control character; only tabs and printing characters of ASCII can be sent";
-  return `${character} is not a character of ASCII; it may stand in comments alone`;
+  if (character < " " || character === "\u007f") return say.CONTROL_CHARACTER;
+  return say.otherCharacter(character);
 }
 
 /**
@@ -120,9 +122,9 @@ function wordsOfCharacter(character) {
  */
 function faultOfLine(line, sent, at) {
   const place = { line: at, from: 0, to: line.length };
-  if (sent === ".") return { number: 0, ...place, words: "a line that is a dot alone would end the text here" };
+  if (sent === ".") return { number: 0, ...place, words: say.DOT_ENDS };
   if (sent.length > LONGEST_LINE) {
-    const words = `a line has at most ${LONGEST_LINE} characters without its comment; this has ${sent.length}`;
+    const words = say.lineTooLong(LONGEST_LINE, sent.length);
     return { number: LINE_TOO_LONG, ...place, from: line.indexOf(sent) + LONGEST_LINE, words };
   }
   const foreign = /[^\t -~]+/u.exec(line);
@@ -144,8 +146,7 @@ export function faultsOfLines(text, mark) {
   const faults = lines.map((line, at) => faultOfLine(line, sentLines[at], at + 1)).filter((fault) => fault !== null);
   if (sent.length > LONGEST_TEXT) {
     const last = sent.slice(0, LONGEST_TEXT).split("\n").length;
-    const words = `a text has at most ${LONGEST_TEXT.toLocaleString("en")} bytes without its comments; this has `
-      + `${sent.length.toLocaleString("en")}, and the limit is passed here`;
+    const words = say.textTooLong(LONGEST_TEXT.toLocaleString("en"), sent.length.toLocaleString("en"));
     faults.push({ number: TEXT_TOO_LONG, line: last, from: 0, to: lines[last - 1].length, words });
   }
   return /** @type {Fault[]} */ (faults);

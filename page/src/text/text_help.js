@@ -3,6 +3,7 @@
 import { counted } from "../bench/numbers.js";
 import { PAIR, REGISTER, namesOf, partsOf, wordAt } from "./assembly.js";
 import { plain, rowsOf } from "../help/manual.js";
+import * as say from "../words/text.js";
 
 /**
  * @typedef {import("../help/manual.js").Instruction} Instruction
@@ -14,7 +15,7 @@ import { plain, rowsOf } from "../help/manual.js";
  * @param {Instruction} instruction
  */
 export function wordsOfInstruction({ form, words, cycles, does }) {
-  const carry = /\bCY\b|carry|borrow/.test(does) ? "" : ". The carry stays";
+  const carry = /\bCY\b|carry|borrow/.test(does) ? "" : say.CARRY_STAYS;
   const size = `${counted(Number(words), "word")}, ${counted(Number(cycles), "cycle")}`;
   return `${form}: ${size}. ${does[0].toUpperCase()}${does.slice(1)}${carry}.`;
 }
@@ -25,8 +26,8 @@ export function wordsOfInstruction({ form, words, cycles, does }) {
  */
 function wordsOfRegister(word) {
   const number = Number(word.slice(1));
-  if (PAIR.test(word)) return `P${number}: the pair of R${2 * number}, its upper four bits, and R${2 * number + 1}, its lower ones.`;
-  return `R${number}: the ${number % 2 === 0 ? "upper" : "lower"} half of P${Math.floor(number / 2)}.`;
+  if (PAIR.test(word)) return say.pairIs(number, 2 * number, 2 * number + 1);
+  return say.registerIs(number, number % 2 === 0, Math.floor(number / 2));
 }
 
 /**
@@ -45,13 +46,13 @@ export function helpForProgram(lines, line, at, instructions, meaningOf) {
   const upper = word.text.toUpperCase();
   const instruction = instructions.get(upper);
   if (instruction) return wordsOfInstruction(instruction);
-  if (upper === "ORG") return "ORG n: the next statement stands at address n, 0 to 4095.";
-  if (upper === "DB") return "DB v, v, ..: bytes, each 0 to 255.";
+  if (upper === "ORG") return say.ORG_IS;
+  if (upper === "DB") return say.DB_IS;
   if (REGISTER.test(word.text) || PAIR.test(word.text)) return wordsOfRegister(word.text);
   const meaning = meaningOf(word.text);
   if (meaning) return meaning;
   const definedIn = namesOf(lines).get(word.text);
-  return definedIn ? `${word.text}: defined in line ${definedIn}.` : "";
+  return definedIn ? say.definedInLine(word.text, definedIn) : "";
 }
 
 /**
@@ -63,7 +64,7 @@ export function boardTables(manual) {
   /** @type {Map<string, Map<string, string>>} */
   const tables = new Map();
   let keys = new Map();
-  for (const [table, , names, values] of rowsOf(manual, "The keys of the text")) {
+  for (const [table, , names, values] of rowsOf(manual, say.KEYS_OF_TEXT)) {
     if (table !== "") {
       keys = new Map();
       tables.set(plain(table), keys);
@@ -98,7 +99,7 @@ export function helpForBoard(lines, line, at, tables) {
   if (!word) return "";
   const table = tableAt(lines, line);
   const values = (tables.get(table) || new Map()).get(word.text);
-  if (values) return `${word.text} of ${table}: ${values}.`;
+  if (values) return say.keyIs(word.text, table, values);
   const keys = tables.get(word.text);
   return keys ? `${word.text}: ${[...keys.keys()].join(", ")}.` : "";
 }

@@ -1,5 +1,7 @@
 // The words of a TOML text, each with its place; what cannot be one is told.
 
+import * as say from "../words/text.js";
+
 /**
  * A word: a mark, a string without its quotes, a bare word, or the end of a line; `fault` says in words why it is none.
  * @typedef {{ kind: "mark" | "string" | "bare" | "end" | "bad", text: string, line: number, from: number, to: number,
@@ -27,14 +29,14 @@ function wordFrom(text, line, from) {
   }
   if (/^["']/.test(rest)) {
     const to = text.length;
-    return { kind: "bad", text: rest, line, from, to, fault: `the closing ${rest[0]} of the text is missing` };
+    return { kind: "bad", text: rest, line, from, to, fault: say.closingMissing(rest[0]) };
   }
   const bare = BARE.exec(rest);
   if (bare) return { kind: "bare", text: bare[0], line, from, to: from + bare[0].length, fault: "" };
   const isMark = /^[[\]{}=,.]/.test(rest);
   const [character] = rest;
   const place = { text: character, line, from, to: from + 1 };
-  return isMark ? { kind: "mark", ...place, fault: "" } : { kind: "bad", ...place, fault: `${character} has no meaning here` };
+  return isMark ? { kind: "mark", ...place, fault: "" } : { kind: "bad", ...place, fault: say.noMeaning(character) };
 }
 
 /**

@@ -1,0 +1,120 @@
+// What people read of tests: their text, their results, what was covered.
+
+// --- testing/coverage.js ---
+/** @type {(run: string, percent: string, ways: string, percentOfWays: string) => string} */
+export const covered = (run, percent, ways, percentOfWays) => (
+  `${run} instructions were run${percent}, ${ways} ways of conditional jumps${percentOfWays}`);
+
+// --- testing/last_instructions.js ---
+export const SECOND_CYCLE = "(the second cycle)";
+/** @type {(row: string) => string} */
+export const comesNext = (row) => `${row}comes next`;
+
+// --- testing/last_passed.js ---
+/** @type {(cycles: number) => string} */
+export const cyclesAgo = (cycles) => `${cycles} cycle${cycles === 1 ? "" : "s"} ago`;
+/** @type {(label: string, ago: string) => string} */
+export const lastLabel = (label, ago) => `; the label passed last is ${label}, ${ago}`;
+/** @type {(last: string, what: string, when: string) => string} */
+export const wasPassed = (last, what, when) => `${last}; ${what} was ${when}`;
+/** @type {(ago: string) => string} */
+export const passedLast = (ago) => `passed last ${ago}`;
+export const NOT_PASSED = "not passed in this test";
+
+// --- testing/setting.js ---
+/** @type {(word: string) => string} */
+export const noRomAt = (word) => `the board has no ROM at ${word}`;
+export const SET_FORM = "it is written as `set PLACE VALUE`, as in: set test 0, set ram.0.0x12 7";
+export const AND_ROM = " and rom.A";
+/** @type {(place: string, most: number, word: string) => string} */
+export const holds = (place, most, word) => `${place} holds 0 to ${most}, not ${word}`;
+
+// --- testing/test_run.js ---
+/** @type {(state: string, test: string) => string} */
+export const stateNotThere = (state, test) => `the state ${state} is not there, since the test \`${test}\` did not come to save it`;
+/** @type {(name: string, line: number) => string} */
+export const stepsOfLine = (name, line) => `the steps ${name} of line ${line}`;
+/** @type {(turn: number, times: number, line: number) => string} */
+export const turnOf = (turn, times, line) => `turn ${turn} of ${times} of line ${line}`;
+/** @type {(cycles: number, why: string) => string} */
+export const runStopped = (cycles, why) => `the run stopped after ${cycles} cycles ${why}`;
+/** @type {(address: string) => string} */
+export const beforeCode = (address) => `before a code that is no instruction, at ${address}`;
+/** @type {(place: string, value: number) => string} */
+export const isAnd = (place, value) => `${place} is ${value}, and `;
+/** @type {(what: string, word: string, keys: string) => string} */
+export const hasKeys = (what, word, keys) => `${what}${word} has ${keys}`;
+/** @type {(what: string, key: number, digit: string) => string} */
+export const hasNoKey = (what, key, digit) => `${what}the board has no key ${key}${digit}`;
+/** @type {(digit: string | number) => string} */
+export const norKey = (digit) => `, nor ${digit}`;
+/** @type {(cycles: number, why: string, told: string) => string} */
+export const runStoppedAt = (cycles, why, told) => `the run stopped after ${cycles} cycles ${why}; ${told}`;
+/** @type {(cycles: number, told: string, passed: string) => string} */
+export const didNotCome = (cycles, told, passed) => `it did not come within ${cycles} cycles: ${told}${passed}`;
+
+// --- testing/test_text.js ---
+export const RUN_FORM = "it is written as `run TIME`, as in: run 500, run 20 ms, run 1.5 s";
+export const REPEAT_FORM = "it is written as `repeat COUNT`, 1 to 100,000: the lines down to its `end` are done so often";
+export const CHOICE_FORM =
+  "a key by a value is written as `{PLACE}` or `{PLACE:KEY,KEY}`; places are acc, cy, dcl, r0 to r15, ram.B.S and st.B.H.K";
+export const FIRST_WORDS = "test, steps, from, save, press, release, keys, pace, run, until, expect, mark, set, reset, do, repeat or end";
+export const NO_TEST = "there is no line `test NAME`";
+export const NOT_ASCII = "a byte that is neither a tab nor a printing character of ASCII";
+/** @type {(line: string) => string} */
+export const beginsWithTest = (line) => `a text of tests begins with \`test NAME\`, and this is: ${line}`;
+export const TEST_NAME = "a test has a name: test NAME";
+export const STEPS_NAME = "shared steps have a name, one word: steps NAME";
+/** @type {(name: string, line: number) => string} */
+export const stepsAlready = (name, line) => `the steps ${name} stand at line ${line} already`;
+export const NO_END = "this `repeat` has no `end`";
+export const END_FORM = "`end` stands alone";
+export const NO_REPEAT = "there is no `repeat` for this `end`";
+export const TOO_MANY_LINES = "what is repeated here comes to more than 1,000,000 lines";
+export const DO_FORM = "it is written as `do STEPS`, the name of shared steps";
+/** @type {(name: string) => string} */
+export const stepsOfThemselves = (name) => `the steps ${name} cannot do themselves`;
+/** @type {(there: string, name: string) => string} */
+export const stepsThere = (there, name) => (there ? `; there are: ${there}` : `; \`steps ${name}\` begins them`);
+/** @type {(name: string, there: string) => string} */
+export const noSteps = (name, there) => `there are no steps ${name} before this line${there}`;
+/** @type {(word: string) => string} */
+export const standsAlone = (word) => `\`${word}\` stands alone`;
+/** @type {(word: string, forms: string) => string} */
+export const noForm = (word, forms) => `no line of a test begins with \`${word}\`; they begin with ${forms}`;
+/** @type {(word: string) => string} */
+export const stateForm = (word) => `it is written as \`${word} STATE\`, a word`;
+export const SAVED_ONCE = "a state is saved once: `save` stands in no `repeat`";
+/** @type {(word: string) => string} */
+export const noStates = (word) => `shared steps have no states: \`${word}\` stands in a test`;
+/** @type {(state: string, test: string) => string} */
+export const savedBefore = (state, test) => `the state ${state} is saved by the test before, \`${test}\``;
+export const FROM_FORM = "`from` stands right below `test`";
+/** @type {(states: string) => string} */
+export const statesThere = (states) => `; there is: ${states}`;
+/** @type {(state: string, there: string) => string} */
+export const noSuchState = (state, there) => `no test before it saves a state ${state}${there}`;
+export const OWN_STATE = "a test cannot begin with a state of its own";
+/** @type {(word: string, what: string) => string} */
+export const keysForm = (word, what) => `it is written as \`${word} ${what}\``;
+/** @type {(name: string, word: string) => string} */
+export const nor = (name, word) => `${name}, nor ${word}`;
+/** @type {(what: string, there: string) => string} */
+export const noKey = (what, there) => (
+  `the board has no key ${what}; ${there ? `it has: ${there}` : "its text names no keys (`# row 0: NAME ..`)"}`);
+export const UNTIL_FORM = "it is written as `until CONDITION within TIME`";
+export const WITHIN_FORM = "it ends with `within TIME`, as in: within 500, within 20 ms, within 1.5 s";
+export const NO_CYCLES = "cycles are no condition of `until`; use `run` or `expect`";
+export const PACE_FORM = "it is written as `pace TIME TIME`: how long a key is down, and how long it is up after it";
+
+// --- testing/tests_tab.js ---
+export const FIRST_TEST = "# What has to be, line by line. F1 has the words; Ctrl and Space completes them.\n\n"
+  + "test it has run for 100 cycles\n  run 100\n  expect cycles 100\n";
+export const WAS_CANCELLED = "It was cancelled; what is shown is from before.";
+
+// --- testing/tests_view.js ---
+export const NOT_OK = "not ok";
+export const LAST_INSTRUCTIONS = "The last instructions";
+export const OPEN_THERE = "Open the session as it is there";
+export const NO_LABEL = "(no label)";
+export const BEGUN_BEFORE = "(begun before)";

@@ -1,0 +1,299 @@
+// What people read of the texts: the editors, faults of a program and of a board's text, names, what words mean.
+
+// --- text/alike.js ---
+export const OR = " or ";
+
+// --- text/assembling.js ---
+/** @type {(bytes: string, isOne: boolean, first: string) => string} */
+export const stays = (bytes, isOne, first) => `${bytes} of before ${isOne ? "stays" : "stay"} in ROM, from ${first} on.`;
+/** @type {(bytes: string, stay: string, counter: string) => string} */
+export const assembled = (bytes, stay, counter) => `${bytes} assembled.${stay} The counter stays at ${counter}; nothing was reset.`;
+
+// --- text/board_completion.js ---
+/** @type {(isInput: boolean, line: string, chip: string) => string} */
+export const lineOfRom = (isInput, line, chip) => `${isInput ? "input" : "output"} line ${line} of ROM ${chip}`;
+/** @type {(line: string, chip: string, bank: string) => string} */
+export const lineOfRam = (line, chip, bank) => `line ${line} of RAM chip ${chip} in bank ${bank}`;
+/** @type {(bit: string, chain: string) => string} */
+export const bitOfChain = (bit, chain) => `bit ${bit} of chain ${chain}`;
+export const INPUT_LINES = "input lines";
+export const OUTPUT_LINES = "output lines";
+export const ROM_WITH_PORT = "a ROM with its port";
+export const BANK_OF_RAM = "a bank of RAM chips";
+export const CHAIN_OF_REGISTERS = "a chain of shift registers";
+export const KEY_MATRIX = "the key matrix";
+export const A_LAMP = "a lamp";
+
+// --- text/board_parts.js ---
+/** @type {(chip: string) => string} */
+export const noRom = (chip) => `the board has no ROM ${chip}`;
+/** @type {(bank: string) => string} */
+export const noRamInBank = (bank) => `the board has no RAM in bank ${bank}`;
+/** @type {(bank: string, chips: number) => string} */
+export const bankHas = (bank, chips) => `bank ${bank} has ${chips === 1 ? "chip 0 alone" : `chips 0 to ${chips - 1}`}`;
+/** @type {(chain: number) => string} */
+export const noChain = (chain) => `the board has no chain ${chain}`;
+/** @type {(chain: number, last: number) => string} */
+export const bitsOfChain = (chain, last) => `chain ${chain} has bits 0 to ${last}`;
+/** @type {(name: string) => string} */
+export const noInputLine = (name) => `${name} is not an input line: a column needs an i in its ROM's port`;
+/** @type {(name: string, what: string) => string} */
+export const isInputLine = (name, what) => `${name} is an input line (i in its ROM's port); ${what} takes an output line`;
+/** @type {(name: string, what: string) => string} */
+export const isBitOfChain = (name, what) => `${name} is a bit of a chain; ${what} takes an output line of a ROM or a RAM chip`;
+export const KEYS_ALREADY = "keys is there already: a board has one key matrix";
+/** @type {(most: number, table: string) => string} */
+export const mostOf = (most, table) => `a board has at most ${most} ${table}`;
+/** @type {(name: string, before: number) => string} */
+export const alreadyThere = (name, before) => `${name} is there already, in line ${before}`;
+
+// --- text/board_reader.js ---
+export const TABLE_FORM = "a table's name stands in brackets: [[rom]]";
+/** @type {(table: string) => string} */
+export const bracketMissing = (table) => `] is missing: ${table}`;
+export const LINE_ENDS = "the line has to end here";
+export const KEY_FORM = "a key stands before =";
+/** @type {(name: string) => string} */
+export const equalsMissing = (name) => `= is missing after ${name}`;
+/** @type {(key: string) => string} */
+export const valueMissing = (key) => `the value of ${key} is missing`;
+/** @type {(text: string) => string} */
+export const noValue = (text) => `a value stands here, not ${text}`;
+/** @type {(text: string) => string} */
+export const numberForm = (text) => `a number has no 0 before it; a text stands in quotes: "${text}"`;
+/** @type {(text: string) => string} */
+export const textForm = (text) => `${text} is a text, so it stands in quotes: "${text}"`;
+export const NO_BRACKET = "the closing ] is missing";
+export const COMMA_OF_VALUES = "a comma stands between two values, ] after the last";
+export const NO_BRACE = "the closing } is missing in this line";
+export const COMMA_OF_KEYS = "a comma stands between two keys, } after the last";
+
+// --- text/board_words.js ---
+export const LINE_FORMS = "rom1.0, ram0.0.3 or chain0.5";
+export const NO_QUOTES = ", a number without quotes";
+/** @type {(name: string, from: number, to: number, kind: string) => string} */
+export const range = (name, from, to, kind) => `${name} is ${from} to ${to}${kind}`;
+export const PORT_FORM = "port is four characters for lines 3, 2, 1 and 0, each i, 0 or 1: \"iiii\"";
+export const COLUMNS_FORM = "columns is one to eight lines: [\"rom1.0\", \"rom1.1\"]";
+/** @type {(name: string, forms: string) => string} */
+export const lineForm = (name, forms) => `${name} is the name of a line, in quotes: ${forms}`;
+/** @type {(name: string, kind: string, meant: string) => string} */
+export const noKeyOf = (name, kind, meant) => `${name} is no key of ${kind}${meant}`;
+/** @type {(keys: string) => string} */
+export const whichHas = (keys) => `, which has ${keys}`;
+export const A_COLUMN = "a column";
+/** @type {(most: number) => string} */
+export const mostColumns = (most) => `a matrix has at most ${most} columns`;
+/** @type {(kind: string, meant: string) => string} */
+export const noPart = (kind, meant) => `${kind} is no part of a board${meant}`;
+export const ONE_MATRIX = "a board has one key matrix: [keys]";
+/** @type {(kind: string) => string} */
+export const several = (kind) => `there may be several: [[${kind}]]`;
+/** @type {(kind: string, keys: string) => string} */
+export const lacks = (kind, keys) => `this ${kind} lacks ${keys}`;
+export const AND = " and ";
+/** @type {(name: string) => string} */
+export const isTable = (name) => `${name} is a table, or an array of tables`;
+/** @type {(name: string) => string} */
+export const noKeyAtTop = (name) => `${name} is no key at the top of a board`;
+
+// --- text/count_marks.js ---
+/** @type {(number: number) => string} */
+export const timesOf = (number) => ["never", "once"][number] || `${number.toLocaleString("en")} times`;
+export const NO_TEST_RUNS = "no test runs it";
+/** @type {(times: string) => string} */
+export const ran = (times) => `run ${times}`;
+/** @type {(taken: string, left: string) => string} */
+export const jumped = (taken, left) => `; it jumped ${taken}, and went on ${left}`;
+
+// --- text/editor_view.js ---
+export const FAULTS = "Faults";
+/** @type {(size: string, most: string) => string} */
+export const notPutIn = (size, most) => `It was not put in: the text would have ${size} characters, and ${most} is the most.`;
+/** @type {(size: string, most: string, unit: string) => string} */
+export const sizeOf = (size, most, unit) => `${size} of ${most} ${unit}`;
+
+// --- text/editors.js ---
+export const MAY_BE_MORE = "There may be more.";
+/** @type {(bytes: string) => string} */
+export const assembledAll = (bytes) => `${bytes} assembled, the rest of ROM is 0. It runs from 000 on.`;
+export const BOARD_WIRED = "The board is wired.";
+export const FIRST_BOARD = "The first board's text is in Board.";
+/** @type {(line: number, words: string, more: number) => string} */
+export const firstFault = (line, words, more) => `line ${line}: ${words}${more > 0 ? `, and ${more} more` : ""}`;
+
+// --- text/field_bar.js ---
+export const GO = "Go";
+export const CLOSE = "Close";
+
+// --- text/fold_view.js ---
+export const UNFOLDS = "a click unfolds them";
+
+// --- text/line_values.js ---
+export const LINE_CHANGED = "what this line has changed";
+
+// --- text/meaning_view.js ---
+/** @type {(name: string) => string} */
+export const edits = (name) => `${name}: a double click or Enter edits it`;
+
+// --- text/name_view.js ---
+export const NO_NAME = "There is no name of this text at the caret.";
+export const PLACES_OF_NAME = "Places of a name";
+/** @type {(name: string, places: string) => string} */
+export const nameIsAt = (name, places) => `${name} stands at ${places} `;
+/** @type {(line: number, isDefinition: boolean) => string} */
+export const lineOfName = (line, isDefinition) => `line ${line}${isDefinition ? ", where it is defined" : ""}`;
+/** @type {(name: string) => string} */
+export const otherName = (name) => `Another name for ${name}`;
+export const RENAME = "Rename";
+/** @type {(name: string, wanted: string, places: string) => string} */
+export const renamed = (name, wanted, places) => `${name} is ${wanted} now, at ${places}.`;
+/** @type {(last: string) => string} */
+export const lineOfText = (last) => `Line, 1 to ${last}`;
+/** @type {(last: string) => string} */
+export const lineIs = (last) => `A line is a number from 1 to ${last}.`;
+
+// --- text/program_faults.js ---
+/** @type {(chip: number, address: string) => string} */
+export const noRomForLine = (chip, address) => (
+  `the board has no ROM ${chip}, where this line stands (${address}): wire a [[rom]] with chip = ${chip}`);
+
+// --- text/program_words.js ---
+export const A_PAIR = "a pair, P0 to P7";
+export const A_REGISTER = "a register, R0 to R15";
+export const A_CONDITION = "a condition, 0 to 15";
+export const A_VALUE = "a value, 0 to 15";
+export const A_BYTE = "a byte, 0 to 255";
+export const AN_ADDRESS = "an address, 0 to 4095, or a name";
+/** @type {(number: string) => string} */
+export const isHexadecimal = (number) => `hexadecimal is ${number}`;
+/** @type {(number: string) => string} */
+export const isBinary = (number) => `binary numbers are not written; it is ${number}`;
+/** @type {(letter: string, number: string) => string} */
+export const isLetter = (letter, number) => `letters are not written; the code of ${letter} is ${number}`;
+/** @type {(number: string) => string} */
+export const withoutMark = (number) => `without #: ${number}`;
+export const NO_NEGATIVES = "there are no negative numbers";
+export const NO_EXPRESSIONS = "there are no expressions: write one number or one name";
+export const COMMA_OF_OPERANDS = "a comma stands between two operands";
+export const NUMBER_FORM = "a number is decimal digits, or 0x and hexadecimal digits";
+/** @type {(most: number, length: number) => string} */
+export const nameTooLong = (most, length) => `a name has at most ${most} characters; this has ${length}`;
+export const NAME_FORM = "a name begins with a letter or _ and goes on with letters, digits and _";
+/** @type {(name: string) => string} */
+export const isInstruction = (name) => `${name} is an instruction, so it cannot be a name`;
+/** @type {(name: string) => string} */
+export const cannotBeName = (name) => `${name} cannot be a name`;
+/** @type {(name: string) => string} */
+export const isRegister = (name) => `${name} is a register, so it cannot be a name`;
+/** @type {(head: string, what: string) => string} */
+export const takes = (head, what) => `${head} takes ${what}`;
+/** @type {(head: string, what: string) => string} */
+export const takesAfterComma = (head, what) => `${head} takes ${what}, after the comma`;
+export const NO_WPM = "WPM is not on this bench: its ROM cannot be written by a program";
+/** @type {(name: string, number: string) => string} */
+export const nameGetsNumber = (name, number) => `a name gets its number by =: ${name} = ${number}`;
+/** @type {(name: string, question: string) => string} */
+export const noInstruction = (name, question) => `${name} is no instruction${question}`;
+/** @type {(name: string) => string} */
+export const labelForm = (name) => `; a label has a colon: ${name}:`;
+/** @type {(reason: string) => string} */
+export const orgForm = (reason) => `ORG takes one number, 0 to 4095 (0xFFF)${reason}`;
+export const DB_FORM = "DB takes bytes, 0 to 255, with commas between them";
+/** @type {(reason: string) => string} */
+export const equalsForm = (reason) => `after = stands one number${reason}`;
+export const COLON_FORM = "a name stands before the colon";
+/** @type {(name: string) => string} */
+export const takesNothing = (name) => `${name} takes nothing after it`;
+export const AND_AFTER = ", and ";
+/** @type {(name: string, what: string, isMore: boolean) => string} */
+export const takesNoMore = (name, what, isMore) => `${name} takes ${what}${isMore ? ", no more" : ""}`;
+export const NUMBER_OF_NAME = "a number of a name is 0 to 4095";
+export const ORG_ADDRESS = "an address, 0 to 4095";
+/** @type {(name: string, what: string, more: string) => string} */
+export const takesBut = (name, what, more) => `${name} takes ${what}${more}`;
+/** @type {(word: string) => string} */
+export const isMore = (word) => `; ${word} is more`;
+/** @type {(name: string, meant: string) => string} */
+export const notDefined = (name, meant) => `${name} is not defined${meant}`;
+/** @type {(name: string, line: number|undefined) => string} */
+export const definedAlready = (name, line) => `${name} is defined in line ${line} already`;
+/** @type {(name: string, head: string) => string} */
+export const otherPage = (name, head) => `${name} is on another page; ${head} reaches the page of the address after its two words`;
+export const IT = "it";
+export const BYTE_ALREADY = "an earlier line has put a byte at this address; look at the ORG lines";
+
+// --- text/property_words.js ---
+export const MAY_CHANGE = "What may change";
+export const MUST_HOLD = "What must hold";
+export const FIRST_PROPERTIES = "# What must hold, whatever is pressed and whenever. F1 has the words; Ctrl and Space completes them.\n\n";
+
+// --- text/references.js ---
+export const NAME_IS = "A name has letters of ASCII, digits and _, and begins with no digit.";
+/** @type {(most: number, length: number) => string} */
+export const nameHasMost = (most, length) => `A name has at most ${most} characters; this has ${length}.`;
+/** @type {(name: string) => string} */
+export const isAnInstruction = (name) => `${name} is an instruction.`;
+/** @type {(name: string) => string} */
+export const isARegister = (name) => `${name} is a register.`;
+/** @type {(name: string, line: number) => string} */
+export const isDefined = (name, line) => `${name} is defined already, in line ${line}.`;
+
+// --- text/search_bar.js ---
+/** @type {(label: string) => string} */
+export const searchIn = (label) => `Search in ${label}`;
+export const SHIFT_ENTER = "Shift and Enter";
+export const PREVIOUS = "Previous";
+export const NEXT = "Next";
+export const REPLACE_BY = "Replace by";
+export const REPLACE_BY_HINT = "replace by";
+export const REPLACE_TITLE = "Enter: this one, and on to the next";
+export const REPLACE = "Replace";
+export const REPLACE_ALL = "Replace all";
+export const NOT_FOUND = "not found";
+/** @type {(count: string) => string} */
+export const replaced = (count) => `${count} replaced`;
+/** @type {(at: number, count: number) => string} */
+export const foundOf = (at, count) => `${at} of ${count}`;
+
+// --- text/test_words.js ---
+export const LINES_OF_TEST = "The lines of a test";
+
+// --- text/text_editor.js ---
+export const TAB_INDENTS = "Tab indents. Escape and then Tab leaves the text.";
+
+// --- text/text_fault.js ---
+/** @type {(character: string) => string} */
+export const otherQuote = (character) => `${character} is not the mark " of ASCII`;
+export const OTHER_BLANK = "a blank that does not break (U+00A0); write a plain one";
+/** @type {(code: string) => string} */
+export const unseen = (code) => `a character that is not to be seen (U+${code}); delete it`;
+export const CONTROL_CHARACTER = "a control character; only tabs and printing characters of ASCII can be sent";
+/** @type {(character: string) => string} */
+export const otherCharacter = (character) => `${character} is not a character of ASCII; it may stand in comments alone`;
+export const DOT_ENDS = "a line that is a dot alone would end the text here";
+/** @type {(most: number, length: number) => string} */
+export const lineTooLong = (most, length) => `a line has at most ${most} characters without its comment; this has ${length}`;
+/** @type {(most: string, size: string) => string} */
+export const textTooLong = (most, size) => (
+  `a text has at most ${most} bytes without its comments; this has ${size}, and the limit is passed here`);
+
+// --- text/text_help.js ---
+export const CARRY_STAYS = ". The carry stays";
+/** @type {(pair: number, upper: number, lower: number) => string} */
+export const pairIs = (pair, upper, lower) => `P${pair}: the pair of R${upper}, its upper four bits, and R${lower}, its lower ones.`;
+/** @type {(register: number, isUpper: boolean, pair: number) => string} */
+export const registerIs = (register, isUpper, pair) => `R${register}: the ${isUpper ? "upper" : "lower"} half of P${pair}.`;
+export const ORG_IS = "ORG n: the next statement stands at address n, 0 to 4095.";
+export const DB_IS = "DB v, v, ..: bytes, each 0 to 255.";
+/** @type {(name: string, line: number) => string} */
+export const definedInLine = (name, line) => `${name}: defined in line ${line}.`;
+export const KEYS_OF_TEXT = "The keys of the text";
+/** @type {(name: string, table: string, values: string) => string} */
+export const keyIs = (name, table, values) => `${name} of ${table}: ${values}.`;
+
+// --- text/toml_words.js ---
+/** @type {(quote: string) => string} */
+export const closingMissing = (quote) => `the closing ${quote} of the text is missing`;
+/** @type {(character: string) => string} */
+export const noMeaning = (character) => `${character} has no meaning here`;
