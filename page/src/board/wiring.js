@@ -135,7 +135,7 @@ class Uses {
    */
   say(name, line) {
     const uses = this.of(line);
-    return `${name} ${uses.length > 0 ? uses.join(say.usesOf(name, uses.join(say.AND) || say.NOT_USED)) : "is not used"}`;
+    return `${name} ${uses.join(say.AND) || say.NOT_USED}`;
   }
 }
 

@@ -101,7 +101,7 @@ export class Selected {
     const user = [...this.users].find((each) => each !== name);
     if (user === undefined || before === undefined || before === chip) return null;
     const words = say.usedBefore(what, before, this.source < 0 ? "" : say.atAddress(hex(this.source, 3)));
-    return { kind: "source", words: say.sourceWasFor(words, user === "RAM" ? user : `an ${user}`) };
+    return { kind: "source", words: say.sourceWasFor(words, user) };
   }
 
   /** Where the last SRC stands, if it was seen. */

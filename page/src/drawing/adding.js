@@ -259,6 +259,8 @@ export function addDisplay(sketch, kind, digits) {
   const at = sketch.board.lamps.length;
   if (kind === "digit") for (let digit = 0; digit < digits; digit++) putLamps(sketch, portOfDigit(sketch));
   else putLamps(sketch, bitsOfSegments(sketch, digits * LINES_OF_DIGIT.segments));
+  // (This is a comment of a board's text, as tools/lib/face.txt has it.)
+  // eslint-disable-next-line no-restricted-syntax
   const words = `${counted(digits, "digit")}${kind === "segments" ? " of 7 segments" : ""}`;
   sketch.edit(addGroup(sketch.draft, "display", at, words));
   return `lamp ${at}`;
@@ -279,6 +281,8 @@ export function addScanned(sketch, digits) {
   /** @type {(board: Board) => string[]} */
   const find = (board) => freeForLamps(board).filter((line) => line.startsWith("ram"));
   putLamps(sketch, need(sketch, count, find, () => addRam(sketch)));
+  // (This is a comment of a board's text, as tools/lib/face.txt has it.)
+  // eslint-disable-next-line no-restricted-syntax
   const words = `${counted(digits, "digit")} of 7 segments scanned by ${at + LINES_OF_DIGIT.segments}`;
   sketch.edit(addGroup(sketch.draft, "display", at, words));
   return `lamp ${at}`;

@@ -5,6 +5,7 @@ import { partsOfState, portsOf } from "../bench/state_line.js";
 import { Account, MOST_LEVELS } from "../testing/account.js";
 import { TestRun } from "../testing/test_run.js";
 import { ownLines, readTests } from "../testing/test_text.js";
+import * as say from "../words/explore.js";
 
 /**
  * @typedef {import("../testing/prepared.js").Prepared} Prepared
@@ -44,12 +45,12 @@ function saves({ steps }, state) {
  */
 export function testsThatLead(names, testText, state) {
   const { tests, faults } = readTests(testText, names);
-  if (testText.trim() === "") return { tests: [], words: `there are no tests, of which one saves the state ${state}` };
-  if (faults.length > 0) return { tests: [], words: `its tests have a fault in line ${faults[0].line}: ${faults[0].words}` };
+  if (testText.trim() === "") return { tests: [], words: say.noTests(state) };
+  if (faults.length > 0) return { tests: [], words: say.testsFault(faults[0].line, faults[0].words) };
   const last = tests.find((test) => saves(test, state));
   if (!last) {
     const there = tests.flatMap(({ steps }) => steps.flatMap(({ action }) => (action.kind === "save" ? [action.state] : [])));
-    return { tests: [], words: `no test saves a state ${state}${there.length > 0 ? `; there is: ${there.join(" ")}` : ""}` };
+    return { tests: [], words: say.noSuchState(state, there.join(" ")) };
   }
   const before = last.from === "" ? [] : testsThatLead(names, testText, last.from).tests;
   return { tests: [...before, last], words: "" };
@@ -120,7 +121,7 @@ export async function begun(readable, prepared, testText) {
   const leading = upToStates(tests, state);
   for (const test of leading) {
     const { failure } = await run.run(test, "");
-    if (failure && failed === "") failed = `line ${failure.line} of its tests fails: ${failure.text}: ${failure.words}`;
+    if (failure && failed === "") failed = say.testFails(failure.line, failure.text, failure.words);
   }
   const saved = run.states.get(state);
   if (!saved) return { readable, words: failed };

@@ -6,6 +6,7 @@ import { conditionOf } from "../debug/conditions.js";
 import { durationOf, wholeDuration } from "../debug/durations.js";
 import { keysOf, namesOfInputs, pinOf } from "./inputs.js";
 import { afterPress, always, alwaysOn, at, every, model, never, neverFor, once, onlyAfter, reach, reachAt } from "./properties.js";
+import * as say from "../words/explore.js";
 
 /**
  * @typedef {import("./inputs.js").Input} Input
@@ -42,8 +43,6 @@ const TOGETHER = 2;
 /** Waits where nothing is said, of 1 and 20 ms, and the pace of `keys`. */
 const WAITS = { shortest: 93, longest: 1852 };
 const PACE = { down: 4000, up: 16000 };
-const FORMS = "press, test, reset, together, wait, held, apart, from, begin, note, pace, never, always, at, after press, every, reach, "
-  + "model, or are written as `C only after press K, press K ..` or `@LABEL at most once for each press`";
 
 class Reader {
   /** @param {Subject} subject */
@@ -81,7 +80,7 @@ class Reader {
     const name = word.replace(/^@/, "");
     const found = this.names.map.names.get(name);
     return word.startsWith("@") && found && found.isLabel ? found.value
-      : fail(word.startsWith("@") ? `the program has no label ${name}` : `a label is written as @LABEL, not ${word}`);
+      : fail(word.startsWith("@") ? say.noLabel(name) : say.labelForm(word));
   }
 
   /** @param {string} name */
@@ -90,8 +89,7 @@ class Reader {
     const found = [...keysOf(face), pinOf(face)].find((each) => each.name === name && (each.isKey || face.test));
     if (found) return found;
     const there = namesOfInputs(face);
-    return fail(`the board has no key ${name}${there.length > 0 ? `; it has: ${there.join(" ")}`
-      : "; its text names no keys (`# row 0: NAME ..`)"}`);
+    return fail(say.noKey(name, there.join(" ")));
   }
 
   /** @param {Input} input */
@@ -122,7 +120,6 @@ function twoTimes(words, form) {
   return [first.cycles, second];
 }
 
-const WAIT_FORM = "it is written as `wait TIME to TIME`, from 1 cycle to 100,000 (1.08 s), as in: wait 1 ms to 20 ms";
 
 /**
  * The lines that say what may be changed, and how.
@@ -130,56 +127,56 @@ const WAIT_FORM = "it is written as `wait TIME to TIME`, from 1 cycle to 100,000
  */
 const SETTINGS = {
   press: (reader, words) => {
-    if (words.length === 0) fail("it is written as `press KEY ..`: the keys that may go down");
+    if (words.length === 0) fail(say.PRESS_FORM);
     for (const word of words) reader.add(reader.input(word));
   },
   test: (reader, words) => {
-    if (words.length > 0) fail("`test` stands alone: TEST may change");
+    if (words.length > 0) fail(say.TEST_FORM);
     reader.add(pinOf(reader.names.face));
   },
   reset: (reader, words) => {
-    if (words.length > 0) fail("`reset` stands alone: a power cycle may come");
+    if (words.length > 0) fail(say.RESET_FORM);
     reader.canReset = true;
   },
   together: (reader, words) => {
-    if (words.length !== 1 || !/^[1-9]\d?$/.test(words[0])) fail("it is written as `together N`: so many keys may be down at a time");
+    if (words.length !== 1 || !/^[1-9]\d?$/.test(words[0])) fail(say.TOGETHER_FORM);
     reader.together = Number(words[0]);
   },
   wait: (reader, words) => {
-    [reader.shortest, reader.longest] = twoTimes(words, WAIT_FORM);
-    if (reader.longest > LONGEST_WAIT || reader.shortest > reader.longest) fail(WAIT_FORM);
+    [reader.shortest, reader.longest] = twoTimes(words, say.WAIT_FORM);
+    if (reader.longest > LONGEST_WAIT || reader.shortest > reader.longest) fail(say.WAIT_FORM);
   },
   held: (reader, words) => {
-    const form = "it is written as `held at most TIME`: no key is down for longer";
+    const form = say.HELD_FORM;
     if (words[0] !== "at" || words[1] !== "most") fail(form);
     reader.held = reader.time(words.slice(2).join(" "), form);
   },
   apart: (reader, words) => {
-    const form = "it is written as `apart at least TIME`: a key that went up stays up for so long";
+    const form = say.APART_FORM;
     if (words[0] !== "at" || words[1] !== "least") fail(form);
     reader.apart = reader.time(words.slice(2).join(" "), form);
   },
   from: (reader, words) => {
     const [state, of, ...file] = words;
     if (!state || (words.length > 1 && (of !== "of" || file.length === 0))) {
-      fail("it is written as `from STATE` or `from STATE of FILE.test`: a state that a test saves, from which all begins");
+      fail(say.FROM_FORM);
     }
-    if (reader.from) fail("it begins from a state in a line before");
+    if (reader.from) fail(say.FROM_ALREADY);
     reader.from = { state, file: file.join(" ") };
   },
   begin: (reader, words) => {
-    const form = "it is written as `begin after TIME`: what comes before is not looked at";
+    const form = say.BEGIN_FORM;
     if (words[0] !== "after") fail(form);
     reader.begin = reader.time(words.slice(1).join(" "), form);
   },
   pace: (reader, words) => {
-    const form = "it is written as `pace TIME TIME`: how long a key is down for a model, and how long it is up";
+    const form = say.PACE_FORM;
     [reader.down, reader.up] = twoTimes(words, form);
   },
   note: (reader, words) => {
-    if (words.length === 0) fail("it is written as `note PLACE ..`: what makes a state new, as in: note lamps r10 ram.0.0x12");
+    if (words.length === 0) fail(say.NOTE_FORM);
     for (const word of words) reader.notes.push(placeOfNote(reader, word));
-    if (reader.notes.length > MOST_NOTES) fail(`${MOST_NOTES} places are noted at most`);
+    if (reader.notes.length > MOST_NOTES) fail(say.mostNoted(MOST_NOTES));
   },
 };
 
@@ -190,11 +187,11 @@ const SETTINGS = {
  */
 function placeOfNote(reader, word) {
   if (/^(lamps|src|ret)$/.test(word)) return word;
-  if (word === "pc") fail("pc is another one at each instruction: it makes no state new");
+  if (word === "pc") fail(say.NOT_PC);
   const value = /^chain\d+$/.test(word) ? "?".repeat(10 * (reader.names.board.chains[Number(word.slice(5))] || { chips: 1 }).chips) : "0";
   const way = /^rom\d+$/.test(word) ? "in " : /^ram\d+\.\d+$/.test(word) ? "out " : "";
   const { places } = reader.condition(`${word} ${way}${value}`);
-  return places[0] || fail(`no trace shows ${word}`);
+  return places[0] || fail(say.noTrace(word));
 }
 
 /** `lamp open on for 1.1 s`: the condition, and how long it holds. */
@@ -207,18 +204,18 @@ const FOR = /^(.*) for (\S+(?: \S+)?)$/;
 const PROPERTIES = {
   never: (reader, rest, text) => {
     const [, condition, time] = FOR.exec(rest) || ["", rest, ""];
-    if (condition === "") fail("it is written as `never CONDITION` or `never CONDITION for TIME`");
-    return time ? neverFor(text, reader.condition(condition), reader.time(time, "it ends with `for TIME`, as in: for 20 ms"))
+    if (condition === "") fail(say.NEVER_FORM);
+    return time ? neverFor(text, reader.condition(condition), reader.time(time, say.FOR_FORM))
       : never(text, reader.condition(condition));
   },
   always: (reader, rest, text) => always(text, reader.condition(rest)),
   at: (reader, rest, text) => {
     const [word, ...words] = rest.split(" ");
-    if (words.length === 0) fail("it is written as `at @LABEL CONDITION`");
+    if (words.length === 0) fail(say.AT_FORM);
     return at(text, reader.condition(words.join(" ")), reader.label(word));
   },
   after: (reader, rest, text) => {
-    const form = "it is written as `after press KEY within TIME CONDITION`, as in: after press # within 50 ms lamp open on";
+    const form = say.AFTER_FORM;
     const found = /^press (\S+) within (.*)$/.exec(rest);
     if (!found) fail(form);
     const [, key, said] = /** @type {RegExpExecArray} */ (found);
@@ -228,7 +225,7 @@ const PROPERTIES = {
     return afterPress(text, reader.input(key).name, reader.condition(words.slice(count).join(" ")), cycles);
   },
   every: (reader, rest, text) => {
-    const form = "it is written as `every TIME @LABEL`, as in: every 20 ms @scan";
+    const form = say.EVERY_FORM;
     const words = rest.split(" ");
     if (words.length < 2) fail(form);
     return every(text, reader.label(words[words.length - 1]), reader.time(words.slice(0, -1).join(" "), form));
@@ -238,16 +235,16 @@ const PROPERTIES = {
     const line = /^line (\d+)$/.exec(rest);
     if (!line) return reach(text, reader.condition(rest));
     const there = reader.instructions.find((each) => each.line === Number(line[1]));
-    return there ? reachAt(text, there.address) : fail(`no instruction stands in line ${line[1]} of the program`);
+    return there ? reachAt(text, there.address) : fail(say.noInstructionIn(line[1]));
   },
   model: (reader, rest, text) => {
-    if (reader.command) fail("there is a model in a line before");
-    if (rest === "") fail("it is written as `model COMMAND`: the command gets keys, and prints what the display has to show");
+    if (reader.command) fail(say.MODEL_ALREADY);
+    if (rest === "") fail(say.MODEL_FORM);
     if (!reader.names.face.groups.some(({ kind }) => kind === "display")) {
-      fail("the board's text names no display (`# display 0: 4 digits`)");
+      fail(say.NO_DISPLAY);
     }
     if (hasScannedDisplay(reader.names.face)) {
-      fail("the display's digits are lit by turns, and a model needs one that shows its number at once");
+      fail(say.LIT_BY_TURNS);
     }
     reader.command = rest;
     return model(text);
@@ -266,14 +263,14 @@ function lineOf(reader, text) {
   const after = ONLY_AFTER.exec(text);
   if (after) {
     const keys = after[2].split(/ *, */).map((each) => (/^press (\S+)$/.exec(each)
-      || fail("it is written as `CONDITION only after press KEY, press KEY ..`"))[1]);
+      || fail(say.ONLY_AFTER_FORM))[1]);
     return onlyAfter(text, reader.condition(after[1]), keys.map((key) => reader.input(key).name));
   }
   const label = ONCE.exec(text);
   if (label) return once(text, reader.label(label[1]));
   const [kind, ...words] = text.split(" ");
   if (Object.prototype.hasOwnProperty.call(PROPERTIES, kind)) return PROPERTIES[kind](reader, words.join(" "), text);
-  if (!Object.prototype.hasOwnProperty.call(SETTINGS, kind)) fail(`no line begins with \`${kind.slice(0, 30)}\`; they begin with ${FORMS}`);
+  if (!Object.prototype.hasOwnProperty.call(SETTINGS, kind)) fail(say.noForm(kind.slice(0, 30), say.FORMS));
   SETTINGS[kind](reader, words);
   return null;
 }
@@ -301,7 +298,6 @@ function complete(reader, text) {
   return reader.inputs.length > 0 || reader.canReset;
 }
 
-const NOTHING = "there is nothing that may change: the board's text names no keys and no TEST; `test` lets TEST change, `reset` the power";
 
 /**
  * Reads a text of properties.
@@ -326,10 +322,11 @@ export function readCampaign(text, subject) {
       faults.push({ line: index + 1, words: fault.message });
     }
   });
-  if (!complete(reader, text) && faults.length === 0) faults.push({ line: Math.max(1, text.trimEnd().split("\n").length), words: NOTHING });
+  const last = Math.max(1, text.trimEnd().split("\n").length);
+  if (!complete(reader, text) && faults.length === 0) faults.push({ line: last, words: say.NOTHING_CHANGES });
   if (faults.length === 0 && !hasKeysForModel(reader)) {
     const { line } = reader.properties.find(({ form }) => form === "model") || { line: 1 };
-    faults.push({ line, words: "a model is asked about keys, and none may go down" });
+    faults.push({ line, words: say.MODEL_NEEDS_KEYS });
   }
   const { inputs, together, canReset, shortest, longest, held, apart, begin, down, up, notes, properties, command } = reader;
   const campaign = { inputs, together, canReset, shortest, longest, held, apart, begin, down, up, notes, command,

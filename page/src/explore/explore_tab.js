@@ -8,6 +8,7 @@ import { definePropertiesMode } from "../text/test_mode.js";
 import { wordsOfFaults } from "../words/results.js";
 import { ExploreView } from "./explore_view.js";
 import { markOfReport, wordsOfEnd, wordsSoFar } from "../words/explored.js";
+import * as say from "../words/explore.js";
 
 /**
  * @typedef {import("../testing/prepared.js").TextFault} TextFault
@@ -32,8 +33,8 @@ import { markOfReport, wordsOfEnd, wordsSoFar } from "../words/explored.js";
  */
 
 const NUMBERS = [
-  { id: "explore-seconds", most: 86400, words: "The seconds are a number, 1 to 86,400." },
-  { id: "explore-seed", most: 99999999, words: "The seed is a number, 1 to 99,999,999." },
+  { id: "explore-seconds", most: 86400, words: say.SECONDS_FORM },
+  { id: "explore-seed", most: 99999999, words: say.SEED_FORM },
 ];
 
 export class ExploreTab {
@@ -119,7 +120,7 @@ export class ExploreTab {
   show() {
     const { shown } = this;
     const goesOn = this.controller !== null;
-    button("explore").textContent = goesOn ? "Stop" : "Explore";
+    button("explore").textContent = goesOn ? say.STOP : say.EXPLORE;
     button("clear-finds").hidden = !shown || goesOn;
     if (shown && shown.report) this.view.show(shown.report, goesOn);
     this.mark(0);
@@ -141,7 +142,7 @@ export class ExploreTab {
    */
   wordsOf(shown, goesOn) {
     if (shown && shown.report) return goesOn ? wordsSoFar(shown.report) : wordsOfEnd(shown.report, shown.isStopped);
-    return goesOn ? "It begins." : "";
+    return goesOn ? say.BEGINS : "";
   }
 
   stop() {
@@ -190,7 +191,7 @@ export class ExploreTab {
       this.show();
     }
     if (ended.faults.length > 0) this.refuse(ended.faults);
-    else if (!explored.report) this.editor.tell("It was stopped before it had begun.");
+    else if (!explored.report) this.editor.tell(say.STOPPED_EARLY);
   }
 
   /** @param {TextFault[]} faults for which nothing was looked for */
@@ -213,7 +214,7 @@ export class ExploreTab {
   goToSource(line) {
     const { shown } = this;
     if (shown && shown.texts.programText === this.calls.texts().programText) this.calls.goToSource(line);
-    else this.editor.tell("The source is another one by now: explore it again.");
+    else this.editor.tell(say.OTHER_SOURCE);
   }
 
   /** @param {number} property */

@@ -2,6 +2,7 @@
 
 import { Cell, Switch, below, block, element, onClick } from "../ui/dom.js";
 import { coverageOf, markOf, wordsOfFigures, wordsOfProperty } from "../words/explored.js";
+import * as say from "../words/explore.js";
 
 /**
  * @typedef {import("./report.js").Report} Report
@@ -63,10 +64,10 @@ class Row {
     if (!property.found || this.hasFind) return;
     this.hasFind = true;
     this.node.append(
-      element("details", {}, element("summary", {}, "Its test"), element("pre", { tabIndex: 0 }, property.found.test.trimEnd())),
+      element("details", {}, element("summary", {}, say.ITS_TEST), element("pre", { tabIndex: 0 }, property.found.test.trimEnd())),
       element("p", { className: "bar" },
-        buttonOf("Open it as a session", () => this.calls.open(this.at), { title: "a new session, as the board is there" }),
-        buttonOf("Add it to the tests", () => this.calls.add(this.at), { title: "at the end of Tests" })));
+        buttonOf(say.OPEN_AS_SESSION, () => this.calls.open(this.at), { title: say.AS_IT_IS_THERE }),
+        buttonOf(say.ADD_TO_TESTS, () => this.calls.add(this.at), { title: say.AT_END })));
   }
 }
 
@@ -132,9 +133,9 @@ export class ExploreView {
     const key = lines.join(" ");
     if (key === this.leftLines) return;
     this.leftLines = key;
-    const more = lines.length > MOST_LINES ? ` and ${lines.length - MOST_LINES} more` : "";
+    const more = lines.length > MOST_LINES ? say.andMore(lines.length - MOST_LINES) : "";
     const buttons = lines.slice(0, MOST_LINES).flatMap((line) => [
-      " ", buttonOf(String(line), () => this.calls.goToSource(line), { className: "name", ariaLabel: `Line ${line} of the source` })]);
-    this.left.replaceChildren(...(lines.length === 0 ? [] : ["Never run: lines", ...buttons, more]));
+      " ", buttonOf(String(line), () => this.calls.goToSource(line), { className: "name", ariaLabel: say.lineOfSource(line) })]);
+    this.left.replaceChildren(...(lines.length === 0 ? [] : [say.NEVER_RUN, ...buttons, more]));
   }
 }

@@ -11,6 +11,7 @@ import { begun, testsThatLead } from "./beginning.js";
 import { CampaignRun, patienceOf } from "./campaign_run.js";
 import { readCampaign } from "./campaign.js";
 import { subjectOf } from "./subject.js";
+import * as say from "../words/explore.js";
 
 /**
  * @typedef {import("../testing/prepared.js").TextFault} TextFault
@@ -30,8 +31,6 @@ import { subjectOf } from "./subject.js";
 
 /** So many milliseconds pass between two looks at the clock. */
 const SLICE = 50;
-const NAMES = { board: "Board", program: "Source", properties: "Properties" };
-
 /**
  * A text of properties with what it is for, or what is wrong with any of the texts.
  * @param {Engine} engine
@@ -122,6 +121,6 @@ export class Exploring {
 
   report() {
     const { search, all, model } = this.run.spent;
-    return this.run.report({ names: NAMES, sums: "", seconds: (search + all + model) / 1000, isStopped: false });
+    return this.run.report({ names: say.NAMES, sums: "", seconds: (search + all + model) / 1000, isStopped: false });
   }
 }

@@ -2,6 +2,7 @@
 
 import { hex } from "../bench/numbers.js";
 import { linesOf, runLines } from "./walks.js";
+import * as say from "../words/explore.js";
 
 /**
  * @typedef {import("./campaign.js").Campaign} Campaign
@@ -184,9 +185,9 @@ const JUDGED = {
 
 /** @type {Partial<Record<Property["form"], string>>} */
 const NOTES = {
-  calls: "the fourth call leads there, and the oldest return address is lost",
-  returns: "a BBL leads there, and no call is open",
-  once: "it has come there more often than anything was pressed",
+  calls: say.FOURTH_CALL,
+  returns: say.BBL_LEADS,
+  once: say.MORE_OFTEN,
 };
 
 /**
@@ -206,7 +207,7 @@ export function testsOf(subject, file, campaign, find) {
     const note = NOTES[form];
     writer.putSteps();
     JUDGED[form](writer, at);
-    if (count > 1) writer.lines.splice(1, 0, `  # one of: ${condition && condition.text}`);
+    if (count > 1) writer.lines.splice(1, 0, say.oneOf(condition ? condition.text : ""));
     if (note) writer.lines.splice(1, 0, `  # ${note}`);
     return `${writer.lines.join("\n")}\n`;
   });

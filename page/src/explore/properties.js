@@ -2,6 +2,8 @@
 // it is broken (a goal: when it is reached). What it remembers of a walk is a list of numbers, so that a walk can go on from a state
 // that was kept.
 
+import * as say from "../words/explore.js";
+
 /**
  * @typedef {import("../debug/conditions.js").Condition} Condition
  * @typedef {import("./inputs.js").Input} Input
@@ -247,16 +249,16 @@ function countCalls(memory, event) {
  */
 export function alwaysOn() {
   return [
-    { ...PLAIN, form: "code", text: "no code that is not an instruction" },
+    { ...PLAIN, form: "code", text: say.NO_OTHER_CODE },
     {
-      ...PLAIN, form: "calls", text: "no more than three calls open", from: () => [0],
+      ...PLAIN, form: "calls", text: say.NO_FOURTH_CALL, from: () => [0],
       see: (memory, event, { time }) => {
         countCalls(memory, event);
         return memory[0] > DEEPEST ? time : NOT;
       },
     },
     {
-      ...PLAIN, form: "returns", text: "no BBL without a call", from: () => [0],
+      ...PLAIN, form: "returns", text: say.NO_LONE_RETURN, from: () => [0],
       see: (memory, event, { time }) => {
         countCalls(memory, event);
         // A fourth call is told by itself: what comes back from it is another question.

@@ -2,6 +2,7 @@
 
 import { counted } from "../bench/numbers.js";
 import { Coverage } from "./coverage.js";
+import * as say from "../words/explore.js";
 
 /**
  * @typedef {import("./properties.js").Property} Property
@@ -77,9 +78,9 @@ export function isRight({ isGoal, found }) {
  */
 export function remarkOf({ isGoal, applied, states, chains, found }, report) {
   if (found) return `${isGoal ? "reached" : "broken"}, ${stepsOf(found.steps)}`;
-  if (states > 0) return isGoal ? `never, in all ${grouped(states)} states` : `holds for all ${grouped(states)} states`;
-  if (chains > 0) return `${grouped(chains)} chains of keys`;
-  return applied ? `${grouped(report.steps)} steps, ${grouped(report.states)} states` : "never looked at";
+  if (states > 0) return isGoal ? say.neverInAll(grouped(states)) : say.holdsForAll(grouped(states));
+  if (chains > 0) return say.chainsOfKeys(grouped(chains));
+  return applied ? say.stepsAndStates(grouped(report.steps), grouped(report.states)) : say.NEVER_LOOKED_AT;
 }
 
 /**
@@ -106,7 +107,7 @@ function linesOf(property, at, report) {
   const lines = [`${isRight(property) ? "" : "not "}ok ${at + 1} - ${name} # ${remarkOf(property, report)}`];
   if (!found) return lines;
   const how = property.isGoal ? "reached" : "broken";
-  const words = `${how} by ${stepsOf(found.steps)}, ${grouped(found.cycles)} cycles (seed ${found.seed})`;
+  const words = say.foundBy(how, stepsOf(found.steps), grouped(found.cycles), found.seed);
   lines.push("  ---", `  message: ${quoted(words)}`, `  at: ${quoted(placeOf(property, report))}`, "  test: |");
   return [...lines, ...found.test.trimEnd().split("\n").map((line) => `    ${line}`), "  ..."];
 }
@@ -117,7 +118,7 @@ const MOST_LINES = 40;
 /** @param {number[]} lines */
 function listed(lines) {
   const more = lines.length - MOST_LINES;
-  return `${lines.length === 1 ? "line" : "lines"} ${lines.slice(0, MOST_LINES).join(" ")}${more > 0 ? ` and ${more} more` : ""}`;
+  return `${lines.length === 1 ? "line" : "lines"} ${lines.slice(0, MOST_LINES).join(" ")}${more > 0 ? say.andMore(more) : ""}`;
 }
 
 /**
@@ -126,11 +127,9 @@ function listed(lines) {
  */
 export function coverageLines({ covered, instructions }) {
   const { run, all, ways, allWays, left, oneWay } = new Coverage(covered).summary(instructions);
-  /** @type {(part: number, whole: number) => string} */
-  const share = (part, whole) => `${part} of ${whole}`;
-  const lines = [`${share(run, all)} instructions were run, ${share(ways, allWays)} ways of conditional jumps`];
-  if (left.length > 0) lines.push(`never run: ${listed(left)}`);
-  if (oneWay.length > 0) lines.push(`always went one way: ${listed(oneWay)}`);
+  const lines = [say.covered(say.partOf(run, all), say.partOf(ways, allWays))];
+  if (left.length > 0) lines.push(say.neverRun(listed(left)));
+  if (oneWay.length > 0) lines.push(say.alwaysOneWay(listed(oneWay)));
   return lines;
 }
 
@@ -141,10 +140,9 @@ export function tapOf(report) {
   const { properties, seeds, steps, seconds, states, isStopped } = report;
   const lines = ["TAP version 13", `1..${properties.length}`];
   properties.forEach((property, at) => lines.push(...linesOf(property, at, report)));
-  const rate = seconds > 0 ? `, ${grouped(steps / seconds)} a second` : "";
+  const rate = seconds > 0 ? say.aSecond(grouped(steps / seconds)) : "";
   lines.push(...coverageLines(report).map((line) => `# ${line}`));
-  lines.push(`# ${seeds.length === 1 ? "seed" : "seeds"} ${seeds.join(" ")}: ${grouped(steps)} steps in ${seconds.toFixed(1)} s of `
-    + `processor time${rate}; ${grouped(states)} states${isStopped ? "; stopped" : ""}`);
+  lines.push(say.figures(seeds, grouped(steps), seconds.toFixed(1), rate, grouped(states), isStopped));
   return `${lines.join("\n")}\n`;
 }
 
@@ -155,6 +153,6 @@ export function tapOf(report) {
 export function testsOfReport(report) {
   const { names: { board, program } } = report;
   const found = report.properties.filter((property) => property.found);
-  const head = `# Found by tools/explore: tools/test ${board} ${program} and this file.\n`;
+  const head = say.foundByTool(board, program);
   return head + found.map((property) => `\n# ${placeOf(property, report)}\n${property.found ? property.found.test : ""}`).join("");
 }

@@ -6,6 +6,7 @@ import { Face } from "../board/face.js";
 import { SourceMap } from "../machine/source_map.js";
 import { sentText } from "../text/text_fault.js";
 import { romCodes } from "../worker/rom_codes.js";
+import * as say from "../words/explore.js";
 
 /**
  * @typedef {import("../worker/engine.js").Engine} Engine
@@ -25,7 +26,7 @@ export class TextRefused extends Error {
    * @param {import("../bench/answers.js").Refusal} refusal
    */
   constructor(which, { number, line }) {
-    super(`the ${which} is refused: no ${number}${line ? `, line ${line}` : ""}`);
+    super(say.isRefused(which, number, line ? `, line ${line}` : ""));
     this.which = which;
     this.number = number;
     this.line = line;

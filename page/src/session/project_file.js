@@ -17,7 +17,6 @@ import * as say from "../words/session.js";
  */
 
 const FIRST_LINE = "fethsaim project 1";
-const ABOUT = "# A board, its program and a session of the bench Fethsaim. Its page opens this file; tools/project takes it apart.";
 /** A text ends at a line with a dot alone, as one that is sent to the bench does. */
 const DOT = ".";
 const LAST_LINE = "end";
@@ -105,7 +104,7 @@ export function linesOfTexts({ name, boardText, programText, testText = "", prop
  * @param {Project} project
  */
 export function projectText(project) {
-  const rest = `${[ABOUT, ...linesOfTexts(project), ...linesOfFile(project.file), LAST_LINE].join("\n")}\n`;
+  const rest = `${[say.ABOUT_PROJECT, ...linesOfTexts(project), ...linesOfFile(project.file), LAST_LINE].join("\n")}\n`;
   return `${FIRST_LINE}\ncksum ${checksum(new TextEncoder().encode(rest))}\n${rest}`;
 }
 

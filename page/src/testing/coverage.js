@@ -68,5 +68,5 @@ export function coverageOf(account, map) {
 export function wordsOfCoverage({ instructions, run, ways, waysRun }) {
   /** @type {(part: number, all: number) => string} */
   const percent = (part, all) => (all > 0 ? ` (${((100 * part) / all).toFixed(1)} %)` : "");
-  return say.covered(`${run} of ${instructions}`, percent(run, instructions), `${waysRun} of ${ways}`, percent(waysRun, ways));
+  return say.covered([run, instructions, waysRun, ways], percent(run, instructions), percent(waysRun, ways));
 }

@@ -292,7 +292,7 @@ class TestReader {
    * @returns {Action}
    */
   readKeys(kind, words) {
-    if (words.length === 0) fail(say.keysForm(kind, kind === "keys" ? "KEYS" : "KEY .."));
+    if (words.length === 0) fail(say.keysForm(kind, kind === "keys"));
     const keys = words.flatMap((word) => {
       const key = this.keys.get(word) || this.chosenKey(word);
       if (key) return [key];

@@ -28,7 +28,7 @@ function buttonOf(text, act, properties = {}) {
 
 /** @param {number} cycles */
 function milliseconds(cycles) {
-  return `${cycles.toLocaleString("en")}, ${(cycles * 0.0108).toFixed(1)} ms`;
+  return say.cyclesAndTime(cycles.toLocaleString("en"), (cycles * 0.0108).toFixed(1));
 }
 
 export class TestsView {

@@ -28,13 +28,6 @@ const OPERANDS = {
   b: { what: say.A_BYTE, most: 255 },
   t: { what: say.AN_ADDRESS, most: 4095 },
 };
-/** What other assemblers call it, and what does it here. */
-const ELSEWHERE = new Map(Object.entries({
-  JMP: "JUN", GOTO: "JUN", BRA: "JUN", CALL: "JMS", JSR: "JMS", RET: "BBL", RTS: "BBL", MOV: "LD or XCH", LDA: "LD", STA: "XCH", STO: "XCH",
-  JZ: "JCN 4", JNZ: "JCN 12", JC: "JCN 2", JNC: "JCN 10", DJNZ: "ISZ", BYTE: "DB", DEFB: "DB", EQU: "NAME = NUMBER", HLT: "JUN to itself",
-  HALT: "JUN to itself", DEC: "DAC", INP: "RDR", OUT: "WRR", LDI: "LDM",
-}));
-
 /**
  * What other assemblers write as a number: how it is written here, and words about that; null for anything else.
  * @param {string} text
@@ -144,7 +137,7 @@ function faultOfHead({ label, operands }, head, { instructions }) {
   if (upper === "WPM") return { word: head, words: say.NO_WPM };
   const given = operands.length === 1 && NAME.test(head.text) && /^(?:EQU|SET)\s+(.*)$/i.exec(operands[0].text);
   if (given) return { word: operands[0], words: say.nameGetsNumber(head.text, given[1]), cures: [`= ${given[1]}`] };
-  const other = ELSEWHERE.get(upper);
+  const other = say.ELSEWHERE.get(upper);
   const isAlone = !label && operands.length === 0 && NAME.test(head.text);
   const likes = other ? [] : mostAlike(upper, [...instructions.keys(), ...DIRECTIVES]);
   const question = other ? `; ${other}?` : meant(likes);

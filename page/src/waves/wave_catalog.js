@@ -66,7 +66,7 @@ function fitting(offered, text) {
  */
 export function found(offered, text, chosen) {
   const isAll = text.trim() === "";
-  const isCharacter = (/** @type {WaveLine} */ { group }) => group.startsWith("RAM, ");
+  const isCharacter = (/** @type {WaveLine} */ { group }) => group.startsWith(say.RAM_GROUP);
   let left = isAll ? 0 : MOST_CHARACTERS;
   const all = fitting(offered, text);
   if (all.length === 0 && !isAll) return { lines: all, more: say.noName(text.trim()) };
@@ -81,5 +81,5 @@ export function found(offered, text, chosen) {
  * @param {string} group
  */
 export function titleOf(group) {
-  return say.TITLES[group] || group.replace(/^rom/, "ROM ").replace(/^ram/, "RAM ").replace(/^chain/, "Chain ");
+  return say.TITLES[group] || say.titleOfChip(group);
 }

@@ -131,7 +131,7 @@ export function valueLine(text, board) {
   const [word, bank, at] = place.name.split(".");
   const isMemory = word === "ram" || word === "st";
   const title = word === "ram" ? say.inBank(bank, wordsOfCharacter(numberOf(at))) : isMemory ? say.STATUS_CHARACTER : "";
-  return made(place.name, isMemory ? `RAM, bank ${bank}` : "registers", "value", { places: [place.name], width: WIDTHS[word] || 4, title });
+  return made(place.name, isMemory ? say.ramGroup(bank) : "registers", "value", { places: [place.name], width: WIDTHS[word] || 4, title });
 }
 
 /** The names of all registers and pairs. */

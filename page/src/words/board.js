@@ -57,8 +57,6 @@ export const SOUNDS_BUZZER = "sounds the buzzer";
 export const drivesRow = (row) => `drives row ${row} of the keys`;
 /** @type {(column: number) => string} */
 export const readsColumn = (column) => `reads column ${column} of the keys`;
-/** @type {(name: string, uses: string) => string} */
-export const usesOf = (name, uses) => `${name} ${uses}`;
 export const AND = " and ";
 export const NOT_USED = "is not used";
 export const DOES_PROCESSOR = "it reads the ROMs' bytes and ports, writes the ports, and reads and writes RAM";

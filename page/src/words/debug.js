@@ -108,7 +108,7 @@ export const usedBefore = (what, before, last) => `this ${what}, and before it u
 /** @type {(address: string) => string} */
 export const atAddress = (address) => `, at ${address},`;
 /** @type {(words: string, user: string) => string} */
-export const sourceWasFor = (words, user) => `${words} was for ${user}; is an SRC missing?`;
+export const sourceWasFor = (words, user) => `${words} was for ${user === "RAM" ? user : `an ${user}`}; is an SRC missing?`;
 /** @type {(address: string) => string} */
 export const lastSource = (address) => `; the last SRC is at ${address}`;
 /** @type {(bank: number) => string} */

@@ -87,6 +87,9 @@ export const NOT_A_TEXT = "not a text, a session or a project";
 export const EMPTY = "it is empty";
 
 // --- session/project_file.js ---
+/** The second line of a project file. */
+export const ABOUT_PROJECT =
+  "# A board, its program and a session of the bench Fethsaim. Its page opens this file; tools/project takes it apart.";
 export const ONE_OF_HEAD = "one of the head: `name`, `unended`, `break`, `#`, or `wire`, which begins the board's text";
 export const BOARD_TEXT = "the board's text";
 export const SOURCE_TEXT = "the source";

@@ -1,9 +1,9 @@
 // What people read of tests: their text, their results, what was covered.
 
 // --- testing/coverage.js ---
-/** @type {(run: string, percent: string, ways: string, percentOfWays: string) => string} */
-export const covered = (run, percent, ways, percentOfWays) => (
-  `${run} instructions were run${percent}, ${ways} ways of conditional jumps${percentOfWays}`);
+/** @type {(counts: number[], percent: string, percentOfWays: string) => string} */
+export const covered = ([run, all, waysRun, ways], percent, percentOfWays) => (
+  `${run} of ${all} instructions were run${percent}, ${waysRun} of ${ways} ways of conditional jumps${percentOfWays}`);
 
 // --- testing/last_instructions.js ---
 export const SECOND_CYCLE = "(the second cycle)";
@@ -95,8 +95,8 @@ export const statesThere = (states) => `; there is: ${states}`;
 /** @type {(state: string, there: string) => string} */
 export const noSuchState = (state, there) => `no test before it saves a state ${state}${there}`;
 export const OWN_STATE = "a test cannot begin with a state of its own";
-/** @type {(word: string, what: string) => string} */
-export const keysForm = (word, what) => `it is written as \`${word} ${what}\``;
+/** @type {(word: string, areMany: boolean) => string} */
+export const keysForm = (word, areMany) => `it is written as \`${word} ${areMany ? "KEYS" : "KEY .."}\``;
 /** @type {(name: string, word: string) => string} */
 export const nor = (name, word) => `${name}, nor ${word}`;
 /** @type {(what: string, there: string) => string} */
@@ -118,3 +118,5 @@ export const LAST_INSTRUCTIONS = "The last instructions";
 export const OPEN_THERE = "Open the session as it is there";
 export const NO_LABEL = "(no label)";
 export const BEGUN_BEFORE = "(begun before)";
+/** @type {(cycles: string, milliseconds: string) => string} */
+export const cyclesAndTime = (cycles, milliseconds) => `${cycles}, ${milliseconds} ms`;

@@ -159,6 +159,12 @@ export const noRomForLine = (chip, address) => (
   `the board has no ROM ${chip}, where this line stands (${address}): wire a [[rom]] with chip = ${chip}`);
 
 // --- text/program_words.js ---
+/** What other assemblers call it, and what does it here. */
+export const ELSEWHERE = new Map(Object.entries({
+  JMP: "JUN", GOTO: "JUN", BRA: "JUN", CALL: "JMS", JSR: "JMS", RET: "BBL", RTS: "BBL", MOV: "LD or XCH", LDA: "LD", STA: "XCH", STO: "XCH",
+  JZ: "JCN 4", JNZ: "JCN 12", JC: "JCN 2", JNC: "JCN 10", DJNZ: "ISZ", BYTE: "DB", DEFB: "DB", EQU: "NAME = NUMBER", HLT: "JUN to itself",
+  HALT: "JUN to itself", DEC: "DAC", INP: "RDR", OUT: "WRR", LDI: "LDM",
+}));
 export const A_PAIR = "a pair, P0 to P7";
 export const A_REGISTER = "a register, R0 to R15";
 export const A_CONDITION = "a condition, 0 to 15";

@@ -64,7 +64,14 @@ export const TITLES = {
 /** @type {(names: string, isOne: boolean) => string} */
 export const recordedNext = (names, isOne) => `${names} ${isOne ? "is" : "are"} recorded from the next recording on.`;
 
+/** @type {(group: string) => string} */
+export const titleOfChip = (group) => group.replace(/^rom/, "ROM ").replace(/^ram/, "RAM ").replace(/^chain/, "Chain ");
+/** How the name of a group of characters of RAM begins. */
+export const RAM_GROUP = "RAM, ";
+
 // --- waves/wave_lines.js ---
+/** @type {(bank: string) => string} */
+export const ramGroup = (bank) => `${RAM_GROUP}bank ${bank}`;
 export const SRC_OF_ROMS = "the SRC byte that the ROMs keep";
 /** @type {(port: string, line: string | number) => string} */
 export const lineOf = (port, line) => `${port}, line ${line}`;

@@ -1,0 +1,125 @@
+// What people read of properties and of the search for keys that break them.
+
+// --- explore/beginning.js ---
+/** @type {(state: string) => string} */
+export const noTests = (state) => `there are no tests, of which one saves the state ${state}`;
+/** @type {(line: number, words: string) => string} */
+export const testsFault = (line, words) => `its tests have a fault in line ${line}: ${words}`;
+/** @type {(state: string, there: string) => string} */
+export const noSuchState = (state, there) => `no test saves a state ${state}${there && `; there is: ${there}`}`;
+/** @type {(line: number, text: string, words: string) => string} */
+export const testFails = (line, text, words) => `line ${line} of its tests fails: ${text}: ${words}`;
+
+// --- explore/campaign.js ---
+export const FORMS = "press, test, reset, together, wait, held, apart, from, begin, note, pace, never, always, at, after press, every, "
+  + "reach, model, or are written as `C only after press K, press K ..` or `@LABEL at most once for each press`";
+/** @type {(name: string) => string} */
+export const noLabel = (name) => `the program has no label ${name}`;
+/** @type {(word: string) => string} */
+export const labelForm = (word) => `a label is written as @LABEL, not ${word}`;
+/** @type {(name: string, there: string) => string} */
+export const noKey = (name, there) => (
+  `the board has no key ${name}; ${there ? `it has: ${there}` : "its text names no keys (`# row 0: NAME ..`)"}`);
+export const WAIT_FORM = "it is written as `wait TIME to TIME`, from 1 cycle to 100,000 (1.08 s), as in: wait 1 ms to 20 ms";
+export const PRESS_FORM = "it is written as `press KEY ..`: the keys that may go down";
+export const TEST_FORM = "`test` stands alone: TEST may change";
+export const RESET_FORM = "`reset` stands alone: a power cycle may come";
+export const TOGETHER_FORM = "it is written as `together N`: so many keys may be down at a time";
+export const HELD_FORM = "it is written as `held at most TIME`: no key is down for longer";
+export const APART_FORM = "it is written as `apart at least TIME`: a key that went up stays up for so long";
+export const FROM_FORM = "it is written as `from STATE` or `from STATE of FILE.test`: a state that a test saves, from which all begins";
+export const FROM_ALREADY = "it begins from a state in a line before";
+export const BEGIN_FORM = "it is written as `begin after TIME`: what comes before is not looked at";
+export const PACE_FORM = "it is written as `pace TIME TIME`: how long a key is down for a model, and how long it is up";
+export const NOTE_FORM = "it is written as `note PLACE ..`: what makes a state new, as in: note lamps r10 ram.0.0x12";
+/** @type {(most: number) => string} */
+export const mostNoted = (most) => `${most} places are noted at most`;
+export const NOT_PC = "pc is another one at each instruction: it makes no state new";
+/** @type {(word: string) => string} */
+export const noTrace = (word) => `no trace shows ${word}`;
+export const NEVER_FORM = "it is written as `never CONDITION` or `never CONDITION for TIME`";
+export const FOR_FORM = "it ends with `for TIME`, as in: for 20 ms";
+export const AT_FORM = "it is written as `at @LABEL CONDITION`";
+export const AFTER_FORM = "it is written as `after press KEY within TIME CONDITION`, as in: after press # within 50 ms lamp open on";
+export const EVERY_FORM = "it is written as `every TIME @LABEL`, as in: every 20 ms @scan";
+/** @type {(line: string) => string} */
+export const noInstructionIn = (line) => `no instruction stands in line ${line} of the program`;
+export const MODEL_ALREADY = "there is a model in a line before";
+export const MODEL_FORM = "it is written as `model COMMAND`: the command gets keys, and prints what the display has to show";
+export const NO_DISPLAY = "the board's text names no display (`# display 0: 4 digits`)";
+export const LIT_BY_TURNS = "the display's digits are lit by turns, and a model needs one that shows its number at once";
+export const ONLY_AFTER_FORM = "it is written as `CONDITION only after press KEY, press KEY ..`";
+/** @type {(word: string, forms: string) => string} */
+export const noForm = (word, forms) => `no line begins with \`${word}\`; they begin with ${forms}`;
+export const NOTHING_CHANGES =
+  "there is nothing that may change: the board's text names no keys and no TEST; `test` lets TEST change, `reset` the power";
+export const MODEL_NEEDS_KEYS = "a model is asked about keys, and none may go down";
+
+// --- explore/explore_tab.js ---
+export const SECONDS_FORM = "The seconds are a number, 1 to 86,400.";
+export const SEED_FORM = "The seed is a number, 1 to 99,999,999.";
+export const STOP = "Stop";
+export const EXPLORE = "Explore";
+export const BEGINS = "Starting.";
+export const STOPPED_EARLY = "It was stopped before it started.";
+export const OTHER_SOURCE = "The source has changed since: explore it again.";
+
+// --- explore/explore_view.js ---
+export const ITS_TEST = "Its test";
+export const OPEN_AS_SESSION = "Open it as a session";
+export const AS_IT_IS_THERE = "a new session, with the board as it is there";
+export const ADD_TO_TESTS = "Add it to the tests";
+export const AT_END = "at the end of Tests";
+/** @type {(count: number) => string} */
+export const andMore = (count) => ` and ${count} more`;
+/** @type {(line: number) => string} */
+export const lineOfSource = (line) => `Line ${line} of the source`;
+export const NEVER_RUN = "Never run: lines";
+
+// --- explore/exploring.js ---
+export const NAMES = { board: "Board", program: "Source", properties: "Properties" };
+
+// --- explore/find_test.js ---
+/** @type {(condition: string) => string} */
+export const oneOf = (condition) => `  # one of: ${condition}`;
+export const FOURTH_CALL = "the fourth call leads there, and the oldest return address is lost";
+export const BBL_LEADS = "a BBL leads there, and no call is open";
+export const MORE_OFTEN = "it has come there more often than anything was pressed";
+
+// --- explore/properties.js ---
+export const NO_OTHER_CODE = "no code that is not an instruction";
+export const NO_FOURTH_CALL = "no more than three calls open";
+export const NO_LONE_RETURN = "no BBL without a call";
+
+// --- explore/report.js ---
+/** @type {(part: number, whole: number) => string} */
+export const partOf = (part, whole) => `${part} of ${whole}`;
+/** @type {(seeds: number[], steps: string, seconds: string, rate: string, states: string, isStopped: boolean) => string} */
+export const figures = (seeds, steps, seconds, rate, states, isStopped) => (
+  `# ${seeds.length === 1 ? "seed" : "seeds"} ${seeds.join(" ")}: ${steps} steps in ${seconds} s of processor time${rate}; `
+  + `${states} states${isStopped ? "; stopped" : ""}`);
+/** @type {(states: string) => string} */
+export const neverInAll = (states) => `never, in all ${states} states`;
+/** @type {(states: string) => string} */
+export const holdsForAll = (states) => `holds for all ${states} states`;
+/** @type {(chains: string) => string} */
+export const chainsOfKeys = (chains) => `${chains} chains of keys`;
+/** @type {(steps: string, states: string) => string} */
+export const stepsAndStates = (steps, states) => `${steps} steps, ${states} states`;
+export const NEVER_LOOKED_AT = "never looked at";
+/** @type {(how: string, steps: string, cycles: string, seed: number) => string} */
+export const foundBy = (how, steps, cycles, seed) => `${how} by ${steps}, ${cycles} cycles (seed ${seed})`;
+/** @type {(run: string, ways: string) => string} */
+export const covered = (run, ways) => `${run} instructions were run, ${ways} ways of conditional jumps`;
+/** @type {(lines: string) => string} */
+export const neverRun = (lines) => `never run: ${lines}`;
+/** @type {(lines: string) => string} */
+export const alwaysOneWay = (lines) => `always went one way: ${lines}`;
+/** @type {(steps: string) => string} */
+export const aSecond = (steps) => `, ${steps} a second`;
+/** @type {(board: string, program: string) => string} */
+export const foundByTool = (board, program) => `# Found by tools/explore: tools/test ${board} ${program} and this file.\n`;
+
+// --- explore/subject.js ---
+/** @type {(which: string, number: number, line: string) => string} */
+export const isRefused = (which, number, line) => `the ${which} is refused: no ${number}${line}`;
