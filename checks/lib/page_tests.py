@@ -85,7 +85,7 @@ def check_cancel(browser):
     browser.click(f"{EDITOR} .send")
     browser.until("return isShown(document.getElementById('work'))", True)
     browser.click("#cancel")
-    comes(browser, "a test that does not end is cancelled", TOLD, "It was cancelled; what was shown is from before.")
+    comes(browser, "a test that does not end is cancelled", TOLD, "It was cancelled; what is shown is from before.")
 
 
 def check_kept(browser, folder):

@@ -90,7 +90,7 @@ def check_edit(browser):
     browser.script(f"document.querySelector('{CELL}').focus()")
     browser.keys([ENTER])
     browser.type_into("#cell-editor input", "g" + ENTER)
-    comes(browser, "no digit is refused in words", "return document.querySelector('#cell-told').textContent", re.compile("^Write it in hexadec"))
+    comes(browser, "no digit is refused in words", "return document.querySelector('#cell-told').textContent", re.compile("^Type hexadec"))
     browser.type_into("#cell-editor input", ESCAPE)
     browser.keys([ENTER])
     browser.type_into("#cell-editor input", "c" + ENTER)
