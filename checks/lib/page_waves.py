@@ -250,7 +250,7 @@ def check_triggers(browser):
     verdict("it waits for its trigger", record(browser, 3000, "live"), "It records as soon as time runs. It waits for lamp15 rises.")
     browser.click("#run")
     told = browser.until(TOLD, re.compile(r"^Recorded: [0-9,]+ cycles, .*\. The trigger came at cycle [0-9,]+\.$"))
-    comes(browser, "time stops with it", STATUS, re.compile(r"^Stopped at .*, where the waves behind the trigger are recorded\.$"))
+    comes(browser, "time stops with it", STATUS, re.compile(r"^Stopped at .*, where the waves after the trigger are recorded\.$"))
     browser.script(CHOOSE, ["lamp15"])
     at = re.search(r"at cycle ([0-9,]+)", told)[1]
     comes(browser, "the cursor stands at the trigger", FIRST, re.compile(f"^A: cycle {at}, "))

@@ -373,7 +373,7 @@ test("what came of it is told in words", () => {
   const found = { test: "", steps: 2, cycles: 1200, seed: 1 };
   const report = (...properties) => ({ properties, steps: 2000, states: 3, seconds: 0.5, seeds: [7] });
   const goal = { ...property, isGoal: true };
-  assert.equal(wordsOfFigures(report()), "2,000 steps, 4,000 a second; 3 states told apart; seed 7.");
+  assert.equal(wordsOfFigures(report()), "2,000 steps, 4,000 a second; 3 different states; seed 7.");
   assert.equal(wordsOfEnd(report(property, goal), false), "Nothing was found that breaks a property. 1 goal was not reached.");
   assert.equal(wordsOfEnd(report({ ...property, found }, { ...goal, found }), true), "Stopped. 1 property is broken.");
   assert.equal(wordsOfProperty({ ...property, found }, report()), "broken by 2 steps, 1,200 cycles");

@@ -142,7 +142,7 @@ test("what ends a recording, in words", async () => {
   };
   assert.equal(await ends((calls) => calls.goBack({ kind: "instruction" })), "It ended where the session went back or forward.");
   const board = "wire\n[[rom]]\nchip = 0\nport = \"0000\"\n.\n";
-  assert.equal(await ends((calls) => calls.serve(board)), "It ended where the board was wired anew.");
+  assert.equal(await ends((calls) => calls.serve(board)), "It ended where the board was wired again.");
   assert.equal(await ends((calls) => calls.serve("asm\nNOP\n.\n")), "It ended where other bytes were put into ROM.");
   assert.equal(await ends((calls) => calls.serve("run 100000\n".repeat(30))), "It ended at lines that did more than it can follow.");
 });

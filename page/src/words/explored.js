@@ -28,7 +28,7 @@ function countsOf({ properties }) {
  */
 export function wordsOfFigures({ seeds, steps, seconds, states }) {
   const rate = seconds > 0 ? `, ${grouped(steps / seconds)} a second` : "";
-  return `${stepsOf(steps)}${rate}; ${counted(states, "state")} told apart; seed ${seeds.join(" ")}.`;
+  return `${stepsOf(steps)}${rate}; ${counted(states, "different state")}; seed ${seeds.join(" ")}.`;
 }
 
 /**

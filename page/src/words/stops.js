@@ -17,7 +17,7 @@ export const REASONS = {
   break: "at a breakpoint",
   watch: "after a watched character changed",
   usual: "before a fault that is reported",
-  recorded: "where the waves behind the trigger are recorded",
+  recorded: "where the waves after the trigger are recorded",
 };
 
 /**
@@ -154,5 +154,5 @@ export function wordsOfHalt(goal, cycles, place) {
  */
 export function wordsOfBroken(goal, ran, place) {
   const what = `${wordsOfGoal(goal)} was ${ran ? "not reached" : "looked for, and nothing was done"}`;
-  return `Stopped at ${place}: ${what}, as the page was loaded anew or another session was shown.`;
+  return `Stopped at ${place}: ${what}, as the page was loaded again or another session was shown.`;
 }

@@ -5,11 +5,11 @@
 export const ENDS = {
   hand: "It was stopped.",
   back: "It ended where the session went back or forward.",
-  board: "It ended where the board was wired anew.",
+  board: "It ended where the board was wired again.",
   program: "It ended where other bytes were put into ROM.",
   lines: "It ended at lines that did more than it can follow.",
   long: "It ended after 4,000,000,000 cycles.",
-  lost: "It ended: the bench began anew.",
+  lost: "It ended: the bench was started again.",
 };
 /** @type {(cycles: string, microseconds: string) => string} */
 export const span = (cycles, microseconds) => `${cycles}, ${microseconds} microseconds`;
