@@ -299,7 +299,7 @@ def check_search(browser):
     browser.script(FOCUS)
     browser.keys([END], 1, 1)
     browser.click("#find-after")
-    comes(browser, "what does not come is told", found, "lamp0 = 1: not behind cycle 30,000 of this recording.")
+    comes(browser, "what does not come is told", found, "lamp0 = 1: not after cycle 30,000 of this recording.")
 
 
 def check_refusals(browser):
