@@ -4,7 +4,7 @@
 . "$top/checks/lib/manual.sh"
 as_shown "Lines" 3
 rm -rf "$folder/manual"
-as_shown "The workbench" 20
+as_shown "The workbench" 12
 
 # What stands twice stands alike: lines in the table and in the manual.
 verdict "$(awk -F ' [|] ' '
