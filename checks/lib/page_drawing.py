@@ -283,6 +283,10 @@ def check_by_keyboard(browser):
 
 
 WIDTH = "return Math.round(document.querySelector('#wiring-picture svg').getBoundingClientRect().width)"
+BOUNDS = "return ['picture-smaller', 'picture-larger'].map((id) => document.getElementById(id).getAttribute('aria-disabled'))"
+ALL_SEEN = """
+const root = document.getElementById("wiring-picture");
+return root.scrollWidth <= root.clientWidth && root.scrollHeight <= root.clientHeight"""
 TURN = """
 const picture = document.getElementById("wiring-picture");
 const { left, top } = picture.getBoundingClientRect();
@@ -309,6 +313,7 @@ def check_zoom(browser):
     largest = browser.script(WIDTH)
     browser.click("#picture-larger")
     verdict("up to a size", (browser.script(WIDTH), largest > before * 2), (largest, True))
+    verdict("which the button says", browser.script(BOUNDS), ["false", "true"])
     browser.click("#picture-fit")
     verdict("and as it was", browser.script(WIDTH), before)
     browser.script("document.querySelector('#wiring-picture .of-rom').focus()")
@@ -318,7 +323,21 @@ def check_zoom(browser):
     comes(browser, "a wire is drawn all the same", SAID, "Line ram0.0.3 is wired to lamp 2.")
     browser.click("#drawing-undo")
     comes(browser, "and undone", SAID, "Undone.")
+    browser.script("document.querySelector('#wiring-picture .of-rom').focus()")
+    browser.keys("-" * 20, 2, 2)
+    smallest = browser.script(WIDTH)
+    browser.keys("-", 2, 2)
+    verdict("down to a size", (browser.script(WIDTH), browser.script(BOUNDS)), (smallest, ["true", "false"]))
+    verdict("at which all of it is seen, and can be read", (browser.script(ALL_SEEN), smallest >= before / 3), (True, True))
+    browser.script("document.getElementById('picture-smaller').focus()")
+    browser.keys([ENTER])
+    verdict("nor does the button, which keeps the focus", (browser.script(WIDTH), browser.script("return document.activeElement.id")),
+            (smallest, "picture-smaller"))
+    browser.script("document.querySelector('#wiring-picture .of-rom').focus()")
+    browser.keys("+" * 20, 2, 2)
+    verdict("keys make it larger up to the same size", browser.script(WIDTH), largest)
     browser.keys("0")
+    verdict("and 0 as it was", browser.script(WIDTH), before)
     browser.script("document.getElementById('picture-fit').click()")
     seen = browser.script(AT_PLACE, 50, 40)
     verdict("the wheel alone scrolls", browser.script(TURN, -100, False), True)

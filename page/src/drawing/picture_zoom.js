@@ -4,25 +4,43 @@ import { button, onClick } from "../ui/dom.js";
 
 /** What a button, a key or a turn of the wheel zooms by. */
 const STEP = 1.25;
-const SMALLEST = 0.1;
+/** Beside the size that it is drawn for; where not all of it is seen by then, it is smaller until it is. */
+const SMALLEST = 0.35;
 const LARGEST = 4;
+/** Sizes that differ by less are the same. */
+const NEARLY = 0.001;
 
 export class PictureZoom {
   /** @param {HTMLElement} root the picture scrolls in it */
   constructor(root) {
     this.root = root;
-    onClick(button("picture-larger"), () => this.zoom(STEP));
-    onClick(button("picture-smaller"), () => this.zoom(1 / STEP));
+    this.larger = button("picture-larger");
+    this.smaller = button("picture-smaller");
+    onClick(this.larger, () => this.zoom(STEP));
+    onClick(this.smaller, () => this.zoom(1 / STEP));
     onClick(button("picture-fit"), () => this.fit());
     root.addEventListener("keydown", (event) => this.typed(event));
     root.addEventListener("wheel", (event) => this.turn(event), { passive: false });
   }
 
+  /** The picture's box on the page. */
+  get box() {
+    const picture = this.root.querySelector("svg");
+    return picture ? picture.getBoundingClientRect() : new DOMRect();
+  }
+
   /** Its size now, beside the one that it is drawn for. */
   get scale() {
-    const picture = this.root.querySelector("svg");
     const width = parseFloat(this.root.style.getPropertyValue("--picture-width"));
-    return picture && width > 0 ? picture.getBoundingClientRect().width / width : 1;
+    return width > 0 ? this.box.width / width : 0;
+  }
+
+  /** The smallest and the largest size that a step comes to; neither is on the other side of the one now. */
+  get bounds() {
+    const { root, scale, box } = this;
+    const height = parseFloat(getComputedStyle(root).maxHeight) || root.clientHeight;
+    const whole = scale * Math.min(root.clientWidth / box.width, height / box.height);
+    return { least: Math.min(SMALLEST, whole, scale), most: Math.max(LARGEST, scale) };
   }
 
   /**
@@ -32,15 +50,26 @@ export class PictureZoom {
    */
   zoom(factor, at = { x: this.root.clientWidth / 2, y: this.root.clientHeight / 2 }) {
     const { root, scale } = this;
+    if (scale === 0) return;
     const { scrollLeft, scrollTop } = root;
-    root.style.setProperty("--picture-zoom", String(Math.min(LARGEST, Math.max(SMALLEST, scale * factor))));
+    const { least, most } = this.bounds;
+    root.style.setProperty("--picture-zoom", String(Math.min(most, Math.max(least, scale * factor))));
     root.classList.add("zoomed");
     const grown = this.scale / scale;
     root.scrollTo((scrollLeft + at.x) * grown - at.x, (scrollTop + at.y) * grown - at.y);
+    this.showBounds();
   }
 
   fit() {
     this.root.classList.remove("zoomed");
+    this.showBounds();
+  }
+
+  /** A button that does no more says so, and keeps the focus. */
+  showBounds() {
+    const { scale, bounds: { least, most } } = this;
+    this.smaller.setAttribute("aria-disabled", String(scale <= least + NEARLY));
+    this.larger.setAttribute("aria-disabled", String(scale >= most - NEARLY));
   }
 
   /** @param {KeyboardEvent} event */
