@@ -1,5 +1,5 @@
 -- The law of a state: its fields in their widths, whether or not they make a valid state.
-use Rattle.std.proofs.Common.{◌≡◌, ℕ, suc, Bool, true, false, cond, ◌*◌, ◌<◌, ◌≤◌, ◌^◌, List, [], ◌∷◌, ◌++◌, length, get_or, Some, None, refl, sym, ap, subst, ◌∙◌, append_assoc, arith}
+use Rattle.std.proofs.Common.{◌≡◌, ℕ, suc, ◌*◌, ◌<◌, ◌≤◌, ◌^◌, List, [], ◌∷◌, ◌++◌, length, get_or, Some, None, refl, sym, ap, subst, ◌∙◌, append_assoc, arith}
 use Rattle.std.specs.List.{flat_map, All, AllByRecursion}
 use Rattle.std.specs.Int.{w32, to_be_bytes}
 use Rattle.std.proofs.lemmas.List.Elements.{recursion_from_All}
@@ -19,7 +19,9 @@ use Rattle.mcs_codec.specs.BoardBytes.{counted_bytes}
 use Rattle.mcs_codec.specs.CommandBytes.{address_bytes}
 use Rattle.mcs_codec.specs.StateBytes.{registers_bytes, src_bytes, wiring_bytes, groups_bytes}
 use Rattle.mcs_codec.specs.StateReading.{chains_at, state_at}
-use Rattle.mcs_codec.specs.Codec.{SpellsStateBy, version_of, is_version_1}
+use Rattle.mcs_codec.specs.Codec.{SpellsStateBy, version_of}
+use Rattle.mcs_codec.specs.declared.versions.Version.{Version}
+use Rattle.mcs_codec.specs.declared.versions.Version.TheVariants.{One, Two}
 use Rattle.mcs_codec.proofs.Codecs.{IsCodec, IsBytes, any_codec, bytes_codec, word_codec, long_codec, last, next, no_step, many_codec, counted_codec, giving_codec, whole_takes, whole_again}
 use Rattle.mcs_codec.proofs.VersionCodec.{FitsVersion, FitsWatches, versioned_board_bytes, watches_bytes, versioned_board_codec, watches_codec, board-begins}
 
@@ -49,33 +51,36 @@ chains_codec (c ∷ chains) = giving_codec (λ p. p.0 ∷ p.1) (flat_map (λ bit
 
 -- ---- a state in the one version or the other
 
-abbrev pub bytes_by : Bool → BenchState → List ℕ
-bytes_by version_1 s = to_be_bytes w32 s.seq ++ (versioned_board_bytes version_1 s.bus.board ++ groups_bytes s.processor s.bus s.breakpoints (watches_bytes version_1 s.watches))
+abbrev pub bytes_by : Version → BenchState → List ℕ
+bytes_by version s = to_be_bytes w32 s.seq ++ (versioned_board_bytes version s.bus.board ++ groups_bytes s.processor s.bus s.breakpoints (watches_bytes version s.watches))
 
 -- the widths of the fields, in the order of their bytes
-abbrev pub HasWidths : Bool → BenchState → Type 0
-HasWidths version_1 s =
-    (s.seq < 2 ^ 32) × (FitsVersion version_1 s.bus.board
+abbrev pub HasWidths : Version → BenchState → Type 0
+HasWidths version s =
+    (s.seq < 2 ^ 32) × (FitsVersion version s.bus.board
     × ((length s.bus.rom ≡ 4096) × ((length s.bus.ram ≡ 2048) × ((length s.bus.status ≡ 512) × ((length s.bus.ram_ports ≡ 32) × ((length s.bus.rom_ports ≡ 16)
     × (Unit {0} × (Unit {0} × ((length s.processor.r ≡ 16) × ((s.processor.pc < 2 ^ 16) × (((length s.processor.ret ≡ 3) × AreWords s.processor.ret)
     × (Unit {0} × (Unit {0} × ((length s.bus.ram_src ≡ 8) × (Unit {0}
     × (AreChains s.bus.board.chains.items s.bus.chains × ((length s.bus.keys ≡ key_count s.bus.board) × (Unit {0} × (((length s.breakpoints ≤ 32) × AreWords s.breakpoints)
-    × FitsWatches version_1 s.watches)))))))))))))))))))
+    × FitsWatches version s.watches)))))))))))))))))))
 
 abbrev Fields : Type 0
-Fields = ℕ × (BoardParts × (List ℕ × (List ℕ × (List ℕ × (List ℕ × (List ℕ × (ℕ × (ℕ × (List ℕ × (ℕ × (List ℕ × (ℕ × (ℕ × (List ℕ × (ℕ × (List (List ℕ) × (List ℕ × (ℕ × (List ℕ × List ℕ)))))))))))))))))))
+Fields = ℕ × ((Version × BoardParts) × (List ℕ × (List ℕ × (List ℕ × (List ℕ × (List ℕ × (ℕ × (ℕ × (List ℕ × (ℕ × (List ℕ × (ℕ × (ℕ × (List ℕ × (ℕ × (List (List ℕ) × (List ℕ × (ℕ × (List ℕ × List ℕ)))))))))))))))))))
 
-abbrev fields_of : BenchState → Fields
-fields_of s = (s.seq, (s.bus.board, (s.bus.rom, (s.bus.ram, (s.bus.status, (s.bus.ram_ports, (s.bus.rom_ports, (s.processor.acc, (s.processor.cy, (s.processor.r, (s.processor.pc, (s.processor.ret, (s.processor.dcl, (s.bus.rom_src, (s.bus.ram_src, (s.processor.owed, (s.bus.chains, (s.bus.keys, (s.bus.test, (s.breakpoints, s.watches))))))))))))))))))))
+abbrev fields_of : Version × BenchState → Fields
+fields_of (version, s) = (s.seq, ((version, s.bus.board), (s.bus.rom, (s.bus.ram, (s.bus.status, (s.bus.ram_ports, (s.bus.rom_ports, (s.processor.acc, (s.processor.cy, (s.processor.r, (s.processor.pc, (s.processor.ret, (s.processor.dcl, (s.bus.rom_src, (s.bus.ram_src, (s.processor.owed, (s.bus.chains, (s.bus.keys, (s.bus.test, (s.breakpoints, s.watches))))))))))))))))))))
 
-abbrev state_from : Fields → BenchState
-state_from (seq, (board, (rom, (ram, (status, (ram_ports, (rom_ports, (acc, (cy, (r, (pc, (ret, (dcl, (rom_src, (ram_src, (owed, (chains, (keys, (test, (breakpoints, watches)))))))))))))))))))) = record {
-  processor = record { acc = acc; cy = cy; r = r; pc = pc; ret = ret; dcl = dcl; owed = owed };
-  bus = record { board = board; rom = rom; ram = ram; status = status; ram_ports = ram_ports; rom_ports = rom_ports; rom_src = rom_src; ram_src = ram_src; chains = chains; keys = keys; test = test };
-  breakpoints = breakpoints;
-  watches = watches;
-  seq = seq;
-}
+abbrev state_from : Fields → Version × BenchState
+state_from (seq, ((version, board), (rom, (ram, (status, (ram_ports, (rom_ports, (acc, (cy, (r, (pc, (ret, (dcl, (rom_src, (ram_src, (owed, (chains, (keys, (test, (breakpoints, watches)))))))))))))))))))) = (
+  version,
+  record {
+    processor = record { acc = acc; cy = cy; r = r; pc = pc; ret = ret; dcl = dcl; owed = owed };
+    bus = record { board = board; rom = rom; ram = ram; status = status; ram_ports = ram_ports; rom_ports = rom_ports; rom_src = rom_src; ram_src = ram_src; chains = chains; keys = keys; test = test };
+    breakpoints = breakpoints;
+    watches = watches;
+    seq = seq;
+  },
+)
 
 three : (a b c rest : List ℕ) → (a ++ (b ++ c)) ++ rest ≡ a ++ (b ++ (c ++ rest))
 three a b c rest = simp append_assoc
@@ -97,16 +102,16 @@ fields_in_order b p breakpoints rest =
     )
     )
 
-pub state_codec : (version_1 : Bool) → IsCodec (bytes_by version_1) (HasWidths version_1) (state_at version_1)
+pub state_codec : IsCodec (λ (p : Version × BenchState). bytes_by p.0 p.1) (λ p. HasWidths p.0 p.1) state_at
 unfolding state_at
-state_codec version_1 = giving_codec state_from (bytes_by version_1) (HasWidths version_1)
-    (next _ long_codec (λ _ _. next _ (versioned_board_codec version_1) (λ board _.
+state_codec = giving_codec state_from (λ p. bytes_by p.0 p.1) (λ p. HasWidths p.0 p.1)
+    (next _ long_codec (λ _ _. next _ versioned_board_codec (λ told _.
     next _ (bytes_codec 4096) (λ _ _. next _ (bytes_codec 2048) (λ _ _. next _ (bytes_codec 512) (λ _ _. next _ (bytes_codec 32) (λ _ _. next _ (bytes_codec 16) (λ _ _.
     next _ any_codec (λ _ _. next _ any_codec (λ _ _. next _ (bytes_codec 16) (λ _ _. next _ word_codec (λ _ _. next _ (many_codec 3 word_codec) (λ _ _.
     next _ any_codec (λ _ _. next _ any_codec (λ _ _. next _ (bytes_codec 8) (λ _ _. next _ any_codec (λ _ _.
-    next _ (chains_codec board.chains.items) (λ _ _. next _ (bytes_codec (key_count board)) (λ _ _. next _ any_codec (λ _ _. next _ (counted_codec 32 (omega arith) word_codec) (λ _ _.
-    last _ (watches_codec version_1))))))))))))))))))))))
-    (λ p h. let s = state_from p in (ap (λ l. to_be_bytes w32 s.seq ++ (versioned_board_bytes version_1 s.bus.board ++ l)) (fields_in_order s.bus s.processor s.breakpoints (watches_bytes version_1 s.watches)), h)) (λ s h. (fields_of s, refl, h))
+    next _ (chains_codec told.1.chains.items) (λ _ _. next _ (bytes_codec (key_count told.1)) (λ _ _. next _ any_codec (λ _ _. next _ (counted_codec 32 (omega arith) word_codec) (λ _ _.
+    last _ (watches_codec told.0))))))))))))))))))))))
+    (λ p h. let v = (state_from p).0 in let s = (state_from p).1 in (ap (λ l. to_be_bytes w32 s.seq ++ (versioned_board_bytes v s.bus.board ++ l)) (fields_in_order s.bus s.processor s.breakpoints (watches_bytes v s.watches)), h)) (λ p h. (fields_of p, refl, h))
 
 -- ---- a valid state has these widths
 
@@ -119,8 +124,8 @@ chains_of [] (bits ∷ l) len h = absurd cc
 chains_of (c ∷ chains) [] len h = absurd cc
 chains_of (c ∷ chains) (bits ∷ l) len h = ((h 0 (omega arith)).count_is, chains_of chains l (omega arith) (λ i lt. h (suc i) (omega arith)))
 
-widths_by : (version_1 : Bool) (s : BenchState) → IsValid s → FitsVersion version_1 s.bus.board → FitsWatches version_1 s.watches → HasWidths version_1 s
-widths_by version_1 s h board watches =
+widths_by : (version : Version) (s : BenchState) → IsValid s → FitsVersion version s.bus.board → FitsWatches version s.watches → HasWidths version s
+widths_by version s h board watches =
     let b = h.bus.in_range in
     let p = h.processor in (
       omega (arith, h.seq),
@@ -184,8 +189,8 @@ widths_by version_1 s h board watches =
       ),
     )
 
-pub widths_of : (s : BenchState) → IsValid s → HasWidths false s
-widths_of s h = widths_by false s h h.bus.board (h.watches.few, words_of 2048 s.watches (omega arith) h.watches.places)
+pub widths_of : (s : BenchState) → IsValid s → HasWidths Two s
+widths_of s h = widths_by Two s h h.bus.board (h.watches.few, words_of 2048 s.watches (omega arith) h.watches.places)
 
 pub lift-valid : (s : BenchState1) → IsValid1 s → IsValid (lift s)
 lift-valid s h = record {
@@ -199,10 +204,10 @@ lift-valid s h = record {
 -- ---- what the public calls promise
 
 -- what all of the bytes are read as, where it is valid, is what they spell
-pub state_read : (version_1 : Bool) (bytes : List ℕ) (s : BenchState) → IsBytes bytes → Some s ≡ whole (state_at version_1) bytes → IsValid s → SpellsStateBy version_1 bytes s
-state_read false bytes s all e valid = record { is = (whole_takes (state_codec false) bytes s all (sym e)).0; valid = valid }
-state_read true bytes s all e valid =
-    let t = whole_takes (state_codec true) bytes s all (sym e) in
+pub state_read : (version : Version) (bytes : List ℕ) (s : BenchState) → IsBytes bytes → Some (version, s) ≡ whole state_at bytes → IsValid s → SpellsStateBy version bytes s
+state_read Two bytes s all e valid = record { is = (whole_takes state_codec bytes (Two, s) all (sym e)).0; valid = valid }
+state_read One bytes s all e valid =
+    let t = whole_takes state_codec bytes (One, s) all (sym e) in
     let no_watches : s.watches ≡ [] = t.1.1.1.1.1.1.1.1.1.1.1.1.1.1.1.1.1.1.1.1.1 in
     record {
       version_1 = record { processor = s.processor; bus = s.bus; breakpoints = s.breakpoints; seq = s.seq };
@@ -211,41 +216,36 @@ state_read true bytes s all e valid =
     }
 
 -- what the bytes spell is what they are read as
-pub state_again : (version_1 : Bool) (bytes : List ℕ) (s : BenchState) → SpellsStateBy version_1 bytes s → whole (state_at version_1) bytes ≡ Some s
-state_again false bytes s h = ap (whole (state_at false)) h.is ∙ whole_again (state_codec false) s (widths_of s h.valid)
-state_again true bytes s h =
+pub state_again : (version : Version) (bytes : List ℕ) (s : BenchState) → SpellsStateBy version bytes s → whole state_at bytes ≡ Some (version, s)
+state_again Two bytes s h = ap (whole state_at) h.is ∙ whole_again state_codec (Two, s) (widths_of s h.valid)
+state_again One bytes s h =
     let t = lift h.version_1 in
     let v = h.spells.valid in
-    let widths = widths_by true t (lift-valid h.version_1 v) (valid-now t.bus.board v.bus.board, small-then t.bus.board v.bus.board) refl in
-    ap (whole (state_at true)) h.spells.is ∙ whole_again (state_codec true) t widths ∙ ap (λ (u : BenchState). Some u) (sym h.lifted)
+    let widths = widths_by One t (lift-valid h.version_1 v) (valid-now t.bus.board v.bus.board, small-then t.bus.board v.bus.board) refl in
+    ap (whole state_at) h.spells.is ∙ whole_again state_codec (One, t) widths ∙ ap (λ (u : BenchState). Some (One, u)) (sym h.lifted)
 
-pub spelled_valid : (version_1 : Bool) (bytes : List ℕ) (s : BenchState) → SpellsStateBy version_1 bytes s → IsValid s
-spelled_valid false bytes s h = h.valid
-spelled_valid true bytes s h = subst IsValid (sym h.lifted) (lift-valid h.version_1 h.spells.valid)
+pub spelled_valid : (version : Version) (bytes : List ℕ) (s : BenchState) → SpellsStateBy version bytes s → IsValid s
+spelled_valid Two bytes s h = h.valid
+spelled_valid One bytes s h = subst IsValid (sym h.lifted) (lift-valid h.version_1 h.spells.valid)
 
 -- the version that the fifth byte tells is that of the state which the bytes spell
-pub state_told : (version_1 : Bool) (bytes : List ℕ) (s : BenchState) → SpellsStateBy version_1 bytes s → version_of bytes ≡ Some (cond version_1 1 2)
-state_told false bytes s h = ap version_of h.is
-state_told true bytes s h = ap version_of h.spells.is ∙ board-begins h.version_1.bus.board _ (valid-now h.version_1.bus.board h.spells.valid.bus.board)
+pub state_told : (version : Version) (bytes : List ℕ) (s : BenchState) → SpellsStateBy version bytes s → version_of bytes ≡ Some version
+state_told Two bytes s h = ap version_of h.is
+state_told One bytes s h = ap version_of h.spells.is ∙ (board-begins h.version_1.bus.board _ (valid-now h.version_1.bus.board h.spells.valid.bus.board)).0
 
-pub first_told : (version_1 : Bool) (bytes : List ℕ) (s : BenchState) → SpellsStateBy version_1 bytes s → is_version_1 bytes ≡ version_1
-first_told false bytes s h = rw (state_told false bytes s h) refl
-first_told true bytes s h = rw (state_told true bytes s h) refl
+pub state_none : (bytes : List ℕ) → None ≡ whole state_at bytes → (version : Version) (s : BenchState) → SpellsStateBy version bytes s → ⊥
+state_none bytes e version s h =
+    let told : Version × BenchState = (version, s) in
+    let back : Some told ≡ None = sym (state_again version bytes s h) ∙ sym e in cc
 
--- so it is what they are read as in the version that they tell
-told_again : (version_1 : Bool) (bytes : List ℕ) (s : BenchState) → SpellsStateBy version_1 bytes s → whole (state_at (is_version_1 bytes)) bytes ≡ Some s
-told_again version_1 bytes s h = ap (λ v. whole (state_at v) bytes) (first_told version_1 bytes s h) ∙ state_again version_1 bytes s h
+pub state_invalid : (bytes : List ℕ) (told : Version) (t : BenchState) → Some (told, t) ≡ whole state_at bytes → (IsValid t → ⊥) → (version : Version) (s : BenchState) → SpellsStateBy version bytes s → ⊥
+state_invalid bytes told t e wrong version s h =
+    let one : Some (told, t) ≡ Some (version, s) = e ∙ state_again version bytes s h in
+    let same : (version, s) ≡ (told, t) = cc in
+    wrong (subst IsValid (ap (λ (p : Version × BenchState). p.1) same) (spelled_valid version bytes s h))
 
-pub state_none : (bytes : List ℕ) → None ≡ whole (state_at (is_version_1 bytes)) bytes → (version_1 : Bool) (s : BenchState) → SpellsStateBy version_1 bytes s → ⊥
-state_none bytes e version_1 s h = let back : Some s ≡ None = sym (told_again version_1 bytes s h) ∙ sym e in cc
-
-pub state_invalid : (bytes : List ℕ) (t : BenchState) → Some t ≡ whole (state_at (is_version_1 bytes)) bytes → (IsValid t → ⊥) → (version_1 : Bool) (s : BenchState) → SpellsStateBy version_1 bytes s → ⊥
-state_invalid bytes t e wrong version_1 s h =
-    let one : Some t ≡ Some s = e ∙ told_again version_1 bytes s h in
-    let same : s ≡ t = cc in
-    wrong (subst IsValid same (spelled_valid version_1 bytes s h))
-
-pub same_state : (bytes : List ℕ) (v w : Bool) (s t : BenchState) → SpellsStateBy v bytes s → SpellsStateBy w bytes t → (v ≡ w) × (s ≡ t)
+pub same_state : (bytes : List ℕ) (v w : Version) (s t : BenchState) → SpellsStateBy v bytes s → SpellsStateBy w bytes t → (v ≡ w) × (s ≡ t)
 same_state bytes v w s t h k =
-    let one : Some s ≡ Some t = sym (told_again v bytes s h) ∙ told_again w bytes t k in
-    (sym (first_told v bytes s h) ∙ first_told w bytes t k, cc)
+    let one : Some (v, s) ≡ Some (w, t) = sym (state_again v bytes s h) ∙ state_again w bytes t k in
+    let same : (v, s) ≡ (w, t) = cc in
+    (ap (λ (p : Version × BenchState). p.0) same, ap (λ (p : Version × BenchState). p.1) same)

@@ -1,65 +1,109 @@
 -- What the versions of a state have each in its own way: the board, the watches, and the fifth byte.
-use Rattle.std.proofs.Common.{◌≡◌, ℕ, ◌≤◌, Bool, true, false, eqb, List, [], ◌∷◌, ◌++◌, ◌^◌, ◌<◌, length, Option, Some, None, refl, sym, ap, subst, append_assoc, arith}
+use Rattle.std.proofs.Common.{◌≡◌, ℕ, ◌≤◌, Bool, true, false, cond, eqb, List, [], ◌∷◌, ◌++◌, ◌^◌, ◌<◌, length, Option, Some, None, refl, sym, ap, subst, ◌∙◌, append_assoc, arith}
 use Rattle.std.specs.List.{flat_map, AllByRecursion}
 use Rattle.std.proofs.lemmas.Bool.{eqb-true}
 use Rattle.mcs_nibble.specs.declared.lines.LineMask.{LineMask}
-use Rattle.mcs_nibble.specs.declared.lines.LineMask.TheVariants.{Input, Zero, One}
+use Rattle.mcs_nibble.specs.declared.lines.LineMask.TheVariants as mask
 use Rattle.mcs_nibble.specs.Ports.{mask_at, mask_character}
 use Rattle.mcs_model.specs.declared.board.BoardParts.{BoardParts}
 use Rattle.mcs_model.specs.Validity.{IsValidBoard}
 use Rattle.mcs_version1.specs.Boards.{is_small}
 use Rattle.mcs_codec.specs.BoardBytes.{rom_bytes, board_bytes, counted_bytes}
 use Rattle.mcs_codec.specs.CommandBytes.{address_bytes}
-use Rattle.mcs_codec.specs.StateReading.{versioned_board_at, watches_at}
+use Rattle.mcs_codec.specs.Reading.{and_then, giving}
+use Rattle.mcs_codec.specs.StateReading.{version_at, board_by, versioned_board_at, watches_at}
 use Rattle.mcs_codec.specs.Codec.{version_told}
-use Rattle.mcs_codec.proofs.Codecs.{IsCodec, any_codec, counted_codec, giving_codec, next, only_codec, tail, word_codec}
+use Rattle.mcs_codec.specs.declared.versions.Version.{Version}
+use Rattle.mcs_codec.specs.declared.versions.Version.TheVariants.{One, Two}
+use Rattle.mcs_codec.proofs.Codecs.{IsBytes, IsBytes-after, IsCodec, counted_codec, only_codec, then_some, word_codec}
 use Rattle.mcs_codec.proofs.BoardCodec.{board_codec}
 
 -- ---- the first byte of a board is a port character
 
-line-begins : (mask : LineMask) → version_told (mask_character mask ∷ []) ≡ Some 1
-line-begins Input = refl
-line-begins Zero = refl
-line-begins One = refl
+-- the bytes tell version 1, and are left as they are
+abbrev BeginsBoard : List ℕ → Type 0
+BeginsBoard bytes = (version_told bytes ≡ Some One) × (version_at bytes ≡ Some (One, bytes))
 
-roms-begin : (roms : List (Option (List LineMask))) (rest : List ℕ) → length roms ≡ 16 → version_told (flat_map rom_bytes roms ++ rest) ≡ Some 1
+line-begins : (line : LineMask) (rest : List ℕ) → BeginsBoard (mask_character line ∷ rest)
+unfolding version_at
+line-begins mask.Input rest = (refl, refl)
+line-begins mask.Zero rest = (refl, refl)
+line-begins mask.One rest = (refl, refl)
+
+roms-begin : (roms : List (Option (List LineMask))) (rest : List ℕ) → length roms ≡ 16 → BeginsBoard (flat_map rom_bytes roms ++ rest)
+unfolding version_at
 roms-begin [] rest l = absurd (omega arith)
-roms-begin (None ∷ roms) rest l = refl
-roms-begin (Some mask ∷ roms) rest l = line-begins (mask_at mask 3)
+roms-begin (None ∷ roms) rest l = (refl, refl)
+roms-begin (Some lines ∷ roms) rest l = line-begins (mask_at lines 3) _
 
-pub board-begins : (b : BoardParts) (rest : List ℕ) → IsValidBoard b → version_told (board_bytes b ++ rest) ≡ Some 1
+pub board-begins : (b : BoardParts) (rest : List ℕ) → IsValidBoard b → BeginsBoard (board_bytes b ++ rest)
 board-begins b rest h = rw append_assoc (roms-begin b.roms _ h.sized.roms)
+
+-- ---- the version
+
+-- the bytes before the board that tell the version
+abbrev pub version_bytes : Version → List ℕ
+version_bytes One = []
+version_bytes Two = 2 ∷ []
+
+version-judged : (b : ℕ) (bytes : List ℕ) (character two : Bool) (x : Version × List ℕ) → (two ≡ true → b ≡ 2)
+    → cond character (Some (One, b ∷ bytes)) (cond two (Some (Two, bytes)) None) ≡ Some x → b ∷ bytes ≡ version_bytes x.0 ++ x.1
+version-judged b bytes true two x is e = let same : (One, b ∷ bytes) ≡ x = cc in subst (λ (y : Version × List ℕ). b ∷ bytes ≡ version_bytes y.0 ++ y.1) same refl
+version-judged b bytes false true x is e = let same : (Two, bytes) ≡ x = cc in subst (λ (y : Version × List ℕ). b ∷ bytes ≡ version_bytes y.0 ++ y.1) same (ap (λ n. n ∷ bytes) (is refl))
+version-judged b bytes false false x is e = absurd cc
+
+version-read : (bytes : List ℕ) (x : Version × List ℕ) → version_at bytes ≡ Some x → bytes ≡ version_bytes x.0 ++ x.1
+unfolding version_at
+version-read [] x e = absurd cc
+version-read (b ∷ bytes) x e = version-judged b bytes _ (eqb b 2) x (eqb-true _ _) e
 
 -- ---- the board
 
-abbrev pub versioned_board_bytes : Bool → BoardParts → List ℕ
-versioned_board_bytes true b = board_bytes b
-versioned_board_bytes false b = 2 ∷ board_bytes b
+abbrev pub versioned_board_bytes : Version → BoardParts → List ℕ
+versioned_board_bytes version b = version_bytes version ++ board_bytes b
 
-abbrev pub FitsVersion : Bool → BoardParts → Type 0
-FitsVersion true b = IsValidBoard b × (is_small b ≡ true)
-FitsVersion false b = IsValidBoard b
+abbrev pub FitsVersion : Version → BoardParts → Type 0
+FitsVersion One b = IsValidBoard b × (is_small b ≡ true)
+FitsVersion Two b = IsValidBoard b
 
-pub versioned_board_codec : (version_1 : Bool) → IsCodec (versioned_board_bytes version_1) (FitsVersion version_1) (versioned_board_at version_1)
+board_by_codec : (version : Version) → IsCodec board_bytes (FitsVersion version) (board_by version)
+unfolding board_by
+board_by_codec One = only_codec is_small board_codec
+board_by_codec Two = board_codec
+
+version-again : (version : Version) (b : BoardParts) (rest : List ℕ) → FitsVersion version b → version_at (versioned_board_bytes version b ++ rest) ≡ Some (version, board_bytes b ++ rest)
+unfolding version_at
+version-again One b rest h = (board-begins b rest h.0).1
+version-again Two b rest h = refl
+
+pub versioned_board_codec : IsCodec (λ (p : Version × BoardParts). versioned_board_bytes p.0 p.1) (λ p. FitsVersion p.0 p.1) versioned_board_at
 unfolding versioned_board_at
-versioned_board_codec true = only_codec is_small board_codec
-versioned_board_codec false = giving_codec (λ p. p.1) (λ b. 2 ∷ board_bytes b) IsValidBoard (next _ (only_codec (λ n. eqb n 2) any_codec) (λ _ _. tail board_codec))
-    (λ p h. (ap (λ n. n ∷ board_bytes p.1) (sym (eqb-true _ _ h.0.1)), h.1)) (λ b h. ((2, b), refl, ((tt, refl), h)))
+versioned_board_codec = record {
+  takes = λ bytes x all e.
+      let v = then_some (version_at bytes) (λ version rest. and_then (board_by version rest) (λ board. giving (version, board))) x e in
+      let mark = version-read bytes v.0 v.1 in
+      let b = then_some (board_by v.0.0 v.0.1) (λ board. giving (v.0.0, board)) x v.2 in
+      let t = (board_by_codec v.0.0).takes v.0.1 b.0 (IsBytes-after (version_bytes v.0.0) v.0.1 (subst IsBytes mark all)) b.1 in
+      let same : ((v.0.0, b.0.0), b.0.1) ≡ x = let end = b.2 in cc in
+      let parts : bytes ≡ versioned_board_bytes v.0.0 b.0.0 ++ b.0.1 = mark ∙ ap (λ (l : List ℕ). version_bytes v.0.0 ++ l) t.0 ∙ sym (append_assoc (version_bytes v.0.0) (board_bytes b.0.0) b.0.1) in
+      subst (λ (y : (Version × BoardParts) × List ℕ). (bytes ≡ versioned_board_bytes y.0.0 y.0.1 ++ y.1) × FitsVersion y.0.0 y.0.1) same (parts, t.1);
+  again = λ p rest h. rw (version-again p.0 p.1 rest h, (board_by_codec p.0).again p.1 rest h) refl;
+}
 
 -- ---- the watches
 
-abbrev pub watches_bytes : Bool → List ℕ → List ℕ
-watches_bytes true watches = []
-watches_bytes false watches = counted_bytes address_bytes watches
+abbrev pub watches_bytes : Version → List ℕ → List ℕ
+watches_bytes One watches = []
+watches_bytes Two watches = counted_bytes address_bytes watches
 
-abbrev pub FitsWatches : Bool → List ℕ → Type 0
-FitsWatches true watches = watches ≡ []
-FitsWatches false watches = (length watches ≤ 8) × AllByRecursion (λ n. n < 2 ^ 16) watches
+abbrev pub FitsWatches : Version → List ℕ → Type 0
+FitsWatches One watches = watches ≡ []
+FitsWatches Two watches = (length watches ≤ 8) × AllByRecursion (λ n. n < 2 ^ 16) watches
 
 no-watches : (bytes : List ℕ) (x : List ℕ × List ℕ) → Some ([], bytes) ≡ Some x → (bytes ≡ [] ++ x.1) × (x.0 ≡ [])
 no-watches bytes x e = let same : ([], bytes) ≡ x = cc in subst (λ (y : List ℕ × List ℕ). (bytes ≡ [] ++ y.1) × (y.0 ≡ [])) same (refl, refl)
 
-pub watches_codec : (version_1 : Bool) → IsCodec (watches_bytes version_1) (FitsWatches version_1) (watches_at version_1)
+pub watches_codec : (version : Version) → IsCodec (watches_bytes version) (FitsWatches version) (watches_at version)
 unfolding watches_at
-watches_codec true = record { takes = λ bytes x all e. no-watches bytes x e; again = λ a rest h. ap (λ (l : List ℕ). Some (l, rest)) (sym h) }
-watches_codec false = counted_codec 8 (omega arith) word_codec
+watches_codec One = record { takes = λ bytes x all e. no-watches bytes x e; again = λ a rest h. ap (λ (l : List ℕ). Some (l, rest)) (sym h) }
+watches_codec Two = counted_codec 8 (omega arith) word_codec

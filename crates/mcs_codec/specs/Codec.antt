@@ -1,6 +1,6 @@
 -- Which bytes spell a command, and which spell a state, in version 2 and in version 1. (Our own
--- choice.) Where a definition takes a Boolean, that is true of version 1.
-use Rattle.std.specs.Prelude.{◌≡◌, ℕ, Bool, true, false, ◌==◌, ◌||◌, List, [], ◌∷◌, take, drop, Option, Some, None, unwrap_or, if◌then◌else◌}
+-- choice.)
+use Rattle.std.specs.Prelude.{◌≡◌, ℕ, Bool, true, ◌==◌, ◌||◌, List, [], ◌∷◌, take, drop, Option, Some, None, if◌then◌else◌}
 use Rattle.mcs_model.specs.BenchState.{BenchState}
 use Rattle.mcs_model.specs.Validity.{IsValid}
 use Rattle.mcs_model.specs.declared.command.Command.{Command}
@@ -10,17 +10,22 @@ use Rattle.mcs_version1.specs.Lift.{lift}
 use Rattle.mcs_version1.specs.Validity.{IsValid1}
 use Rattle.mcs_codec.specs.CommandBytes.{command_bytes, IsCommand}
 use Rattle.mcs_codec.specs.StateBytes.{state_bytes, state_bytes_1}
+use Rattle.mcs_codec.specs.declared.versions.Version.{Version}
+use Rattle.mcs_codec.specs.declared.versions.Version.TheVariants.{One, Two}
 
 -- these bytes spell this command
 pub record Spells (bytes : List ℕ) (c : Command) : Type 0 where
   pub is : bytes ≡ command_bytes c
   pub in_range : IsCommand c
 
--- these bytes spell this command in a session of version 1, or of version 2: version 1 has fewer
--- commands
-abbrev pub SpellsBy : Bool → List ℕ → Command → Type 0
-SpellsBy false bytes c = Spells bytes c
-SpellsBy true bytes c = Spells bytes c × (in_version_1 c ≡ true)
+-- whether a version has a command
+abbrev pub has_command : Version → Command → Bool
+has_command One c = in_version_1 c
+has_command Two c = true
+
+-- these bytes spell this command in a session of this version
+abbrev pub SpellsBy : Version → List ℕ → Command → Type 0
+SpellsBy version bytes c = Spells bytes c × (has_command version c ≡ true)
 
 -- these bytes begin as those of a load do
 abbrev pub BeginsAsLoad : List ℕ → Type 0
@@ -42,23 +47,19 @@ pub record SpellsLifted (bytes : List ℕ) (s : BenchState) : Type 0 where
   pub spells : SpellsState1 bytes version_1
   pub lifted : s ≡ lift version_1
 
--- these bytes spell this state in version 1, carried over, or in version 2
-abbrev pub SpellsStateBy : Bool → List ℕ → BenchState → Type 0
-SpellsStateBy false bytes s = SpellsState bytes s
-SpellsStateBy true bytes s = SpellsLifted bytes s
+-- these bytes spell this state in this version: in version 1 as carried over
+abbrev pub SpellsStateBy : Version → List ℕ → BenchState → Type 0
+SpellsStateBy One bytes s = SpellsLifted bytes s
+SpellsStateBy Two bytes s = SpellsState bytes s
 
 -- the version that the byte after the count of commands tells: a port character (`i`, `0`, `1` or
 -- `-`) stands there in version 1, and 02 in version 2
-abbrev pub version_told : List ℕ → Option ℕ
+abbrev pub version_told : List ℕ → Option Version
 version_told [] = None
 version_told (b ∷ bytes) =
-    if b == 105 || b == 48 || b == 49 || b == 45 then Some 1
-    else if b == 2 then Some 2
+    if b == 105 || b == 48 || b == 49 || b == 45 then Some One
+    else if b == 2 then Some Two
     else None
 
-abbrev pub version_of : List ℕ → Option ℕ
+abbrev pub version_of : List ℕ → Option Version
 version_of bytes = version_told (drop 4 bytes)
-
--- whether that is version 1
-abbrev pub is_version_1 : List ℕ → Bool
-is_version_1 bytes = unwrap_or (version_of bytes) 2 == 1

@@ -1,7 +1,7 @@
--- Nothing to believe: this reading is proved to invert the bytes of `StateBytes`, in version 1
--- where `version_1` is true, and else in version 2. It reads the fields of a state in their order;
--- whether they make a valid state is asked of all of them afterwards.
-use Rattle.std.specs.Prelude.{◌≡◌, ℕ, ◌*◌, ◌==◌, Bool, true, false, List, [], ◌∷◌, length}
+-- Nothing to believe: this reading is proved to invert the bytes of `StateBytes` in both versions.
+-- It reads the version and the fields of a state in their order; whether they make a valid state is
+-- asked of all of them afterwards.
+use Rattle.std.specs.Prelude.{◌≡◌, ℕ, ◌*◌, ◌==◌, ◌||◌, List, [], ◌∷◌, Some, None, length, if◌then◌else◌}
 use Rattle.std.specs.Int.{w16, w32}
 use Rattle.mcs_model.specs.declared.board.BoardParts.{BoardParts}
 use Rattle.mcs_model.specs.declared.board.ChainPart.{ChainPart}
@@ -12,13 +12,27 @@ use Rattle.mcs_model.specs.BenchState.{BenchState}
 use Rattle.mcs_version1.specs.Boards.{is_small}
 use Rattle.mcs_codec.specs.Reading.{◌>>=◌, Reading, giving, only, byte_at, wide_number_at, bytes_at, many, counted_at}
 use Rattle.mcs_codec.specs.BoardReading.{board_at}
+use Rattle.mcs_codec.specs.declared.versions.Version.{Version}
+use Rattle.mcs_codec.specs.declared.versions.Version.TheVariants.{One, Two}
 
--- the board: in version 1 a small one, in version 2 after the byte 02
-unfoldable pub versioned_board_at : Bool → Reading BoardParts
-versioned_board_at true = only is_small board_at
-versioned_board_at false = do
-  mark ← only (λ n. n == 2) byte_at
-  board_at
+-- the version, by the byte that comes next: a port character is the first of the board, and stays
+unfoldable pub version_at : Reading Version
+version_at [] = None
+version_at (b ∷ bytes) =
+    if b == 105 || b == 48 || b == 49 || b == 45 then Some (One, b ∷ bytes)
+    else if b == 2 then Some (Two, bytes)
+    else None
+
+-- the board: in version 1 a small one
+unfoldable pub board_by : Version → Reading BoardParts
+board_by One = only is_small board_at
+board_by Two = board_at
+
+unfoldable pub versioned_board_at : Reading (Version × BoardParts)
+versioned_board_at = do
+  version ← version_at
+  board ← board_by version
+  giving (version, board)
 
 -- the bits of each chain
 unfoldable pub chains_at : List ChainPart → Reading (List (List ℕ))
@@ -29,14 +43,14 @@ chains_at (c ∷ chains) = do
   giving (bits ∷ others)
 
 -- the watches; version 1 has none
-unfoldable pub watches_at : Bool → Reading (List ℕ)
-watches_at true = giving []
-watches_at false = counted_at WATCHES (wide_number_at w16)
+unfoldable pub watches_at : Version → Reading (List ℕ)
+watches_at One = giving []
+watches_at Two = counted_at WATCHES (wide_number_at w16)
 
-unfoldable pub state_at : Bool → Reading BenchState
-state_at version_1 = do
+unfoldable pub state_at : Reading (Version × BenchState)
+state_at = do
   seq ← wide_number_at w32
-  board ← versioned_board_at version_1
+  told ← versioned_board_at
   rom ← bytes_at 4096
   ram ← bytes_at 2048
   status ← bytes_at 512
@@ -51,30 +65,33 @@ state_at version_1 = do
   rom_src ← byte_at
   ram_src ← bytes_at BANKS
   owed ← byte_at
-  chains ← chains_at board.chains.items
-  keys ← bytes_at (key_count board)
+  chains ← chains_at told.1.chains.items
+  keys ← bytes_at (key_count told.1)
   test ← byte_at
   breakpoints ← counted_at BREAKPOINTS (wide_number_at w16)
-  watches ← watches_at version_1
-  giving (record {
-    processor = record { acc = acc; cy = cy; r = r; pc = pc; ret = ret; dcl = dcl; owed = owed };
-    bus = record {
-      board = board;
-      rom = rom;
-      ram = ram;
-      status = status;
-      ram_ports = ram_ports;
-      rom_ports = rom_ports;
-      rom_src = rom_src;
-      ram_src = ram_src;
-      chains = chains;
-      keys = keys;
-      test = test;
-    };
-    breakpoints = breakpoints;
-    watches = watches;
-    seq = seq;
-  })
+  watches ← watches_at told.0
+  giving (
+    told.0,
+    record {
+      processor = record { acc = acc; cy = cy; r = r; pc = pc; ret = ret; dcl = dcl; owed = owed };
+      bus = record {
+        board = told.1;
+        rom = rom;
+        ram = ram;
+        status = status;
+        ram_ports = ram_ports;
+        rom_ports = rom_ports;
+        rom_src = rom_src;
+        ram_src = ram_src;
+        chains = chains;
+        keys = keys;
+        test = test;
+      };
+      breakpoints = breakpoints;
+      watches = watches;
+      seq = seq;
+    },
+  )
 
 -- the lists that have one length in every state have it, as those of a new bench do
 pub record HasCells (b : BusState) : Type 0 where

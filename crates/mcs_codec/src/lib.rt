@@ -23,4 +23,4 @@ pub use commands::{COMMAND_BYTES, command_bytes, command_of, one_command};
 pub use mcs_version1::laws::{boards_are_small, commands_lift, queries_lift};
 pub use restoring::bench_of;
 pub use saving::{STATE_BYTES, state_bytes};
-pub use versions::{in_version_1, is_version_1, one_state, version_of};
+pub use versions::{Version, one_state};

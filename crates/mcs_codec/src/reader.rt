@@ -2,7 +2,9 @@
 ghost use Rattle.std.specs.Prelude.{◌≡◌, ◌==◌, length, option_map, IfSome};
 ghost use Rattle.std.specs.Int.{w16, w32};
 ghost use Rattle.mcs_codec.specs.Reading.{byte_at, wide_number_at, bytes_at};
+ghost use Rattle.mcs_codec.specs.StateReading.{version_at};
 
+use crate::versions::Version;
 use std::marker::Model;
 
 /// What is left of the bytes. After a `None` nothing is said of it.
@@ -41,6 +43,22 @@ impl<'a> Reader<'a> {
         let (first, rest) = self.rest.split_first()?;
         self.rest = rest;
         Some(*first)
+    }
+
+    /// The version that the next byte tells. A port character, as version 1 has it there, is left.
+    #[tactic(auto, unfolding(crate::specs::StateReading::version_at))]
+    pub fn version(&mut self) -> Option<Version>
+        ensures { option_map (λ x. (x, self.new)) result ≡ version_at self.old }
+    {
+        let (first, rest) = self.rest.split_first()?;
+        match *first {
+            b'i' | b'0' | b'1' | b'-' => Some(Version::One),
+            2 => {
+                self.rest = rest;
+                Some(Version::Two)
+            }
+            _ => None,
+        }
     }
 
     /// A number of two bytes, the high one first.

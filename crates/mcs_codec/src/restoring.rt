@@ -1,16 +1,15 @@
 //! A bench from the bytes of its state.
-ghost use Rattle.std.specs.Prelude.{◌≡◌, ℕ, ◌≤◌, List, Bool, All, length, option_map, IfOk, IfSome, IfNone};
+ghost use Rattle.std.specs.Prelude.{◌≡◌, ℕ, ◌≤◌, List, All, length, option_map, IfOk, IfSome, IfNone};
 ghost use Rattle.mcs_model.specs.BenchState.{BenchState};
 ghost use Rattle.mcs_bench.specs.States.{bits_of_chains, state_of};
 ghost use Rattle.mcs_codec.specs.Reading.{bytes_at, whole};
-ghost use Rattle.mcs_codec.specs.StateReading.{versioned_board_at, chains_at, watches_at, state_at, HasCells};
-ghost use Rattle.mcs_codec.specs.Codec.{SpellsStateBy, is_version_1};
+ghost use Rattle.mcs_codec.specs.StateReading.{board_by, versioned_board_at, chains_at, watches_at, state_at, HasCells};
+ghost use Rattle.mcs_codec.specs.Codec.{SpellsStateBy};
 
 use crate::boards::read_board;
 use crate::encoding::{Decode, read_counted, read_into};
 use crate::reader::Reader;
-use crate::saving::VERSION;
-use crate::versions::{is_small, is_version_1};
+use crate::versions::{Version, is_small};
 use arrayvec::ArrayVec;
 use mcs_bench::{Bench, Cells, Flat};
 use mcs_model::board::{Board, ChainPart};
@@ -31,19 +30,26 @@ impl Decode for u16 {
     }
 }
 
-/// Reads the board: in version 1 a small one, in version 2 after the byte 02.
-#[tactic(auto, unfolding(crate::specs::StateReading::versioned_board_at))]
-fn read_versioned_board(reader: &mut Reader<'_>, version_1: bool) -> Option<Board>
-    ensures { option_map (λ x. (x, reader.new)) result ≡ versioned_board_at version_1 reader.old }
+/// Reads a board of a version: of version 1 a small one.
+#[tactic(auto, unfolding(crate::specs::StateReading::board_by))]
+fn read_board_by(version: Version, reader: &mut Reader<'_>) -> Option<Board>
+    ensures { option_map (λ x. (x, reader.new)) result ≡ board_by version reader.old }
 {
-    if version_1 {
-        let board = read_board(reader)?;
-        return if is_small(&board) { Some(board) } else { None };
+    let board = read_board(reader)?;
+    match version {
+        Version::One => if is_small(&board) { Some(board) } else { None },
+        Version::Two => Some(board),
     }
-    if reader.byte()? != VERSION {
-        return None;
-    }
-    read_board(reader)
+}
+
+/// Reads the version and the board: the one place that judges the version.
+#[tactic(auto, unfolding(crate::specs::StateReading::versioned_board_at))]
+fn read_versioned_board(reader: &mut Reader<'_>) -> Option<(Version, Board)>
+    ensures { option_map (λ x. (x, reader.new)) result ≡ versioned_board_at reader.old }
+{
+    let version = reader.version()?;
+    let board = read_board_by(version, reader)?;
+    Some((version, board))
 }
 
 /// Reads a byte into each cell.
@@ -87,24 +93,24 @@ fn read_chains(reader: &mut Reader<'_>, chains: &[ChainPart]) -> Option<ArrayVec
 
 /// Reads the watches; version 1 has none.
 #[tactic(auto, unfolding(crate::specs::StateReading::watches_at))]
-fn read_watches(reader: &mut Reader<'_>, version_1: bool) -> Option<ArrayVec<u16, WATCHES>>
-    ensures { option_map (λ x. (x.items, reader.new)) result ≡ watches_at version_1 reader.old }
+fn read_watches(version: Version, reader: &mut Reader<'_>) -> Option<ArrayVec<u16, WATCHES>>
+    ensures { option_map (λ x. (x.items, reader.new)) result ≡ watches_at version reader.old }
 {
-    if version_1 {
-        return Some(ArrayVec::new());
+    match version {
+        Version::One => Some(ArrayVec::new()),
+        Version::Two => read_counted(reader),
     }
-    read_counted(reader)
 }
 
-/// Reads the fields of a state into these.
+/// Reads the fields of a state into these, and answers its version.
 #[tactic(auto, unfolding(crate::specs::StateReading::state_at))]
-fn read_state(reader: &mut Reader<'_>, version_1: bool, flat: &mut Flat) -> Option<()>
+fn read_state(reader: &mut Reader<'_>, flat: &mut Flat) -> Option<Version>
     requires { HasCells (state_of flat.old).bus }
-    ensures { option_map (λ _. (state_of flat.new, reader.new)) result
-        ≡ state_at version_1 reader.old }
+    ensures { option_map (λ version. ((version, state_of flat.new), reader.new)) result
+        ≡ state_at reader.old }
 {
     flat.seq = reader.long_number()?;
-    flat.board = read_versioned_board(reader, version_1)?;
+    let (version, board) = read_versioned_board(reader)?;
     read_cells(reader, &mut flat.rom)?;
     read_cells(reader, &mut flat.ram)?;
     read_cells(reader, &mut flat.status)?;
@@ -119,44 +125,49 @@ fn read_state(reader: &mut Reader<'_>, version_1: bool, flat: &mut Flat) -> Opti
     flat.rom_src = reader.byte()?;
     reader.fill(&mut flat.ram_src)?;
     flat.owed = reader.byte()?;
-    flat.chains = read_chains(reader, flat.board.parts().chains.as_slice())?;
-    flat.keys = read_bytes(reader, flat.board.key_count())?;
+    flat.chains = read_chains(reader, board.parts().chains.as_slice())?;
+    flat.keys = read_bytes(reader, board.key_count())?;
+    flat.board = board;
     flat.test = reader.byte()?;
     flat.breakpoints = read_counted(reader)?;
-    flat.watches = read_watches(reader, version_1)?;
-    Some(())
+    flat.watches = read_watches(version, reader)?;
+    Some(version)
 }
 
-/// Reads all of these bytes as the fields of a state, in the version that they tell.
-fn read_whole(bytes: &[u8], flat: &mut Flat) -> Option<()>
+/// Reads all of these bytes as the fields of a state, and answers its version.
+fn read_whole(bytes: &[u8], flat: &mut Flat) -> Option<Version>
     requires { HasCells (state_of flat.old).bus }
-    ensures { option_map (λ _. state_of flat.new) result
-        ≡ whole (state_at (is_version_1 bytes.now)) bytes.now }
+    ensures { option_map (λ version. (version, state_of flat.new)) result
+        ≡ whole state_at bytes.now }
 {
     let mut reader = Reader::new(bytes);
-    read_state(&mut reader, is_version_1(bytes), flat)?;
-    if reader.is_empty() { Some(()) } else { None }
+    let version = read_state(&mut reader, flat)?;
+    if reader.is_empty() {
+        Some(version)
+    } else {
+        None
+    }
 }
 
-/// The bench whose state these bytes spell, in the version that they tell, or none where they spell
-/// no state. A state of version 1 is carried over: nothing is watched.
+/// The bench whose state these bytes spell, and in which version, or none where they spell no state.
+/// A state of version 1 is carried over: nothing is watched.
 ///
 /// # Errors
 ///
 /// Where memory is refused.
-pub fn bench_of(alloc: Global, bytes: &[u8]) -> Result<Option<Bench>, AllocError>
+pub fn bench_of(alloc: Global, bytes: &[u8]) -> Result<Option<(Version, Bench)>, AllocError>
     ensures some { IfOk result (λ found.
-        IfSome found (λ s. SpellsStateBy (is_version_1 bytes.now) bytes.now s)) }
+        IfSome found (λ x. SpellsStateBy x.0 bytes.now x.1)) }
     ensures none { IfOk result (λ found.
-        IfNone found ((version_1 : Bool) (s : BenchState) → SpellsStateBy version_1 bytes.now s → ⊥)) }
+        IfNone found ((version : Version) (s : BenchState) → SpellsStateBy version bytes.now s → ⊥)) }
 {
     let mut flat = Flat::new(alloc)?;
-    let Some(()) = read_whole(bytes, &mut flat) else {
+    let Some(version) = read_whole(bytes, &mut flat) else {
         return Ok(None);
     };
     if !flat.check() {
         return Ok(None);
     }
     let bench = Bench::restore(alloc, &flat)?;
-    Ok(Some(bench))
+    Ok(Some((version, bench)))
 }

@@ -1,5 +1,5 @@
 -- What a session's disk stands for when it is made and opened.
-use Rattle.std.proofs.Common.{◌≡◌, inl, inr, ⊎_elim, Bool, true, false, None, ap, List, [], ◌∷◌, ℕ, sym, ◌∙◌, subst, refl, arith}
+use Rattle.std.proofs.Common.{◌≡◌, inl, inr, ⊎_elim, None, ap, List, [], ◌∷◌, ℕ, sym, ◌∙◌, subst, refl, arith}
 use Rattle.mcs_disk.proofs.CallLaws.{lawful, size_of-bytes}
 use Rattle.mcs_disk.specs.Disk.{DiskState, bytes_of, time_of, images_of}
 use Rattle.mcs_disk.specs.Moments.{AddsNoImage, Either, LeavesOnly}
@@ -11,6 +11,8 @@ use Rattle.mcs_journal.specs.declared.fault.OpenFault.TheVariants.{NotASession, 
 use Rattle.mcs_journal.proofs.Unique.{same_snap, same_records}
 use Rattle.mcs_model.specs.BenchState.{BenchState, new_bench_state}
 use Rattle.mcs_codec.specs.Codec.{SpellsState, SpellsState1}
+use Rattle.mcs_codec.specs.declared.versions.Version.{Version}
+use Rattle.mcs_codec.specs.declared.versions.Version.TheVariants.{One, Two}
 use Rattle.mcs_codec.proofs.StateCodec.{same_state}
 use Rattle.mcs_disk.proofs.Composing.{leaves_map, leaves_then, rests_bytes, rests_since}
 use Rattle.mcs_model.specs.declared.command.Command.{Command}
@@ -32,17 +34,17 @@ use Rattle.mcs_session.proofs.Records.{same_pair_state}
 -- no bytes spell states of both versions
 not_both : (snap : List ℕ) (s : BenchState) (version_1 : BenchState1) → SpellsState snap s → SpellsState1 snap version_1 → ⊥
 not_both snap s version_1 a b =
-    let versions : false ≡ true = (same_state snap false true s (lift version_1) a (record { version_1 = version_1; spells = b; lifted = refl })).0 in
+    let versions : Two ≡ One = (same_state snap Two One s (lift version_1) a (record { version_1 = version_1; spells = b; lifted = refl })).0 in
     absurd (cc)
 
-pub stands_by : (snap : List ℕ) (records : List (List ℕ)) (s : BenchState) → RecordsStandFor false snap records s → (c : List ℕ) → Holds c snap records → StandsFor c s
+pub stands_by : (snap : List ℕ) (records : List (List ℕ)) (s : BenchState) → RecordsStandFor Two snap records s → (c : List ℕ) → Holds c snap records → StandsFor c s
 stands_by snap records s p c held = record { snap = snap; records = records; holds = held; stand = p }
 
 pub at_of : (disk : DiskState) (s : BenchState) → IsDurable disk → StandsFor (bytes_of disk) s → DiskStandsFor disk s
 at_of disk s durable stands image now = subst (λ (f : List ℕ). StandsFor f s) (sym (durable image now)) stands
 
 -- a snapshot with no records after it
-stand_new : (snap : List ℕ) (s : BenchState) → SpellsState snap s → RecordsStandFor false snap [] s
+stand_new : (snap : List ℕ) (s : BenchState) → SpellsState snap s → RecordsStandFor Two snap [] s
 stand_new snap s spells = record { start = s; snapshot = spells; commands = []; replays = tt; bounded = omega arith; state = refl }
 
 pub stands_new : (file snap : List ℕ) (s : BenchState) → SpellsState snap s → Holds file snap [] → StandsFor file s
@@ -62,7 +64,7 @@ created old new snap s spells is made =
     let stands : StandsFor (bytes_of new) new_bench_state = subst (λ (t : BenchState). StandsFor (bytes_of new) t) is (stands_new (bytes_of new) snap s spells made.holds) in
     record { blank = made.blank; stands = at_of new new_bench_state made.durable stands; ticks = made.ticks; later = made.later }
 
-pub recorded_opened : (old new : DiskState) (snap : List ℕ) (records : List (List ℕ)) (cycles : ℕ) (s : BenchState) → Opens old new snap records → IsReplayed false snap records cycles s → IsRecorded new cycles s
+pub recorded_opened : (old new : DiskState) (snap : List ℕ) (records : List (List ℕ)) (cycles : ℕ) (s : BenchState) → Opens old new snap records → IsReplayed Two snap records cycles s → IsRecorded new cycles s
 recorded_opened old new snap records cycles s opened replayed =
     let held : Holds (bytes_of new) snap records = subst (λ (f : List ℕ). Holds f snap records) (sym (rests_bytes old new opened.rests)) opened.holds in
     record { durable = opened.durable; stands = record { snap = snap; records = records; holds = held; stand = replayed.stand }; count = replayed.count }
@@ -79,13 +81,13 @@ rests_may old new s rests = record {
 }
 
 -- a file of the last version
-pub opened_session : (old new : DiskState) (snap : List ℕ) (records : List (List ℕ)) (cycles : ℕ) (s : BenchState) → Opens old new snap records → IsReplayed false snap records cycles s → OpensSession old new s
+pub opened_session : (old new : DiskState) (snap : List ℕ) (records : List (List ℕ)) (cycles : ℕ) (s : BenchState) → Opens old new snap records → IsReplayed Two snap records cycles s → OpensSession old new s
 opened_session old new snap records cycles s opened replayed = record {
   stood = inl (stands_by snap records s replayed.stand (bytes_of old) opened.holds);
   stands = at_of new s opened.durable (stands_by snap records s replayed.stand (bytes_of new) (held_on old new snap records opened));
 }
 
-pub rested_session : (old new : DiskState) (snap : List ℕ) (records : List (List ℕ)) (cycles : ℕ) (s : BenchState) → Opens old new snap records → IsReplayed false snap records cycles s → MigratesSession old new s
+pub rested_session : (old new : DiskState) (snap : List ℕ) (records : List (List ℕ)) (cycles : ℕ) (s : BenchState) → Opens old new snap records → IsReplayed Two snap records cycles s → MigratesSession old new s
 rested_session old new snap records cycles s opened replayed = record {
   leaves = rests_may old new s opened.rests;
   rests = λ _. opened.rests;
@@ -95,7 +97,7 @@ rested_session old new snap records cycles s opened replayed = record {
 -- ---- version 1
 
 -- what version 1 does is what the last version does at the lifted state
-replays_first : (s : BenchState) (version_1 : BenchState1) (rs : List (List ℕ)) (cs : List Command) → s ≡ lift version_1 → ReplaysCommands true s rs cs → ReplaysCommands1 version_1 rs cs × (fold s cs ≡ lift (fold_1 version_1 cs))
+replays_first : (s : BenchState) (version_1 : BenchState1) (rs : List (List ℕ)) (cs : List Command) → s ≡ lift version_1 → ReplaysCommands One s rs cs → ReplaysCommands1 version_1 rs cs × (fold s cs ≡ lift (fold_1 version_1 cs))
 replays_first s version_1 [] [] e h = (tt, e)
 replays_first s version_1 [] (c ∷ cs) e h = absurd h
 replays_first s version_1 (r ∷ rs) [] e h = absurd h
@@ -104,19 +106,19 @@ replays_first s version_1 (r ∷ rs) (c ∷ cs) e h =
     let rest = replays_first (after s c) (after_1 version_1 c) rs cs (ap (λ (x : BenchState). after x c) e ∙ sym lifts.after) (h.2) in
     ((h.0, sym lifts.refusal ∙ subst (λ (x : BenchState). refusal x c ≡ None) e h.1, rest.0), rest.1)
 
-first_replays : (version_1 : BenchState1) (rs : List (List ℕ)) (cs : List Command) → ReplaysCommands1 version_1 rs cs → ReplaysCommands true (lift version_1) rs cs × (fold (lift version_1) cs ≡ lift (fold_1 version_1 cs))
+first_replays : (version_1 : BenchState1) (rs : List (List ℕ)) (cs : List Command) → ReplaysCommands1 version_1 rs cs → ReplaysCommands One (lift version_1) rs cs × (fold (lift version_1) cs ≡ lift (fold_1 version_1 cs))
 first_replays version_1 [] [] h = (tt, refl)
 first_replays version_1 [] (c ∷ cs) h = absurd h
 first_replays version_1 (r ∷ rs) [] h = absurd h
 first_replays version_1 (r ∷ rs) (c ∷ cs) h =
     let lifts = command-lifts version_1 c h.0.1 in
     let rest = first_replays (after_1 version_1 c) rs cs (h.2) in (
-      (h.0, lifts.refusal ∙ h.1, subst (λ (x : BenchState). ReplaysCommands true x rs cs) lifts.after rest.0),
+      (h.0, lifts.refusal ∙ h.1, subst (λ (x : BenchState). ReplaysCommands One x rs cs) lifts.after rest.0),
       ap (λ (x : BenchState). fold x cs) (sym lifts.after) ∙ rest.1,
     )
 
 -- records that stand for a state by version 1 as the last version does it stand for it by version 1
-pub by_first : (file snap : List ℕ) (records : List (List ℕ)) (s : BenchState) → Holds file snap records → RecordsStandFor true snap records s → StandsForLifted file s
+pub by_first : (file snap : List ℕ) (records : List (List ℕ)) (s : BenchState) → Holds file snap records → RecordsStandFor One snap records s → StandsForLifted file s
 by_first file snap records s holds stand =
     let both = replays_first stand.start stand.snapshot.version_1 records stand.commands stand.snapshot.lifted stand.replays in
     record {
@@ -129,7 +131,7 @@ by_first file snap records s holds stand =
     }
 
 -- and the other way round
-pub first_by : (snap : List ℕ) (records : List (List ℕ)) (version_1 : BenchState1) → RecordsStandFor1 snap records version_1 → RecordsStandFor true snap records (lift version_1)
+pub first_by : (snap : List ℕ) (records : List (List ℕ)) (version_1 : BenchState1) → RecordsStandFor1 snap records version_1 → RecordsStandFor One snap records (lift version_1)
 first_by snap records version_1 stand =
     let both = first_replays stand.start records stand.commands stand.replays in
     record {
@@ -145,7 +147,7 @@ holds_state : (file : List ℕ) (s : BenchState) → HoldsState file s → Stand
 holds_state file s held = stands_new file held.snap s held.spells held.holds
 
 -- the store was opened, and what it held was replaced or not
-migrates : (old mid new : DiskState) (snap : List ℕ) (records : List (List ℕ)) (s : BenchState) → Opens old mid snap records → RecordsStandFor true snap records s
+migrates : (old mid new : DiskState) (snap : List ℕ) (records : List (List ℕ)) (s : BenchState) → Opens old mid snap records → RecordsStandFor One snap records s
     → LeavesOnly mid new (Either (λ c. Holds c snap records) (λ c. HoldsState c s)) → MayMigrate old new s
 migrates old mid new snap records s opened stand moments =
     leaves_then old mid new (Either (images_of old) (λ file. StandsByEither file s)) (rests_may old mid s opened.rests)
@@ -153,7 +155,7 @@ migrates old mid new snap records s opened stand moments =
     (λ c. ⊎_elim (λ there. inr (inr (by_first c snap records s there stand))) (λ here. inr (inl (holds_state c s here)))) moments)
 
 -- a file of version 1, whose lifted state is the only thing on the disk
-lifted_session : (old mid new : DiskState) (snap : List ℕ) (records : List (List ℕ)) (cycles : ℕ) (s : BenchState) → Opens old mid snap records → IsReplayed true snap records cycles s
+lifted_session : (old mid new : DiskState) (snap : List ℕ) (records : List (List ℕ)) (cycles : ℕ) (s : BenchState) → Opens old mid snap records → IsReplayed One snap records cycles s
     → HoldsState (bytes_of new) s → IsDurable new → OpensSession old new s
 lifted_session old mid new snap records cycles s opened replayed held durable = record {
   stood = inr (by_first (bytes_of old) snap records s opened.holds replayed.stand);
@@ -161,7 +163,7 @@ lifted_session old mid new snap records cycles s opened replayed held durable = 
 }
 
 -- and what was done to it
-pub migrated_session : (old mid new : DiskState) (snap : List ℕ) (records : List (List ℕ)) (cycles : ℕ) (s : BenchState) → Opens old mid snap records → IsReplayed true snap records cycles s
+pub migrated_session : (old mid new : DiskState) (snap : List ℕ) (records : List (List ℕ)) (cycles : ℕ) (s : BenchState) → Opens old mid snap records → IsReplayed One snap records cycles s
     → LeavesOnly mid new (Either (λ c. Holds c snap records) (λ c. HoldsState c s)) → HoldsState (bytes_of new) s → MigratesSession old new s
 migrated_session old mid new snap records cycles s opened replayed moments held = record {
   leaves = migrates old mid new snap records s opened replayed.stand moments;
@@ -172,7 +174,7 @@ migrated_session old mid new snap records cycles s opened replayed moments held 
     of_last : StandsFor (bytes_of old) s → ⊥
     of_last last = not_both last.snap last.stand.start replayed.stand.snapshot.version_1 last.stand.snapshot (subst (λ (x : List ℕ). SpellsState1 x replayed.stand.snapshot.version_1) (sym (same_snap _ _ _ _ _ last.holds opened.holds)) replayed.stand.snapshot.spells)
 
-pub fails_migrating : (old mid new : DiskState) (snap : List ℕ) (records : List (List ℕ)) (cycles : ℕ) (s : BenchState) → Opens old mid snap records → IsReplayed true snap records cycles s
+pub fails_migrating : (old mid new : DiskState) (snap : List ℕ) (records : List (List ℕ)) (cycles : ℕ) (s : BenchState) → Opens old mid snap records → IsReplayed One snap records cycles s
     → LeavesOnly mid new (Either (λ c. Holds c snap records) (λ c. HoldsState c s)) → FailsMigrating old new
 fails_migrating old mid new snap records cycles s opened replayed moments = record {
   state = s;
@@ -183,20 +185,20 @@ fails_migrating old mid new snap records cycles s opened replayed moments = reco
 -- ---- what `open` refuses
 
 -- a file stands for what its one pair stands for
-pub pair_of : (file snap : List ℕ) (records : List (List ℕ)) (s : BenchState) → Holds file snap records → StandsFor file s → RecordsStandFor false snap records s
+pub pair_of : (file snap : List ℕ) (records : List (List ℕ)) (s : BenchState) → Holds file snap records → StandsFor file s → RecordsStandFor Two snap records s
 pair_of file snap records s held stands =
-    subst (λ (x : List (List ℕ)). RecordsStandFor false snap x s) (same_records _ _ _ _ _ stands.holds held)
-    (subst (λ (x : List ℕ). RecordsStandFor false x stands.records s) (same_snap _ _ _ _ _ stands.holds held) stands.stand)
+    subst (λ (x : List (List ℕ)). RecordsStandFor Two snap x s) (same_records _ _ _ _ _ stands.holds held)
+    (subst (λ (x : List ℕ). RecordsStandFor Two x stands.records s) (same_snap _ _ _ _ _ stands.holds held) stands.stand)
 
-first_of : (file snap : List ℕ) (records : List (List ℕ)) (s : BenchState) → Holds file snap records → StandsForLifted file s → RecordsStandFor true snap records s
+first_of : (file snap : List ℕ) (records : List (List ℕ)) (s : BenchState) → Holds file snap records → StandsForLifted file s → RecordsStandFor One snap records s
 first_of file snap records s held version_1 =
-    subst (λ (x : BenchState). RecordsStandFor true snap records x) (sym version_1.lifted)
-    (subst (λ (x : List (List ℕ)). RecordsStandFor true snap x (lift version_1.version_1)) (same_records _ _ _ _ _ version_1.holds held)
-    (subst (λ (x : List ℕ). RecordsStandFor true x version_1.records (lift version_1.version_1)) (same_snap _ _ _ _ _ version_1.holds held) (first_by version_1.snap version_1.records version_1.version_1 version_1.stand)))
+    subst (λ (x : BenchState). RecordsStandFor One snap records x) (sym version_1.lifted)
+    (subst (λ (x : List (List ℕ)). RecordsStandFor One snap x (lift version_1.version_1)) (same_records _ _ _ _ _ version_1.holds held)
+    (subst (λ (x : List ℕ). RecordsStandFor One x version_1.records (lift version_1.version_1)) (same_snap _ _ _ _ _ version_1.holds held) (first_by version_1.snap version_1.records version_1.version_1 version_1.stand)))
 
 -- a file that stands for a state by version 2 stands for no other
 pub one_state : (file : List ℕ) (s t : BenchState) → StandsFor file s → StandsByEither file t → s ≡ t
-one_state file s t a (inl b) = same_pair_state false a.snap b.snap a.records b.records s t (same_snap _ _ _ _ _ a.holds b.holds) (same_records _ _ _ _ _ a.holds b.holds) a.stand b.stand
+one_state file s t a (inl b) = same_pair_state Two a.snap b.snap a.records b.records s t (same_snap _ _ _ _ _ a.holds b.holds) (same_records _ _ _ _ _ a.holds b.holds) a.stand b.stand
 one_state file s t a (inr b) = absurd (not_both a.snap a.stand.start b.stand.start a.stand.snapshot (subst (λ (x : List ℕ). SpellsState1 x b.stand.start) (same_snap _ _ _ _ _ b.holds a.holds) b.stand.snapshot))
 
 -- a disk that holds a pair has the size and the name of a session file
@@ -207,11 +209,11 @@ is_session disk snap records holds other = elim other [
 ]
 
 -- no state after the pair that was opened
-pub refuses_pair : (old new : DiskState) (snap : List ℕ) (records : List (List ℕ)) → Opens old new snap records → ((v : Bool) (s : BenchState) → RecordsStandFor v snap records s → ⊥) → RefusesSession Damaged old × AddsNoImage old new
+pub refuses_pair : (old new : DiskState) (snap : List ℕ) (records : List (List ℕ)) → Opens old new snap records → ((v : Version) (s : BenchState) → RecordsStandFor v snap records s → ⊥) → RefusesSession Damaged old × AddsNoImage old new
 refuses_pair old new snap records opened none = (
   (
     is_session old snap records opened.holds,
-    λ s. ⊎_elim (λ stands. none false s (pair_of (bytes_of old) snap records s opened.holds stands)) (λ version_1. none true s (first_of (bytes_of old) snap records s opened.holds version_1)),
+    λ s. ⊎_elim (λ stands. none Two s (pair_of (bytes_of old) snap records s opened.holds stands)) (λ version_1. none One s (first_of (bytes_of old) snap records s opened.holds version_1)),
   ),
   opened.rests,
 )
@@ -229,33 +231,33 @@ left_store Device old new h = inl h
 left_store NoMemory old new h = h
 
 -- what `begin` did with a log that was opened
-pub opened_by : (v : Bool) (old mid new : DiskState) (snap : List ℕ) (records : List (List ℕ)) (cycles : ℕ) (s : BenchState) → Opens old mid snap records → IsReplayed v snap records cycles s
-    → (v ≡ false → OpensSession old mid s → OpensSession old new s) → (v ≡ true → ReplacedContents mid new snap records s) → OpensSession old new s
-opened_by false old mid new snap records cycles s opened replayed same replaced = same refl (opened_session old mid snap records cycles s opened replayed)
-opened_by true old mid new snap records cycles s opened replayed same replaced =
+pub opened_by : (v : Version) (old mid new : DiskState) (snap : List ℕ) (records : List (List ℕ)) (cycles : ℕ) (s : BenchState) → Opens old mid snap records → IsReplayed v snap records cycles s
+    → (v ≡ Two → OpensSession old mid s → OpensSession old new s) → (v ≡ One → ReplacedContents mid new snap records s) → OpensSession old new s
+opened_by Two old mid new snap records cycles s opened replayed same replaced = same refl (opened_session old mid snap records cycles s opened replayed)
+opened_by One old mid new snap records cycles s opened replayed same replaced =
     let now = replaced refl in lifted_session old mid new snap records cycles s opened replayed now.held now.durable
 
-pub migrated_by : (v : Bool) (old mid new : DiskState) (snap : List ℕ) (records : List (List ℕ)) (cycles : ℕ) (s : BenchState) → Opens old mid snap records → IsReplayed v snap records cycles s
-    → (v ≡ false → MigratesSession old mid s → MigratesSession old new s) → (v ≡ true → ReplacedContents mid new snap records s) → MigratesSession old new s
-migrated_by false old mid new snap records cycles s opened replayed same replaced = same refl (rested_session old mid snap records cycles s opened replayed)
-migrated_by true old mid new snap records cycles s opened replayed same replaced =
+pub migrated_by : (v : Version) (old mid new : DiskState) (snap : List ℕ) (records : List (List ℕ)) (cycles : ℕ) (s : BenchState) → Opens old mid snap records → IsReplayed v snap records cycles s
+    → (v ≡ Two → MigratesSession old mid s → MigratesSession old new s) → (v ≡ One → ReplacedContents mid new snap records s) → MigratesSession old new s
+migrated_by Two old mid new snap records cycles s opened replayed same replaced = same refl (rested_session old mid snap records cycles s opened replayed)
+migrated_by One old mid new snap records cycles s opened replayed same replaced =
     let now = replaced refl in migrated_session old mid new snap records cycles s opened replayed now.leaves now.held
 
-pub failed_by : (v : Bool) (old mid new : DiskState) (snap : List ℕ) (records : List (List ℕ)) (cycles : ℕ) (s : BenchState) → v ≡ true → Opens old mid snap records → IsReplayed v snap records cycles s
+pub failed_by : (v : Version) (old mid new : DiskState) (snap : List ℕ) (records : List (List ℕ)) (cycles : ℕ) (s : BenchState) → v ≡ One → Opens old mid snap records → IsReplayed v snap records cycles s
     → MayReplaceContents mid new snap records s → FailsMigrating old new
-failed_by false old mid new snap records cycles s e opened replayed moments = absurd (cc)
-failed_by true old mid new snap records cycles s e opened replayed moments = fails_migrating old mid new snap records cycles s opened replayed moments
+failed_by Two old mid new snap records cycles s e opened replayed moments = absurd (cc)
+failed_by One old mid new snap records cycles s e opened replayed moments = fails_migrating old mid new snap records cycles s opened replayed moments
 
 pub refused_by : (fault : OpenFault) (old new : DiskState) → fault ≡ Device → FailsMigrating old new → RefusesSession fault old × RefusalLeaves fault old new
 refused_by fault old new e fails = rw e (tt, inr fails)
 
-pub recorded_by : (v : Bool) (old new : DiskState) (snap : List ℕ) (records : List (List ℕ)) (cycles : ℕ) (s : BenchState) → v ≡ false → Opens old new snap records → IsReplayed v snap records cycles s → IsRecorded new cycles s
-recorded_by false old new snap records cycles s e opened replayed = recorded_opened old new snap records cycles s opened replayed
-recorded_by true old new snap records cycles s e opened replayed = absurd (cc)
+pub recorded_by : (v : Version) (old new : DiskState) (snap : List ℕ) (records : List (List ℕ)) (cycles : ℕ) (s : BenchState) → v ≡ Two → Opens old new snap records → IsReplayed v snap records cycles s → IsRecorded new cycles s
+recorded_by Two old new snap records cycles s e opened replayed = recorded_opened old new snap records cycles s opened replayed
+recorded_by One old new snap records cycles s e opened replayed = absurd (cc)
 
 -- by version 1 a file stands for at most one state
 pub one_first : (file : List ℕ) (s t : BenchState) → StandsForLifted file s → StandsForLifted file t → s ≡ t
-one_first file s t a b = same_pair_state true a.snap b.snap a.records b.records s t (same_snap _ _ _ _ _ a.holds b.holds) (same_records _ _ _ _ _ a.holds b.holds) (first_of file a.snap a.records s a.holds a) (first_of file b.snap b.records t b.holds b)
+one_first file s t a b = same_pair_state One a.snap b.snap a.records b.records s t (same_snap _ _ _ _ _ a.holds b.holds) (same_records _ _ _ _ _ a.holds b.holds) (first_of file a.snap a.records s a.holds a) (first_of file b.snap b.records t b.holds b)
 
 -- by either version a file stands for at most one state
 pub one_either : (file : List ℕ) (s t : BenchState) → StandsByEither file s → StandsByEither file t → s ≡ t

@@ -1,5 +1,5 @@
 -- Records that spell commands, one after the other, and what they stand for.
-use Rattle.std.proofs.Common.{◌≡◌, ℕ, Bool, true, false, not, ◌||◌, List, [], ◌∷◌, ◌++◌, None, sym, ◌∙◌, ap, subst, refl, take, drop, slice_get, Some, append_assoc, take-append-drop, ◌+◌, ◌≤◌, ◌<◌, arith}
+use Rattle.std.proofs.Common.{◌≡◌, ℕ, List, [], ◌∷◌, ◌++◌, None, sym, ◌∙◌, ap, subst, refl, take, drop, slice_get, Some, append_assoc, take-append-drop, ◌+◌, ◌≤◌, ◌<◌, arith}
 use Rattle.std.proofs.lemmas.List.{take_more}
 use Rattle.std.proofs.lemmas.List.Sums.{sum_by-cons, sum_by_push}
 use Rattle.std.proofs.lemmas.Option.{slice_get_within, get_or_from_slice_get}
@@ -7,33 +7,29 @@ use Rattle.mcs_model.specs.declared.command.Command.{Command}
 use Rattle.mcs_model.specs.BenchState.{BenchState}
 use Rattle.mcs_model.specs.Command.{refusal, after}
 use Rattle.mcs_model.specs.Fold.{fold}
-use Rattle.mcs_codec.specs.Codec.{Spells, SpellsBy, SpellsStateBy, is_version_1}
+use Rattle.mcs_codec.specs.Codec.{SpellsBy, SpellsStateBy}
+use Rattle.mcs_codec.specs.declared.versions.Version.{Version}
 use Rattle.mcs_codec.proofs.CommandCodec.{same_command}
-use Rattle.mcs_codec.proofs.StateCodec.{first_told, same_state}
+use Rattle.mcs_codec.proofs.StateCodec.{same_state}
 use Rattle.mcs_model.specs.declared.limits.TheConstants.{REPLAY_CYCLES}
 use Rattle.mcs_session.specs.Invariant.{IsReplayed}
 use Rattle.mcs_session.specs.Cycles.{log_cycles, replay_cycles}
-use Rattle.mcs_version1.specs.Command.{in_version_1}
 use Rattle.mcs_session.specs.StandsFor.{ReplaysCommands, RecordsStandFor}
 use Rattle.mcs_session.proofs.Folds.{fold-append}
 
-pub spelled : (v : Bool) (r : List ℕ) (c : Command) → SpellsBy v r c → Spells r c
-spelled false r c h = h
-spelled true r c h = h.0
-
 -- a snapshot spells one state at most
-same_start : (v : Bool) (snap : List ℕ) (s t : BenchState) → SpellsStateBy v snap s → SpellsStateBy v snap t → s ≡ t
+same_start : (v : Version) (snap : List ℕ) (s t : BenchState) → SpellsStateBy v snap s → SpellsStateBy v snap t → s ≡ t
 same_start v snap s t a b = (same_state snap v v s t a b).1
 
 -- one more
-pub replays-more : (v : Bool) (s : BenchState) (rs : List (List ℕ)) (cs : List Command) (r : List ℕ) (c : Command) → ReplaysCommands v s rs cs → SpellsBy v r c → refusal (fold s cs) c ≡ None → ReplaysCommands v s (rs ++ r ∷ []) (cs ++ c ∷ [])
+pub replays-more : (v : Version) (s : BenchState) (rs : List (List ℕ)) (cs : List Command) (r : List ℕ) (c : Command) → ReplaysCommands v s rs cs → SpellsBy v r c → refusal (fold s cs) c ≡ None → ReplaysCommands v s (rs ++ r ∷ []) (cs ++ c ∷ [])
 replays-more v s [] [] r c h spells accepted = (spells, accepted, tt)
 replays-more v s [] (d ∷ cs) r c h spells accepted = absurd h
 replays-more v s (q ∷ rs) [] r c h spells accepted = absurd h
 replays-more v s (q ∷ rs) (d ∷ cs) r c h spells accepted = (h.0, h.1, replays-more v (after s d) rs cs r c (h.2) spells accepted)
 
 -- where the next record spells no accepted command, no commands are spelled
-pub no_replay : (v : Bool) (s : BenchState) (rs : List (List ℕ)) (cs ds : List Command) (r : List ℕ) (more : List (List ℕ)) → ReplaysCommands v s rs cs
+pub no_replay : (v : Version) (s : BenchState) (rs : List (List ℕ)) (cs ds : List Command) (r : List ℕ) (more : List (List ℕ)) → ReplaysCommands v s rs cs
     → ((c : Command) → SpellsBy v r c → refusal (fold s cs) c ≡ None → ⊥) → ReplaysCommands v s (rs ++ r ∷ more) ds → ⊥
 no_replay v s [] [] [] r more h none k = k
 no_replay v s [] [] (d ∷ ds) r more h none k = none d k.0 k.1
@@ -41,23 +37,23 @@ no_replay v s [] (c ∷ cs) ds r more h none k = h
 no_replay v s (q ∷ rs) [] ds r more h none k = h
 no_replay v s (q ∷ rs) (c ∷ cs) [] r more h none k = k
 no_replay v s (q ∷ rs) (c ∷ cs) (d ∷ ds) r more h none k =
-    let same : d ≡ c = same_command q d c (spelled v q d k.0) (spelled v q c h.0) in
+    let same : d ≡ c = same_command q d c k.0.0 h.0.0 in
     no_replay v (after s c) rs cs ds r more (h.2) none (subst (λ (x : Command). ReplaysCommands v (after s x) (rs ++ r ∷ more) ds) same (k.2))
 
 -- records spell one list of commands at most
-pub same_commands : (v : Bool) (s : BenchState) (rs : List (List ℕ)) (cs ds : List Command) → ReplaysCommands v s rs cs → ReplaysCommands v s rs ds → cs ≡ ds
+pub same_commands : (v : Version) (s : BenchState) (rs : List (List ℕ)) (cs ds : List Command) → ReplaysCommands v s rs cs → ReplaysCommands v s rs ds → cs ≡ ds
 same_commands v s [] [] [] h k = refl
 same_commands v s [] [] (d ∷ ds) h k = absurd k
 same_commands v s [] (c ∷ cs) ds h k = absurd h
 same_commands v s (q ∷ rs) [] ds h k = absurd h
 same_commands v s (q ∷ rs) (c ∷ cs) [] h k = absurd k
 same_commands v s (q ∷ rs) (c ∷ cs) (d ∷ ds) h k =
-    let same : d ≡ c = same_command q d c (spelled v q d k.0) (spelled v q c h.0) in
+    let same : d ≡ c = same_command q d c k.0.0 h.0.0 in
     let rest : cs ≡ ds = same_commands v (after s c) rs cs ds (h.2) (subst (λ (x : Command). ReplaysCommands v (after s x) rs ds) same (k.2)) in
     rw (same, rest) refl
 
 -- the same snapshot and the same records stand for one list of commands
-pub same_list : (v : Bool) (snap other : List ℕ) (records more : List (List ℕ)) (s t : BenchState) → snap ≡ other → records ≡ more → (a : RecordsStandFor v snap records s) (b : RecordsStandFor v other more t)
+pub same_list : (v : Version) (snap other : List ℕ) (records more : List (List ℕ)) (s t : BenchState) → snap ≡ other → records ≡ more → (a : RecordsStandFor v snap records s) (b : RecordsStandFor v other more t)
     → (a.start ≡ b.start) × (a.commands ≡ b.commands)
 same_list v snap other records more s t e f a b =
     let start : a.start ≡ b.start = same_start v snap a.start b.start a.snapshot (subst (λ (x : List ℕ). SpellsStateBy v x b.start) (sym e) b.snapshot) in
@@ -65,7 +61,7 @@ same_list v snap other records more s t e f a b =
     (start, same_commands v a.start records a.commands b.commands a.replays replays)
 
 -- and so for one state
-pub same_pair_state : (v : Bool) (snap other : List ℕ) (records more : List (List ℕ)) (s t : BenchState) → snap ≡ other → records ≡ more → RecordsStandFor v snap records s → RecordsStandFor v other more t → s ≡ t
+pub same_pair_state : (v : Version) (snap other : List ℕ) (records more : List (List ℕ)) (s t : BenchState) → snap ≡ other → records ≡ more → RecordsStandFor v snap records s → RecordsStandFor v other more t → s ≡ t
 same_pair_state v snap other records more s t e f a b =
     let same = same_list v snap other records more s t e f a b in
     a.state ∙ ap (fold a.start) same.1 ∙ ap (λ (x : BenchState). fold x b.commands) same.0 ∙ sym b.state
@@ -80,7 +76,7 @@ one_at xs r i e =
 pub one_more : {A : Type 0} (xs : List A) (r : A) (i : ℕ) → slice_get xs i ≡ Some r → take (i + 1) xs ≡ take i xs ++ r ∷ []
 one_more xs r i e = take_more xs i r (slice_get_within xs i r e) ∙ ap (λ v. take i xs ++ v ∷ []) (get_or_from_slice_get xs i r r e)
 
-pub no_pair : (v : Bool) (snap : List ℕ) (records : List (List ℕ)) (r : List ℕ) (i : ℕ) (s t : BenchState) → slice_get records i ≡ Some r → RecordsStandFor v snap (take i records) s
+pub no_pair : (v : Version) (snap : List ℕ) (records : List (List ℕ)) (r : List ℕ) (i : ℕ) (s t : BenchState) → slice_get records i ≡ Some r → RecordsStandFor v snap (take i records) s
     → ((c : Command) → SpellsBy v r c → refusal s c ≡ None → ⊥) → RecordsStandFor v snap records t → ⊥
 no_pair v snap records r i s t e a none b =
     let start = same_start v snap b.start a.start b.snapshot a.snapshot in
@@ -93,24 +89,24 @@ no_pair v snap records r i s t e a none b =
 -- ---- the cycles of a log
 
 -- commands that begin with these and this one count no less
-front_cycles : (v : Bool) (s : BenchState) (rs : List (List ℕ)) (cs ds : List Command) (r : List ℕ) (c : Command) (more : List (List ℕ)) → ReplaysCommands v s rs cs → SpellsBy v r c → ReplaysCommands v s (rs ++ r ∷ more) ds
+front_cycles : (v : Version) (s : BenchState) (rs : List (List ℕ)) (cs ds : List Command) (r : List ℕ) (c : Command) (more : List (List ℕ)) → ReplaysCommands v s rs cs → SpellsBy v r c → ReplaysCommands v s (rs ++ r ∷ more) ds
     → log_cycles cs + replay_cycles c ≤ log_cycles ds
 front_cycles v s [] [] [] r c more h spells k = absurd k
 front_cycles v s [] [] (d ∷ ds) r c more h spells k =
-    let same : replay_cycles d ≡ replay_cycles c = ap replay_cycles (same_command r d c (spelled v r d k.0) (spelled v r c spells)) in
+    let same : replay_cycles d ≡ replay_cycles c = ap replay_cycles (same_command r d c k.0.0 spells.0) in
     let whole = sum_by-cons replay_cycles d ds in omega (arith, same, whole)
 front_cycles v s [] (d ∷ cs) ds r c more h spells k = absurd h
 front_cycles v s (q ∷ rs) [] ds r c more h spells k = absurd h
 front_cycles v s (q ∷ rs) (d ∷ cs) [] r c more h spells k = absurd k
 front_cycles v s (q ∷ rs) (d ∷ cs) (e ∷ ds) r c more h spells k =
-    let same : e ≡ d = same_command q e d (spelled v q e k.0) (spelled v q d h.0) in
+    let same : e ≡ d = same_command q e d k.0.0 h.0.0 in
     let rest = front_cycles v (after s d) rs cs ds r c more (h.2) spells (subst (λ (x : Command). ReplaysCommands v (after s x) (rs ++ r ∷ more) ds) same (k.2)) in
     let one : replay_cycles e ≡ replay_cycles d = ap replay_cycles same in
     let left = sum_by-cons replay_cycles d cs in
     let right = sum_by-cons replay_cycles e ds in omega (arith, rest, one, left, right)
 
 -- where the cycles of the next command are too many, there is no state after the records
-pub too_long : (v : Bool) (snap : List ℕ) (records : List (List ℕ)) (r : List ℕ) (i cycles : ℕ) (s t : BenchState) (c : Command) → slice_get records i ≡ Some r → IsReplayed v snap (take i records) cycles s
+pub too_long : (v : Version) (snap : List ℕ) (records : List (List ℕ)) (r : List ℕ) (i cycles : ℕ) (s t : BenchState) (c : Command) → slice_get records i ≡ Some r → IsReplayed v snap (take i records) cycles s
     → SpellsBy v r c → REPLAY_CYCLES < cycles + replay_cycles c → RecordsStandFor v snap records t → ⊥
 too_long v snap records r i cycles s t c e a spells over b =
     let start = same_start v snap b.start a.stand.start b.snapshot a.stand.snapshot in
@@ -123,7 +119,7 @@ too_long v snap records r i cycles s t c e a spells over b =
     let none : ⊥ = omega (arith, least, count, bounded, over) in none
 
 -- one more record
-unfoldable pub pair_more : (v : Bool) (snap r : List ℕ) (records : List (List ℕ)) (s : BenchState) (c : Command) (p : RecordsStandFor v snap records s) → SpellsBy v r c → refusal s c ≡ None
+unfoldable pub pair_more : (v : Version) (snap r : List ℕ) (records : List (List ℕ)) (s : BenchState) (c : Command) (p : RecordsStandFor v snap records s) → SpellsBy v r c → refusal s c ≡ None
     → log_cycles p.commands + replay_cycles c ≤ REPLAY_CYCLES → RecordsStandFor v snap (records ++ r ∷ []) (after s c)
 pair_more v snap r records s c p spells accepted room = record {
   start = p.start;
@@ -134,7 +130,7 @@ pair_more v snap r records s c p spells accepted room = record {
   state = ap (λ (t : BenchState). after t c) p.state ∙ sym (fold-append p.start p.commands (c ∷ []));
 }
 
-pub replayed_more : (v : Bool) (snap r : List ℕ) (records : List (List ℕ)) (cycles more : ℕ) (s : BenchState) (c : Command) → IsReplayed v snap records cycles s → SpellsBy v r c → refusal s c ≡ None
+pub replayed_more : (v : Version) (snap r : List ℕ) (records : List (List ℕ)) (cycles more : ℕ) (s : BenchState) (c : Command) → IsReplayed v snap records cycles s → SpellsBy v r c → refusal s c ≡ None
     → more ≡ replay_cycles c → cycles + more ≤ REPLAY_CYCLES → IsReplayed v snap (records ++ r ∷ []) (cycles + more) (after s c)
 unfolding pair_more
 replayed_more v snap r records cycles more s c p spells accepted is room =
@@ -145,22 +141,12 @@ replayed_more v snap r records cycles more s c p spells accepted is room =
     }
 
 -- none yet
-pub replayed_none : (v : Bool) (snap : List ℕ) (s : BenchState) → SpellsStateBy v snap s → IsReplayed v snap [] 0 s
+pub replayed_none : (v : Version) (snap : List ℕ) (s : BenchState) → SpellsStateBy v snap s → IsReplayed v snap [] 0 s
 replayed_none v snap s spells = record {
   stand = record { start = s; snapshot = spells; commands = []; replays = tt; bounded = omega arith; state = refl };
   count = refl;
 }
 
--- ---- versions
-
-pub spells_by : (v : Bool) (r : List ℕ) (c : Command) → (not v || in_version_1 c) ≡ true → Spells r c → SpellsBy v r c
-spells_by false r c h spells = spells
-spells_by true r c h spells = (spells, h)
-
-pub spells_has : (v : Bool) (r : List ℕ) (c : Command) → SpellsBy v r c → (not v || in_version_1 c) ≡ true
-spells_has false r c h = refl
-spells_has true r c h = h.1
-
--- records of a version are those of the version that their snapshot tells
-pub at_version : (v version_1 : Bool) (snap : List ℕ) (records : List (List ℕ)) (s : BenchState) → version_1 ≡ is_version_1 snap → RecordsStandFor v snap records s → RecordsStandFor version_1 snap records s
-at_version v version_1 snap records s e pair = subst (λ w. RecordsStandFor w snap records s) (sym (first_told v snap pair.start pair.snapshot) ∙ sym e) pair
+-- records of a version are those of the version in which their snapshot is read
+pub at_version : (v version : Version) (snap : List ℕ) (records : List (List ℕ)) (start s : BenchState) → SpellsStateBy version snap start → RecordsStandFor v snap records s → RecordsStandFor version snap records s
+at_version v version snap records start s spells pair = subst (λ w. RecordsStandFor w snap records s) (same_state snap v version pair.start start pair.snapshot spells).0 pair

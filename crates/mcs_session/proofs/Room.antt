@@ -15,6 +15,7 @@ use Rattle.mcs_model.specs.BenchState.{BenchState}
 use Rattle.mcs_model.specs.Command.{refusal, after}
 use Rattle.mcs_session.specs.CommandCalls.{AcknowledgesCommand, LeavesEitherState, SettlesSession}
 use Rattle.mcs_codec.specs.Codec.{Spells}
+use Rattle.mcs_codec.specs.declared.versions.Version.TheVariants.{Two}
 use Rattle.mcs_codec.specs.CommandBytes.{command_bytes}
 use Rattle.mcs_session.specs.Invariant.{HasMadeRoom, IsRecorded, IsReplayed}
 use Rattle.mcs_session.specs.Cycles.{replay_cycles}
@@ -127,7 +128,7 @@ pub appended : (old mid new : DiskState) (cycles : ℕ) (s : BenchState) (c : Co
     → LeavesOnly mid new (Either (λ f. Holds f was.stands.snap was.stands.records) (λ f. Holds f was.stands.snap (was.stands.records ++ r ∷ []))) → LeavesEitherState old new s (after s c)
 appended old mid new cycles s c r was spells accepted few first moments =
     let count = was.count in
-    let more = pair_more false was.stands.snap r was.stands.records s c was.stands.stand spells accepted (omega (arith, count, few)) in
+    let more = pair_more Two was.stands.snap r was.stands.records s c was.stands.stand (spells, refl) accepted (omega (arith, count, few)) in
     leaves_then old mid new (Either (λ file. StandsFor file s) (λ file. StandsFor file (after s c))) (leaves_before old mid s (after s c) first)
     (leaves_map mid new (Either (λ f. Holds f was.stands.snap was.stands.records) (λ f. Holds f was.stands.snap (was.stands.records ++ r ∷ []))) (Either (λ file. StandsFor file s) (λ file. StandsFor file (after s c)))
     (λ f. ⊎_elim (λ there. inl (stands_by was.stands.snap was.stands.records s was.stands.stand f there)) (λ here. inr (stands_by was.stands.snap (was.stands.records ++ r ∷ []) (after s c) more f here))) moments)
@@ -136,8 +137,8 @@ appended old mid new cycles s c r was spells accepted few first moments =
 pub recorded_more : (old new : DiskState) (cycles more : ℕ) (s : BenchState) (c : Command) (r : List ℕ) (was : IsRecorded old cycles s) → Spells r c → refusal s c ≡ None → more ≡ replay_cycles c
     → cycles + more ≤ REPLAY_CYCLES → IsDurable new → Holds (bytes_of new) was.stands.snap (was.stands.records ++ r ∷ []) → IsRecorded new (cycles + more) (after s c)
 recorded_more old new cycles more s c r was spells accepted is few durable held =
-    let so_far : IsReplayed false was.stands.snap was.stands.records cycles s = record { stand = was.stands.stand; count = was.count } in
-    let replayed = replayed_more false was.stands.snap r was.stands.records cycles more s c so_far spells accepted is few in
+    let so_far : IsReplayed Two was.stands.snap was.stands.records cycles s = record { stand = was.stands.stand; count = was.count } in
+    let replayed = replayed_more Two was.stands.snap r was.stands.records cycles more s c so_far (spells, refl) accepted is few in
     record { durable = durable; stands = record { snap = was.stands.snap; records = was.stands.records ++ r ∷ []; holds = held; stand = replayed.stand }; count = replayed.count }
 
 -- the steps of both, and the log then

@@ -12,6 +12,7 @@ use Rattle.mcs_model.specs.declared.command.Command.{Command}
 use Rattle.mcs_model.specs.declared.limits.TheConstants.{REPLAY_CYCLES}
 use Rattle.mcs_model.specs.BenchState.{BenchState}
 use Rattle.mcs_model.specs.Command.{refusal, after}
+use Rattle.mcs_codec.specs.declared.versions.Version.TheVariants.{Two}
 use Rattle.mcs_session.specs.Acknowledgements.{Acknowledgements, last_moment, moments_of}
 use Rattle.mcs_session.specs.Cycles.{log_cycles, replay_cycles}
 use Rattle.mcs_session.specs.Invariant.{IsRecorded}
@@ -26,7 +27,7 @@ pub same_held : (file : List ℕ) (a b : List Command) → LogHolds file a → L
 same_held file a b x y =
     let snap = same_snap _ _ _ _ _ x.stands.holds y.stands.holds in
     let records = same_records _ _ _ _ _ x.stands.holds y.stands.holds in
-    let commands = same_list false x.stands.snap y.stands.snap x.stands.records y.stands.records x.state y.state snap records x.stands.stand y.stands.stand in
+    let commands = same_list Two x.stands.snap y.stands.snap x.stands.records y.stands.records x.state y.state snap records x.stands.stand y.stands.stand in
     x.commands ∙ commands.1 ∙ sym y.commands
 
 -- the log of a file that stands for a state
@@ -43,11 +44,11 @@ abbrev pub log_bytes : List Command → ℕ
 log_bytes log = length (frames_of (map command_bytes log))
 
 -- records that spell commands of version 2 are the bytes of these
-pub spelled_records : (s : BenchState) (rs : List (List ℕ)) (cs : List Command) → ReplaysCommands false s rs cs → rs ≡ map command_bytes cs
+pub spelled_records : (s : BenchState) (rs : List (List ℕ)) (cs : List Command) → ReplaysCommands Two s rs cs → rs ≡ map command_bytes cs
 spelled_records s [] [] h = refl
 spelled_records s [] (c ∷ cs) h = absurd h
 spelled_records s (r ∷ rs) [] h = absurd h
-spelled_records s (r ∷ rs) (c ∷ cs) h = ap (λ (payload : List ℕ). payload ∷ rs) h.0.is ∙ ap (λ (more : List (List ℕ)). command_bytes c ∷ more) (spelled_records (after s c) rs cs (h.2))
+spelled_records s (r ∷ rs) (c ∷ cs) h = ap (λ (payload : List ℕ). payload ∷ rs) h.0.0.is ∙ ap (λ (more : List (List ℕ)). command_bytes c ∷ more) (spelled_records (after s c) rs cs (h.2))
 
 -- those of an open session
 pub recorded_bytes : (disk : DiskState) (cycles : ℕ) (s : BenchState) (was : IsRecorded disk cycles s) → length (frames_of was.stands.records) ≡ log_bytes (log_in (bytes_of disk) s was.stands)
@@ -91,7 +92,7 @@ record_held mid new cycles s c r was spells accepted few held log holds =
     let same : log ≡ log_in (bytes_of mid) s was.stands = same_held (bytes_of mid) log (log_in (bytes_of mid) s was.stands) holds (stands_held (bytes_of mid) s was.stands) in
     record {
       state = after s c;
-      stands = record { snap = was.stands.snap; records = was.stands.records ++ r ∷ []; holds = held; stand = pair_more false was.stands.snap r was.stands.records s c was.stands.stand spells accepted (omega (arith, count, few)) };
+      stands = record { snap = was.stands.snap; records = was.stands.records ++ r ∷ []; holds = held; stand = pair_more Two was.stands.snap r was.stands.records s c was.stands.stand (spells, refl) accepted (omega (arith, count, few)) };
       commands = ap (λ (cs : List Command). cs ++ c ∷ []) same;
     }
 

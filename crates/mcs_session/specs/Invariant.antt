@@ -9,6 +9,7 @@ use Rattle.mcs_journal.specs.declared.format.TheConstants.{MOST_RECORD, MOST_SNA
 use Rattle.mcs_model.specs.declared.limits.TheConstants.{REPLAY_CYCLES}
 use Rattle.mcs_model.specs.BenchState.{BenchState}
 use Rattle.mcs_model.specs.declared.command.Command.{Command}
+use Rattle.mcs_codec.specs.declared.versions.Version.{Version}
 use Rattle.mcs_session.specs.Cycles.{log_cycles}
 use Rattle.mcs_session.specs.Log.{LogHolds, has_room_for, steps_of}
 use Rattle.mcs_session.specs.StandsFor.{HoldsState, RecordsStandFor, StandsFor}
@@ -34,12 +35,11 @@ pub record IsSession
   pub ready : IsReady cycles payload snapshot
   pub recorded : IsTrue live → disk.honest → IsRecorded disk cycles s
 
--- a snapshot and records, of version 1 where `version_1` is true, stand for this state, by commands
--- of that many cycles
+-- a snapshot and records of this version stand for this state, by commands of that many cycles
 pub record IsReplayed
-    (version_1 : Bool) (snap : List ℕ) (records : List (List ℕ)) (cycles : ℕ)
+    (version : Version) (snap : List ℕ) (records : List (List ℕ)) (cycles : ℕ)
     (s : BenchState) : Type 0 where
-  pub stand : RecordsStandFor version_1 snap records s
+  pub stand : RecordsStandFor version snap records s
   pub count : cycles ≡ log_cycles stand.commands
 
 -- Room was made for the record of a command: in no step where there was room, and else in four, by

@@ -1,9 +1,11 @@
 -- What a session file stands for. What one of version 1 stands for is
 -- said by the definitions of version 1 and carried over (`StandsForLifted` in Version1). Where a
--- definition here takes a Boolean first, that is true where the snapshot and the records are of
--- version 1: they are read as carried over, and the commands are those of version 2 from there on.
-use Rattle.std.specs.Prelude.{◌≡◌, ◌⊎◌, ◌≤◌, ℕ, Bool, false, List, [], ◌∷◌, None}
+-- definition here takes a version, a snapshot and records of version 1 are read as carried over, and
+-- the commands are those of version 2 from there on.
+use Rattle.std.specs.Prelude.{◌≡◌, ◌⊎◌, ◌≤◌, ℕ, List, [], ◌∷◌, None}
 use Rattle.mcs_codec.specs.Codec.{SpellsBy, SpellsState, SpellsStateBy}
+use Rattle.mcs_codec.specs.declared.versions.Version.{Version}
+use Rattle.mcs_codec.specs.declared.versions.Version.TheVariants.{Two}
 use Rattle.mcs_disk.specs.Disk.{DiskState, images_of, images_since}
 use Rattle.mcs_journal.specs.File.{Holds}
 use Rattle.mcs_model.specs.declared.command.Command.{Command}
@@ -15,20 +17,20 @@ use Rattle.mcs_model.specs.Command.{refusal, after}
 use Rattle.mcs_model.specs.Fold.{fold}
 
 -- these records spell these commands, accepted in turn from this state
-abbrev pub ReplaysCommands : Bool → BenchState → List (List ℕ) → List Command → Type 0
-ReplaysCommands version_1 s [] [] = Unit {0}
-ReplaysCommands version_1 s [] (c ∷ cs) = ⊥
-ReplaysCommands version_1 s (r ∷ rs) [] = ⊥
-ReplaysCommands version_1 s (r ∷ rs) (c ∷ cs) =
-    SpellsBy version_1 r c × (refusal s c ≡ None) × ReplaysCommands version_1 (after s c) rs cs
+abbrev pub ReplaysCommands : Version → BenchState → List (List ℕ) → List Command → Type 0
+ReplaysCommands version s [] [] = Unit {0}
+ReplaysCommands version s [] (c ∷ cs) = ⊥
+ReplaysCommands version s (r ∷ rs) [] = ⊥
+ReplaysCommands version s (r ∷ rs) (c ∷ cs) =
+    SpellsBy version r c × (refusal s c ≡ None) × ReplaysCommands version (after s c) rs cs
 
 -- a snapshot and the records after it stand for this state
 pub record RecordsStandFor
-    (version_1 : Bool) (snap : List ℕ) (records : List (List ℕ)) (s : BenchState) : Type 0 where
+    (version : Version) (snap : List ℕ) (records : List (List ℕ)) (s : BenchState) : Type 0 where
   pub start : BenchState
-  pub snapshot : SpellsStateBy version_1 snap start
+  pub snapshot : SpellsStateBy version snap start
   pub commands : List Command
-  pub replays : ReplaysCommands version_1 start records commands
+  pub replays : ReplaysCommands version start records commands
   pub bounded : log_cycles commands ≤ REPLAY_CYCLES
   pub state : s ≡ fold start commands
 
@@ -37,7 +39,7 @@ pub record StandsFor (file : List ℕ) (s : BenchState) : Type 0 where
   pub snap : List ℕ
   pub records : List (List ℕ)
   pub holds : Holds file snap records
-  pub stand : RecordsStandFor false snap records s
+  pub stand : RecordsStandFor Two snap records s
 
 -- a file of either version stands for this state
 abbrev pub StandsByEither : List ℕ → BenchState → Type 0

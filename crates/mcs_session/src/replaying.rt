@@ -1,14 +1,12 @@
 //! What a snapshot and the records after it stand for.
-ghost use Rattle.std.specs.Prelude.{◌≡◌, ◌||◌, not, Bool, IfOk, IfSome, IfNone};
+ghost use Rattle.std.specs.Prelude.{◌≡◌, IfOk, IfSome, IfNone};
 ghost use Rattle.mcs_model.specs.BenchState.{BenchState};
 ghost use Rattle.mcs_session.specs.Invariant.{IsReplayed};
 ghost use Rattle.mcs_session.specs.Cycles.{replay_cycles};
-ghost use Rattle.mcs_codec.specs.Codec.{is_version_1};
-ghost use Rattle.mcs_version1.specs.Command.{in_version_1};
 ghost use Rattle.mcs_session.specs.StandsFor.{RecordsStandFor};
 
 use mcs_bench::Bench;
-use mcs_codec::{bench_of, command_of, in_version_1, is_version_1};
+use mcs_codec::{Version, bench_of, command_of};
 use mcs_journal::Records;
 use mcs_model::command::Command;
 use mcs_model::limits::REPLAY_CYCLES;
@@ -19,8 +17,8 @@ use std::alloc::{AllocError, Global};
 pub struct Replayed {
     pub bench: Bench,
     pub cycles: u32,
-    /// Whether the snapshot was of version 1.
-    pub version_1: bool,
+    /// The version of the snapshot and the records.
+    pub version: Version,
 }
 
 /// The instruction cycles that a command counts for in the log.
@@ -34,13 +32,6 @@ pub(crate) fn replay_cycles(command: &Command) -> u32
     }
 }
 
-/// Whether a command may stand in a log, of version 1 where `version_1` is true.
-fn may_stand(version_1: bool, command: &Command) -> bool
-    ensures { result ≡ (not version_1 || in_version_1 command.now) }
-{
-    !version_1 || in_version_1(command)
-}
-
 /// The bench that a snapshot and the records after it stand for, or none. All are of the version
 /// that the snapshot tells.
 pub(crate) fn replay(
@@ -49,16 +40,15 @@ pub(crate) fn replay(
     records: &Records,
 ) -> Result<Option<Replayed>, AllocError>
     ensures some { IfOk result (λ found.
-        IfSome found (λ r. IsReplayed r.version_1 snap.now records.now r.cycles r.bench)) }
+        IfSome found (λ r. IsReplayed r.version snap.now records.now r.cycles r.bench)) }
     ensures none { IfOk result (λ found.
-        IfNone found ((v : Bool) (s : BenchState) → RecordsStandFor v snap.now records.now s → ⊥)) }
+        IfNone found ((v : Version) (s : BenchState) → RecordsStandFor v snap.now records.now s → ⊥)) }
 {
-    let mut bench = match bench_of(alloc, snap) {
-        Ok(Some(bench)) => bench,
+    let (version, mut bench) = match bench_of(alloc, snap) {
+        Ok(Some(read)) => read,
         Ok(None) => return Ok(None),
         Err(refused) => return Err(refused),
     };
-    let version_1 = is_version_1(snap);
     let mut cycles = 0;
     let mut at = 0;
     while at < records.len() {
@@ -67,7 +57,7 @@ pub(crate) fn replay(
             Ok(None) => return Ok(None),
             Err(refused) => return Err(refused),
         };
-        if !may_stand(version_1, &command) {
+        if !version.has(&command) {
             return Ok(None);
         }
         if bench.check(&command).is_err() {
@@ -84,6 +74,6 @@ pub(crate) fn replay(
     Ok(Some(Replayed {
         bench,
         cycles,
-        version_1,
+        version,
     }))
 }

@@ -15,6 +15,7 @@ use crate::fault::SessionFault;
 use crate::recording::{CommandLog, encode_state, log_buffers};
 use crate::replaying::{Replayed, replay};
 use mcs_bench::Bench;
+use mcs_codec::Version;
 use mcs_disk::{Disk, DiskFault};
 use mcs_journal::{CreateFault, FILE_SIZE, OpenFault, Opened, Store};
 use mcs_model::command::{Command, Reply};
@@ -259,7 +260,7 @@ fn begin<D: Disk + Drop>(
 ) -> Result<Session<D>, (OpenFault, D)>
     requires live { IsTrue store.live }
     requires ready { IsReady replayed.cycles buffers.0.items buffers.1.items }
-    requires recorded { replayed.version_1 ≡ false → (D.state store.disk).honest
+    requires recorded { replayed.version ≡ Version.Two → (D.state store.disk).honest
         → IsRecorded (D.state store.disk) replayed.cycles replayed.bench }
     requires held { (D.state store.disk).honest → HasContents (D.state store.disk) }
     ensures open { IfOk result (λ s. IsTrue s.live × (s.state ≡ replayed.bench)) }
@@ -268,23 +269,23 @@ fn begin<D: Disk + Drop>(
         OneUnsynced (D.state store.disk).calls (D.state s.disk).calls) }
     ensures refused_one_unsynced { IfErr result (λ r.
         OneUnsynced (D.state store.disk).calls (D.state r.1).calls) }
-    ensures same { replayed.version_1 ≡ false → IfOk result (λ s. s.disk ≡ store.disk) }
-    ensures version_1 { replayed.version_1 ≡ true → (D.state store.disk).honest
+    ensures same { replayed.version ≡ Version.Two → IfOk result (λ s. s.disk ≡ store.disk) }
+    ensures version_1 { replayed.version ≡ Version.One → (D.state store.disk).honest
         → IfOk result (λ s. ReplacedAll (D.state store.disk) (D.state s.disk) replayed.bench) }
-    ensures refused { IfErr result (λ r. (r.0 ≡ OpenFault.Device) × ((replayed.version_1 ≡ true)
+    ensures refused { IfErr result (λ r. (r.0 ≡ OpenFault.Device) × ((replayed.version ≡ Version.One)
         × CountsFault (D.state store.disk) (D.state r.1) (Unit {0}))) }
     ensures failed { (D.state store.disk).honest
         → IfErr result (λ r. MayReplaceAll (D.state store.disk) (D.state r.1) replayed.bench) }
 {
     let (payload, snapshot) = buffers;
-    let (bench, version_1) = (replayed.bench, replayed.version_1);
+    let (bench, version) = (replayed.bench, replayed.version);
     let mut log = CommandLog {
         store,
         cycles: replayed.cycles,
         payload,
         snapshot,
     };
-    if !version_1 {
+    if version == Version::Two {
         return Ok(Session { log, bench });
     }
     match log.checkpoint(&bench) {

@@ -22,9 +22,21 @@ use Rattle.mcs_version1.specs.Boards.{is_small}
 use Rattle.mcs_version1.specs.BenchState.{BenchState1}
 use Rattle.mcs_version1.specs.Running.{run_length_1, after_run_1, run_stop_1}
 
+-- which places version 1 has: each is named, so that it does not get a new one unseen
+abbrev pub is_place_1 : Place → Bool
+is_place_1 (Acc n) = true
+is_place_1 (Cy bit) = true
+is_place_1 (Pc at) = true
+is_place_1 (Register r n) = true
+is_place_1 (Dcl bank) = true
+is_place_1 (Rom at byte) = true
+is_place_1 (Ram bank src n) = true
+is_place_1 (Status bank high k n) = true
+
 -- which commands version 1 has
 abbrev pub in_version_1 : Command → Bool
 in_version_1 (Wire board) = is_small board
+in_version_1 (Poke place) = is_place_1 place
 in_version_1 (Watch bank src) = false
 in_version_1 (Unwatch bank src) = false
 in_version_1 _ = true

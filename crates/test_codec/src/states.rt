@@ -37,7 +37,10 @@ pub(crate) fn expect_bytes(rt: &impl Abort, got: &[u8], want: &[u8]) {
 
 /// The bench whose state these bytes spell, if they spell one.
 pub(crate) fn read(rt: &impl Abort, alloc: Global, bytes: &[u8]) -> Option<Bench> {
-    bench_of(alloc, bytes).expect(rt, "memory")
+    match bench_of(alloc, bytes).expect(rt, "memory") {
+        Some((_, bench)) => Some(bench),
+        None => None,
+    }
 }
 
 pub(crate) fn is_read(rt: &impl Abort, alloc: Global, bytes: &[u8]) -> bool {

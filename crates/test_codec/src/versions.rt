@@ -4,7 +4,7 @@ use crate::states::{
     add, address, after, expect_state, front, is_read, joined, new_state, owing_state, read,
     slice_of,
 };
-use mcs_codec::{in_version_1, version_of};
+use mcs_codec::{Version, bench_of};
 use mcs_model::command::{Command, Place};
 use mcs_nibble::BankNo;
 use std::alloc::Global;
@@ -63,25 +63,30 @@ fn carried_over(rt: &impl Abort, alloc: Global, bytes: &[u8], want: &[u8]) {
     expect_state(rt, alloc, &bench, want);
 }
 
-fn expect_version(rt: &impl Abort, bytes: &[u8], want: Option<u8>) {
-    assert_eq!(rt; version_of(bytes), want);
+fn expect_version(rt: &impl Abort, alloc: Global, bytes: &[u8], want: Option<Version>) {
+    let got = match bench_of(alloc, bytes).expect(rt, "memory") {
+        Some((version, _)) => Some(version),
+        None => None,
+    };
+    assert_eq!(rt; got, want);
 }
 
+/// A state whose ROM 0 has four lines of this kind, in version 1; 2 or another byte before them.
 #[test]
 fn the_fifth_byte_tells_the_version(rt: HostRuntime) {
-    let rows = [
-        (b'i', Some(1)),
-        (b'0', Some(1)),
-        (b'1', Some(1)),
-        (b'-', Some(1)),
-        (2, Some(2)),
-        (1, None),
-    ];
-    for (fifth, version) in rows {
-        expect_version(&rt, &[0, 0, 0, 0, fifth], version);
-        expect_version(&rt, &[2, 2, 2, 2, fifth, 0], version);
+    let alloc = rt.alloc();
+    for character in [b'i', b'0', b'1', b'-'] {
+        let mut first = first_new_state();
+        first[4..8].copy_from_slice(&[character; 4]);
+        expect_version(&rt, alloc, slice_of(&first), Some(Version::One));
+        for (fifth, want) in [(2, Some(Version::Two)), (1, None)] {
+            let mut second = new_state();
+            second[4] = fifth;
+            second[5..9].copy_from_slice(&[character; 4]);
+            expect_version(&rt, alloc, slice_of(&second), want);
+        }
     }
-    expect_version(&rt, &[2, 2, 2, 2], None);
+    expect_version(&rt, alloc, &[2, 2, 2, 2], None);
 }
 
 #[test]
@@ -151,7 +156,8 @@ fn the_most_chains_are_written(rt: HostRuntime) {
 
 /// Whether version 1 has this command.
 fn expect_in_version_1(rt: &impl Abort, command: &Command, want: bool) {
-    assert_eq!(rt; in_version_1(command), want);
+    assert_eq!(rt; Version::One.has(command), want);
+    assert!(rt; Version::Two.has(command));
 }
 
 #[test]

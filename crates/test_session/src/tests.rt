@@ -383,7 +383,7 @@ fn read_back(alloc: Global, rt: &impl Abort, bench: &Bench) -> Bench {
 /// The bench whose state these bytes spell.
 fn state_of(alloc: Global, rt: &impl Abort, bytes: &[u8]) -> Bench {
     match mcs_codec::bench_of(alloc, bytes) {
-        Ok(Some(read)) => read,
+        Ok(Some((_, bench))) => bench,
         _ => panic!(rt; "the state was not read"),
     }
 }

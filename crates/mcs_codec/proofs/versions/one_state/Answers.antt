@@ -8,4 +8,4 @@ pub returns-clause-versions : goal.returns-clause-versions
 returns-clause-versions c = λ bytes v w s t h k. (same_state bytes v w s t h k).0
 
 pub returns-clause-told : goal.returns-clause-told
-returns-clause-told c = λ bytes version_1 s h. state_told version_1 bytes s h
+returns-clause-told c = λ bytes version s h. state_told version bytes s h

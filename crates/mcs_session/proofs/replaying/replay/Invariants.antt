@@ -7,7 +7,7 @@ abbrev pub invariant-loop-at : goal.invariant-loop-at
 invariant-loop-at l = record {
   within : l.at ≤ length l.records;
   bounded : l.cycles ≤ REPLAY_CYCLES;
-  so_far : IsReplayed l.version_1 l.snap (take l.at l.records) l.cycles l.bench;
+  so_far : IsReplayed l.version l.snap (take l.at l.records) l.cycles l.bench;
 }
 
 abbrev pub decreases-loop-at : goal.decreases-loop-at

@@ -1,11 +1,14 @@
 use Rattle.mcs_disk.proofs.Calling.{none_added}
-use Rattle.std.proofs.Common.{sym, subst}
+use Rattle.std.proofs.Common.{◌≡◌, rules, sym, subst}
+use Rattle.mcs_codec.specs.declared.versions.Version.TheVariants.{Two}
 use Rattle.mcs_session.specs.Invariant.{IsRecorded}
 use Rattle.mcs_session.proofs.Files.{recorded_new}
 use Rattle.mcs_session.proofs.session.begin.Goals as goal
 
 pub invariant_of-result : goal.invariant_of-result
-invariant_of-result g c = record { ready = c.requires.ready; recorded = λ alive honest. c.requires.recorded c.if-not-version_1.true honest }
+invariant_of-result g c =
+    let two : c.args.replayed.version ≡ Two = search (rules, c.eq.ensures, c.if-eq.true) in
+    record { ready = c.requires.ready; recorded = λ alive honest. c.requires.recorded two honest }
 
 pub invariant_of-result-in-Ok : goal.invariant_of-result-in-Ok
 invariant_of-result-in-Ok g c = record {
@@ -25,5 +28,5 @@ returns-in-Ok-clause-version_1 g c = λ e honest snap records held.
 pub returns-in-Err-clause-failed : goal.returns-in-Err-clause-failed
 returns-in-Err-clause-failed g c = λ honest snap records held. rw c.into_disk.ensures (c.in-Err.ensures.replaces honest snap records held).leaves
 
-pub returns-then-not-version_1-clause-one_unsynced : goal.returns-then-not-version_1-clause-one_unsynced
-returns-then-not-version_1-clause-one_unsynced g c = none_added _
+pub returns-then-eq-clause-one_unsynced : goal.returns-then-eq-clause-one_unsynced
+returns-then-eq-clause-one_unsynced g c = none_added _
