@@ -5,7 +5,7 @@ use Rattle.mcs_asm.specs.View.{Assembles}
 use Rattle.mcs_model.specs.declared.command.Command.{Command}
 use Rattle.mcs_model.specs.declared.command.Command.TheVariants as command
 use Rattle.mcs_source.specs.declared.fault.SourceFault.{SourceFault}
-use Rattle.mcs_shell.specs.declared.spelling.TextRefusal.{TextRefusal}
+use Rattle.mcs_shell.specs.declared.texts.TextRefusal.{TextRefusal}
 use Rattle.mcs_shell.specs.Spelling.{load_command}
 
 -- the command to load an image

@@ -7,8 +7,8 @@ use Rattle.mcs_session.specs.SessionState.{SessionState}
 use Rattle.mcs_model.specs.declared.command.Command.{Command}
 use Rattle.mcs_shell.specs.declared.ends.ShellEnd.{ShellEnd}
 use Rattle.mcs_shell.specs.declared.ends.ShellEnd.TheVariants.{End, ReadFault, WriteFault, DeviceFault, InputLimit, NoMemory}
-use Rattle.mcs_shell.specs.declared.outcome.Outcome.{Outcome}
-use Rattle.mcs_shell.specs.declared.outcome.Outcome.TheVariants.{Device}
+use Rattle.mcs_shell.specs.declared.ends.Outcome.{Outcome}
+use Rattle.mcs_shell.specs.declared.ends.Outcome.TheVariants.{Device}
 use Rattle.mcs_shell.specs.Faults.{EndsByItsFault, HasNotFailed, KnownFaults, RanWithoutFault, ServesAll, faults_read, one_more}
 use Rattle.mcs_shell.specs.Headline.{AnswersInTurn}
 use Rattle.mcs_shell.specs.Serving.{LeavesSession}

@@ -10,10 +10,10 @@ use Rattle.mcs_model.specs.declared.refusal_numbers.TheConstants.{CLOSED, DEVICE
 use Rattle.mcs_model.specs.BenchState.{BenchState}
 use Rattle.mcs_session.specs.declared.fault.SessionFault.{SessionFault}
 use Rattle.mcs_session.specs.declared.fault.SessionFault.TheVariants as fault
-use Rattle.mcs_shell.specs.declared.outcome.Outcome.{Outcome}
-use Rattle.mcs_shell.specs.declared.outcome.Outcome.TheVariants.{Plain, Device, Closed, NoMemory}
+use Rattle.mcs_shell.specs.declared.ends.Outcome.{Outcome}
+use Rattle.mcs_shell.specs.declared.ends.Outcome.TheVariants.{Plain, Device, Closed, NoMemory}
 use Rattle.mcs_lines.specs.declared.requests.Request.TheVariants.{Change}
-use Rattle.mcs_shell.specs.declared.spelling.TextRefusal.{TextRefusal}
+use Rattle.mcs_shell.specs.declared.texts.TextRefusal.{TextRefusal}
 use Rattle.mcs_lines.specs.declared.requests.TextKind.{TextKind}
 use Rattle.mcs_shell.specs.declared.texts.TextFault.{TextFault}
 use Rattle.mcs_shell.specs.declared.ends.ShellEnd.{ShellEnd}

@@ -16,8 +16,8 @@ use Rattle.mcs_session.specs.KeptCommands.{IsOpenOnHonestDisk}
 use Rattle.mcs_session.specs.SessionState.{Premise, SessionState}
 use Rattle.mcs_shell.specs.declared.ends.ShellEnd.{ShellEnd}
 use Rattle.mcs_shell.specs.declared.ends.ShellEnd.TheVariants.{ReadFault, WriteFault, DeviceFault, InputLimit, NoMemory}
-use Rattle.mcs_shell.specs.declared.outcome.Outcome.{Outcome}
-use Rattle.mcs_shell.specs.declared.outcome.Outcome.TheVariants.{Device}
+use Rattle.mcs_shell.specs.declared.ends.Outcome.{Outcome}
+use Rattle.mcs_shell.specs.declared.ends.Outcome.TheVariants.{Device}
 use Rattle.mcs_shell.specs.declared.shell.TheConstants.{CHUNK_BYTES}
 use Rattle.mcs_shell.specs.declared.texts.TextFault.TheVariants.{NoEnd}
 use Rattle.mcs_shell.specs.LineFeeds.{HasNoFeed}

@@ -8,7 +8,7 @@ use Rattle.mcs_shell.specs.Answers.{MayTell}
 use Rattle.mcs_shell.specs.Inputs.{Input}
 use Rattle.mcs_shell.specs.ServedPieces.{AnsweredInput}
 use Rattle.mcs_shell.specs.Transcript.{acknowledged_commands, is_device_fault, reached_commands}
-use Rattle.mcs_shell.specs.declared.outcome.Outcome.{Outcome}
+use Rattle.mcs_shell.specs.declared.ends.Outcome.{Outcome}
 use Rattle.mcs_shell.proofs.Looping.{leaves_under}
 
 -- what a session says of its disk as long as it is open

@@ -8,7 +8,7 @@ use Rattle.mcs_session.specs.StandsFor.{DiskStandsFor}
 use Rattle.mcs_shell.specs.Inputs.{Input}
 use Rattle.mcs_shell.specs.Serving.{LeavesSession}
 use Rattle.mcs_shell.specs.Transcript.{acknowledged_commands, answer, is_device_fault, reached_commands}
-use Rattle.mcs_shell.specs.declared.outcome.Outcome.{Outcome}
+use Rattle.mcs_shell.specs.declared.ends.Outcome.{Outcome}
 
 -- These bytes are the answer to some input, which the session met as it was `before`; what is there
 -- now is what that input left, and no call on the disk came after it. So a command that is answered

@@ -12,8 +12,8 @@ use Rattle.mcs_model.specs.RefusalNumbers.{bench_fault_number}
 use Rattle.mcs_model.specs.declared.refusal_numbers.TheConstants.{CLOSED, DAMAGED, DEVICE, NOT_A_SESSION, NOT_BLANK, NO_MEMORY}
 use Rattle.mcs_session.specs.declared.fault.SessionFault.{SessionFault}
 use Rattle.mcs_session.specs.declared.fault.SessionFault.TheVariants as session_fault
-use Rattle.mcs_shell.specs.declared.refusal.Refusal.{Refusal}
-use Rattle.mcs_shell.specs.declared.refusal.Refusal.TheVariants as refusal
+use Rattle.mcs_shell.specs.declared.faults.BeginFault.{BeginFault}
+use Rattle.mcs_shell.specs.declared.faults.BeginFault.TheVariants as begin_fault
 
 -- the numbers that refusals to record a command are reported as
 abbrev pub session_fault_number : SessionFault → ℕ
@@ -47,13 +47,13 @@ file_fault_number (file_fault.Stream streams) = DEVICE
 file_fault_number file_fault.Device = DEVICE
 file_fault_number file_fault.NoMemory = NO_MEMORY
 
--- the number that a refused session is reported as
-abbrev pub refusal_number : Refusal → ℕ
-refusal_number (refusal.File f) = file_fault_number f
-refusal_number (refusal.Create f) = create_fault_number f
-refusal_number (refusal.Open f) = open_fault_number f
+-- the number that it is reported as that no session was begun
+abbrev pub begin_fault_number : BeginFault → ℕ
+begin_fault_number (begin_fault.File f) = file_fault_number f
+begin_fault_number (begin_fault.Create f) = create_fault_number f
+begin_fault_number (begin_fault.Open f) = open_fault_number f
 
--- the standard streams that are the file of a refused session
-abbrev pub streams_of : Refusal → Streams
-streams_of (refusal.File (file_fault.Stream streams)) = streams
-streams_of refusal = none_of_them
+-- the standard streams that are the file of a session that was not begun
+abbrev pub streams_of : BeginFault → Streams
+streams_of (begin_fault.File (file_fault.Stream streams)) = streams
+streams_of fault = none_of_them

@@ -7,8 +7,8 @@ use Rattle.mcs_session.specs.KeptCommands.{IsOpenOnHonestDisk}
 use Rattle.mcs_session.specs.SessionState.{SessionState}
 use Rattle.mcs_session.specs.StandsFor.{DiskStandsFor}
 use Rattle.mcs_shell.specs.declared.ends.ShellEnd.{ShellEnd}
-use Rattle.mcs_shell.specs.declared.outcome.Outcome.{Outcome}
-use Rattle.mcs_shell.specs.declared.outcome.Outcome.TheVariants.{Plain, Device, Closed}
+use Rattle.mcs_shell.specs.declared.ends.Outcome.{Outcome}
+use Rattle.mcs_shell.specs.declared.ends.Outcome.TheVariants.{Plain, Device, Closed}
 use Rattle.mcs_shell.specs.Inputs.{Input}
 use Rattle.mcs_shell.specs.LineFeeds.{HasNoFeed}
 use Rattle.mcs_shell.specs.Pending.{Pending, inputs_after}

@@ -13,10 +13,10 @@ use Rattle.mcs_source.specs.declared.fault.SourceFault.{SourceFault}
 use Rattle.mcs_wiring.specs.RefusalNumbers.{wiring_fault_number}
 use Rattle.mcs_wiring.specs.Wiring.{board_of_text}
 use Rattle.mcs_wiring.specs.declared.fault.WiringFault.{WiringFault}
-use Rattle.mcs_shell.specs.declared.spelling.TextMeaning as code
-use Rattle.mcs_shell.specs.declared.spelling.TextMeaning.TheVariants as spelled
-use Rattle.mcs_shell.specs.declared.spelling.TextRefusal.{TextRefusal}
-use Rattle.mcs_shell.specs.declared.spelling.TextRefusal.TheVariants.{Wiring, Program}
+use Rattle.mcs_shell.specs.declared.texts.TextMeaning as code
+use Rattle.mcs_shell.specs.declared.texts.TextMeaning.TheVariants as spelled
+use Rattle.mcs_shell.specs.declared.texts.TextRefusal.{TextRefusal}
+use Rattle.mcs_shell.specs.declared.texts.TextRefusal.TheVariants.{Wiring, Program}
 use Rattle.mcs_lines.specs.declared.requests.TextKind.{TextKind}
 use Rattle.mcs_lines.specs.declared.requests.TextKind.TheVariants.{Wire, Asm, Map}
 use Rattle.mcs_answers.specs.AnswerTexts.{no_line_text, no_text}

@@ -13,9 +13,9 @@ use Rattle.mcs_answers.specs.AnswerTexts.{board_answer, listing_answer, no_text,
 use Rattle.mcs_answers.specs.AheadTexts.{count_answer, trace_answer}
 use Rattle.mcs_shell.specs.declared.ends.ShellEnd.{ShellEnd}
 use Rattle.mcs_shell.specs.declared.ends.ShellEnd.TheVariants.{WriteFault, DeviceFault}
-use Rattle.mcs_shell.specs.declared.outcome.Outcome.{Outcome}
-use Rattle.mcs_shell.specs.declared.outcome.Outcome.TheVariants.{Plain, Device, Closed, NoMemory}
-use Rattle.mcs_shell.specs.declared.spelling.TextRefusal.{TextRefusal}
+use Rattle.mcs_shell.specs.declared.ends.Outcome.{Outcome}
+use Rattle.mcs_shell.specs.declared.ends.Outcome.TheVariants.{Plain, Device, Closed, NoMemory}
+use Rattle.mcs_shell.specs.declared.texts.TextRefusal.{TextRefusal}
 use Rattle.mcs_shell.specs.Inputs.{Input, Line, Text, BadText}
 use Rattle.mcs_shell.specs.TextNumbers.{text_fault_number}
 use Rattle.mcs_shell.specs.Spelling.{TextMeaning, Does, Tells, meaning_of_text, text_refusal}

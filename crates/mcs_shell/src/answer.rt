@@ -11,8 +11,8 @@ ghost use Rattle.mcs_shell.specs.Faults.{CountsKnownFault};
 ghost use Rattle.mcs_shell.specs.Spelling.{text_refusal};
 
 use crate::sending::WriteStopped;
-use crate::spelling::TextRefusal;
 use crate::streams::AnswerSink;
+use crate::texts::TextRefusal;
 use arrayvec::ArrayVec;
 use mcs_ahead::{PROBES, Probe};
 use mcs_answers::{

@@ -8,10 +8,9 @@ ghost use Rattle.mcs_shell.specs.Inputs.{Line, judged_text};
 ghost use Rattle.mcs_shell.specs.ServedPieces.{AnsweredInput, outcome_of};
 
 use crate::answer::Answer;
+use crate::ends::Outcome;
 use crate::faults::session_number;
-use crate::outcome::Outcome;
-use crate::spelling::{TextMeaning, read_text};
-use crate::texts::{as_text, text_fault};
+use crate::texts::{TextMeaning, as_text, read_text, text_fault};
 use mcs_disk::Disk;
 use mcs_lines::requests::{Request, TextKind};
 use mcs_model::command::Command;

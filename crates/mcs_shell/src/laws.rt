@@ -6,7 +6,7 @@ ghost use Rattle.mcs_lines.specs.LineRequests.{request_of};
 ghost use Rattle.mcs_lines.specs.declared.requests.Request.TheVariants.{Begin};
 ghost use Rattle.mcs_lines.specs.declared.requests.TextKind.{TextKind};
 ghost use Rattle.mcs_lines.specs.declared.requests.TextKind.TheVariants.{Asm, Map};
-ghost use Rattle.mcs_shell.specs.declared.spelling.TextRefusal.{TextRefusal};
+ghost use Rattle.mcs_shell.specs.declared.texts.TextRefusal.{TextRefusal};
 ghost use Rattle.mcs_shell.specs.declared.texts.TextFault.TheVariants.{NoEnd};
 ghost use Rattle.mcs_shell.specs.Inputs.{BadText, Text, inputs_of_lines, is_dot_line, judged_text};
 ghost use Rattle.mcs_shell.specs.Spelling.{meaning_of_text};

@@ -8,14 +8,14 @@ ghost use Rattle.mcs_host.specs.declared.file_disk.FileDisk.{FileDisk};
 ghost use Rattle.mcs_host.specs.declared.file_fault.FileFault.{FileFault};
 ghost use Rattle.mcs_shell.specs.Faults.{streams_view};
 ghost use Rattle.mcs_shell.specs.Program.{IsBegunOn, IsRefusedBy, RanTo, RanWithStatus, ServedChosenSession, ServedBySomeArguments, ServedSession};
-ghost use Rattle.mcs_shell.specs.RefusalNumbers.{refusal_number};
+ghost use Rattle.mcs_shell.specs.RefusalNumbers.{begin_fault_number};
 
 use crate::ends::{ShellEnd, status};
-use crate::refusal::Refusal;
+use crate::faults::BeginFault;
 use crate::shell::run_shell;
 use crate::streams::{AnswerSink, InputSource};
 use crate::telling::{
-    tell_end, tell_no_memory, tell_no_stand_in, tell_opening, tell_refusal, tell_streams,
+    tell_end, tell_no_memory, tell_no_session, tell_no_stand_in, tell_opening, tell_streams,
     tell_usage,
 };
 use mcs_disk::Disk;
@@ -98,7 +98,7 @@ pub fn refuse_arguments(rt: &HostRuntime, fault: ArgumentsFault) -> io::Result<E
 #[derive(Drop)]
 pub struct Refused<D: Disk + Drop> {
     /// Why.
-    pub refusal: Refusal,
+    pub fault: BeginFault,
     /// The disk that was opened for it, as the refusal left it; `None` where none was.
     pub disk: Option<D>,
 }
@@ -114,15 +114,15 @@ pub fn session_on<D: Disk + Drop>(
         IsBegunOn D.state choice.now disk session)) }
     ensures refused { IfOk opened (λ disk. IfErr result (λ refused.
         IsSomeAnd refused.disk (λ left. IsRefusedBy choice.now (D.state disk) (D.state left)
-        (refusal_number refused.refusal)))) }
+        (begin_fault_number refused.fault)))) }
     ensures unopened { IfErr opened (λ fault.
-        IsErrAnd result (λ refused. refused.refusal ≡ Refusal.File fault)) }
+        IsErrAnd result (λ refused. refused.fault ≡ BeginFault.File fault)) }
 {
     let disk = match opened {
         Ok(disk) => disk,
         Err(fault) => {
             return Err(Refused {
-                refusal: Refusal::File(fault),
+                fault: BeginFault::File(fault),
                 disk: None,
             });
         }
@@ -131,14 +131,14 @@ pub fn session_on<D: Disk + Drop>(
         Choice::New(_) => match Session::create(alloc, disk) {
             Ok(session) => Ok(session),
             Err((fault, left)) => Err(Refused {
-                refusal: Refusal::Create(fault),
+                fault: BeginFault::Create(fault),
                 disk: Some(left),
             }),
         },
         Choice::Open(_) => match Session::open(alloc, disk) {
             Ok(session) => Ok(session),
             Err((fault, left)) => Err(Refused {
-                refusal: Refusal::Open(fault),
+                fault: BeginFault::Open(fault),
                 disk: Some(left),
             }),
         },
@@ -150,10 +150,10 @@ pub fn session_in(rt: &HostRuntime, choice: &Choice) -> Result<Session<FileDisk>
     ensures begun { IfOk result (λ session. (disk : FileDisk) × IsOpened (as_disk disk)
         × IsBegunOn as_disk choice.now disk session) }
     ensures refused { IfErr result (λ refused.
-        ((fault : FileFault) × (refused.refusal ≡ Refusal.File fault))
+        ((fault : FileFault) × (refused.fault ≡ BeginFault.File fault))
         ⊎ ((disk : FileDisk) × IsOpened (as_disk disk)
         × IsSomeAnd refused.disk (λ left. IsRefusedBy choice.now (as_disk disk) (as_disk left)
-        (refusal_number refused.refusal)))) }
+        (begin_fault_number refused.fault)))) }
 {
     let alloc = rt.alloc();
     let make = matches!(choice, Choice::New(_));
@@ -227,9 +227,9 @@ pub fn serve_begun<R: InputSource, W: AnswerSink, D: Disk + Drop>(
             }
         }
         Err(refused) => {
-            let refusal = refused.refusal;
-            let status = refuse_beside(rt, refusal.number(), refusal.streams());
-            tell_refusal(rt, choice, refusal);
+            let fault = refused.fault;
+            let status = refuse_beside(rt, fault.number(), fault.streams());
+            tell_no_session(rt, choice, fault);
             Ended {
                 status,
                 session: None,

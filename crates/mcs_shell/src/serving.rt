@@ -13,8 +13,7 @@ ghost use Rattle.mcs_shell.specs.Transcript.{halt_of};
 
 use crate::answer::Answer;
 use crate::answering::{answer_request, answer_text};
-use crate::ends::ShellEnd;
-use crate::outcome::Outcome;
+use crate::ends::{Outcome, ShellEnd};
 use crate::sending::WriteStopped;
 use crate::streams::AnswerSink;
 use crate::texts::{TextFault, ends_text};

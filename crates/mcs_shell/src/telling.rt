@@ -2,7 +2,7 @@
 //! the usage. What could not be written there is not told elsewhere. Standard output and the exit
 //! status are those without it.
 use crate::ends::ShellEnd;
-use crate::refusal::Refusal;
+use crate::faults::BeginFault;
 use mcs_host::{Choice, FileDisk, FileFault, Streams};
 use mcs_journal::CreateFault;
 use std::io;
@@ -45,23 +45,23 @@ pub fn tell_opening(rt: &HostRuntime, file: &str, opened: &Result<FileDisk, File
 
 /// A line on a refused session: what is wrong with its file, and what to do; nothing where standard
 /// error is that file.
-pub fn tell_refusal(rt: &HostRuntime, choice: &Choice, refusal: Refusal) {
-    if refusal.streams().errors {
+pub fn tell_no_session(rt: &HostRuntime, choice: &Choice, fault: BeginFault) {
+    if fault.streams().errors {
         return;
     }
     let file = choice.file();
     // Where standard error takes nothing, the number that standard output got has to do.
-    let _ = match (choice, refusal) {
-        (Choice::Open(_), Refusal::File(FileFault::NotThere)) if has_folder(rt, file) => {
+    let _ = match (choice, fault) {
+        (Choice::Open(_), BeginFault::File(FileFault::NotThere)) if has_folder(rt, file) => {
             eprintln!(rt; "mcs4: {file}: no such file; begin a session with: mcs4 new {file}")
         }
-        (_, Refusal::Create(CreateFault::NotBlank)) => eprintln!(rt;
+        (_, BeginFault::Create(CreateFault::NotBlank)) => eprintln!(rt;
             "mcs4: {file}: not blank, so no session is made in it; remove it, or go on with: mcs4 open {file}"
         ),
-        (_, Refusal::File(FileFault::NotThere)) => {
+        (_, BeginFault::File(FileFault::NotThere)) => {
             eprintln!(rt; "mcs4: {file}: no such folder; make it first")
         }
-        (_, refusal) => eprintln!(rt; "mcs4: {file}: {refusal}"),
+        (_, fault) => eprintln!(rt; "mcs4: {file}: {fault}"),
     };
 }
 

@@ -1,6 +1,6 @@
 -- What a source text assembles to: the (address, byte) pairs that its lines spell, or its first
 -- fault. (Our own choice.) Each definition speaks of line i in the list of all lines. Lines count
--- from 0 here, and from 1 in a fault. Faults go by their numbers, 30 to 37 (`Refusal`).
+-- from 0 here, and from 1 in a fault. Faults go by their numbers, 30 to 37 (`RefusalNumbers`).
 use Rattle.std.specs.Prelude.{ℕ, zero, suc, ◌+◌, slice_index_or, ◌/◌, ◌%◌, Bool, true, false, not, ◌&&◌, ◌||◌, List, [], ◌∷◌, length, map, find, Option, Some, None, is_some, option_map, Result, Ok, Err, nat_lt, nat_le, ◌==◌, if◌then◌else◌}
 use Rattle.std.specs.List.{list_any, list_all, flat_map, filter_map, range_with_len}
 use Rattle.std.specs.Str.{bytes_eq}

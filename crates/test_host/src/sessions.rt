@@ -24,7 +24,7 @@ pub(crate) fn chosen(alloc: Global, subcommand: &str, path: &str) -> Option<Choi
 fn begun(rt: &HostRuntime, choice: &Choice) -> Result<Session<FileDisk>, u8> {
     match session_in(rt, choice) {
         Ok(session) => Ok(session),
-        Err(refused) => Err(refused.refusal.number()),
+        Err(refused) => Err(refused.fault.number()),
     }
 }
 

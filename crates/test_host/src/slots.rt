@@ -132,7 +132,7 @@ fn refused_once_cut(rt: &HostRuntime, path: &str, file: &[u8], size: usize) -> O
     }
     match session_on(rt.alloc(), &choice, opened) {
         Ok(_) => None,
-        Err(refused) => Some(refused.refusal.number()),
+        Err(refused) => Some(refused.fault.number()),
     }
 }
 

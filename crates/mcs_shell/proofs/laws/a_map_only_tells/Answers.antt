@@ -4,7 +4,7 @@ use Rattle.mcs_model.specs.TextLines.{lines_of}
 use Rattle.mcs_source.specs.declared.fault.SourceFault.{SourceFault}
 use Rattle.mcs_source.specs.Assembly.{assembly_of_text, read}
 use Rattle.mcs_source.specs.Survey.{Survey, survey_of}
-use Rattle.mcs_shell.specs.declared.spelling.TextRefusal.{TextRefusal}
+use Rattle.mcs_shell.specs.declared.texts.TextRefusal.{TextRefusal}
 use Rattle.mcs_shell.specs.Spelling.{Does, load_command, program_map, meaning_of_text}
 use Rattle.mcs_shell.specs.Transcript.{text_command}
 use Rattle.mcs_shell.proofs.laws.a_map_only_tells.Goals as goal

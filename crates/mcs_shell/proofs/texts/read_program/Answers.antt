@@ -1,6 +1,6 @@
 use Rattle.mcs_source.specs.Assembly.{assembly_of_text}
 use Rattle.mcs_shell.proofs.ByAddress.{loads}
-use Rattle.mcs_shell.proofs.spelling.read_program.Goals as goal
+use Rattle.mcs_shell.proofs.texts.read_program.Goals as goal
 
 pub returns-in-Ok : goal.returns-in-Ok
 returns-in-Ok c = loads c.in-Ok.image (assembly_of_text c.args.text.now) c.in-Ok.ensures
