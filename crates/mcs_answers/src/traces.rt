@@ -343,42 +343,60 @@ fn came_to(bench: &Bench, cycles: u32, mark: Option<Stop>, lines: u32) -> Traced
     }
 }
 
-/// Adds the line of the instruction that the last cycle began, where it is told; whether it was. The row before it
-/// becomes the one after it. What stood in `spare` is lost.
+/// The last row, and room for the next one.
+#[derive(Drop)]
+struct Rows {
+    last: ArrayVec<u8, ANSWER_BYTES>,
+    next: ArrayVec<u8, ANSWER_BYTES>,
+}
+
+/// The row of a bench, before any instruction is told.
+fn first_row(probes: &[Probe], bench: &Bench) -> Rows
+    requires { length probes.now ≤ PROBES }
+    ensures { result.last.items ≡ row probes.now (machine_of bench.now) }
+{
+    let mut last = ArrayVec::new();
+    put_row(&mut last, probes, bench);
+    Rows {
+        last,
+        next: ArrayVec::new(),
+    }
+}
+
+/// Adds the line of the instruction that the last cycle began, where it is told; whether it was. The last row becomes the
+/// one after it.
 fn add_told(
     text: &mut Vec<u8>,
-    before: &mut ArrayVec<u8, ANSWER_BYTES>,
-    spare: &mut ArrayVec<u8, ANSWER_BYTES>,
+    rows: &mut Rows,
     cycles: u32,
     at: Addr,
     probes: &[Probe],
     bench: &Bench,
 ) -> Result<bool, AllocError>
     requires { length probes.now ≤ PROBES }
-    ensures row { IfOk result (λ _. before.new.items ≡ row probes.now (machine_of bench.now)) }
+    ensures row { IfOk result (λ _. rows.new.last.items ≡ row probes.now (machine_of bench.now)) }
     ensures told { IfOk result (λ told. told
-        ≡ is_told probes.now before.old.items (row probes.now (machine_of bench.now))) }
+        ≡ is_told probes.now rows.old.last.items (row probes.now (machine_of bench.now))) }
     ensures text { IfOk result (λ told. text.new.items ≡ text.old.items ++ flat_map as_line
         (line_when told cycles at (row probes.now (machine_of bench.now)))) }
 {
-    spare.clear();
-    put_row(spare, probes, bench);
-    if probes.is_empty() || spare.as_slice() != before.as_slice() {
-        add_line(text, before, cycles, at, spare.as_slice())?;
-        before.clear();
-        put(before, spare.as_slice());
+    rows.next.clear();
+    put_row(&mut rows.next, probes, bench);
+    if probes.is_empty() || rows.next.as_slice() != rows.last.as_slice() {
+        add_line(text, &mut rows.last, cycles, at, rows.next.as_slice())?;
+        rows.last.clear();
+        put(&mut rows.last, rows.next.as_slice());
         return Ok(true);
     }
     Ok(false)
 }
 
 /// Adds the line of a cycle that was begun at an address, where it has one; how many it added: none where a cycle was owed.
-/// The row before it becomes the one after it. A call, since a row is seldom made.
+/// The last row becomes the one after it. A call, since a row is seldom made.
 #[inline(never)]
 fn add_began(
     text: &mut Vec<u8>,
-    before: &mut ArrayVec<u8, ANSWER_BYTES>,
-    spare: &mut ArrayVec<u8, ANSWER_BYTES>,
+    rows: &mut Rows,
     cycles: u32,
     owed: u8,
     at: Addr,
@@ -386,34 +404,33 @@ fn add_began(
     bench: &Bench,
 ) -> Result<u32, AllocError>
     requires { length probes.now ≤ PROBES }
-    ensures row { IfOk result (λ _. before.new.items ≡ row probes.now (machine_of bench.now)) }
+    ensures row { IfOk result (λ _. rows.new.last.items ≡ row probes.now (machine_of bench.now)) }
     ensures lines { IfOk result (λ lines. lines ≡ length (cycle_lines probes.now owed cycles
-        at before.old.items (row probes.now (machine_of bench.now)))) }
+        at rows.old.last.items (row probes.now (machine_of bench.now)))) }
     ensures text { IfOk result (λ _. text.new.items ≡ text.old.items ++ flat_map as_line
-        (cycle_lines probes.now owed cycles at before.old.items
+        (cycle_lines probes.now owed cycles at rows.old.last.items
         (row probes.now (machine_of bench.now)))) }
 {
-    if !probes.is_empty() && stands(before.as_slice(), probes, bench) {
+    if !probes.is_empty() && stands(rows.last.as_slice(), probes, bench) {
         return Ok(0);
     }
     if owed != 0 {
-        before.clear();
-        put_row(before, probes, bench);
+        rows.last.clear();
+        put_row(&mut rows.last, probes, bench);
         return Ok(0);
     }
-    if add_told(text, before, spare, cycles, at, probes, bench)? {
+    if add_told(text, rows, cycles, at, probes, bench)? {
         return Ok(1);
     }
     Ok(0)
 }
 
-/// Adds the line of an instruction that led from these registers to a bench, where it has one; how many it added. The row
-/// before it becomes the one after it. It may be told that they are the same.
+/// Adds the line of an instruction that led from these registers to a bench, where it has one; how many it added. The last
+/// row becomes the one after it. It may be told that they are the same.
 #[inline(always)]
 fn add_went(
     text: &mut Vec<u8>,
-    before: &mut ArrayVec<u8, ANSWER_BYTES>,
-    spare: &mut ArrayVec<u8, ANSWER_BYTES>,
+    rows: &mut Rows,
     cycles: u32,
     regs: &Regs,
     rests: bool,
@@ -421,20 +438,18 @@ fn add_went(
     bench: &Bench,
 ) -> Result<u32, AllocError>
     requires room { length probes.now ≤ PROBES }
-    requires same { rests ≡ true → before.old.items ≡ row probes.now (machine_of bench.now) }
-    ensures row { IfOk result (λ _. before.new.items ≡ row probes.now (machine_of bench.now)) }
+    requires same { rests ≡ true → rows.old.last.items ≡ row probes.now (machine_of bench.now) }
+    ensures row { IfOk result (λ _. rows.new.last.items ≡ row probes.now (machine_of bench.now)) }
     ensures lines { IfOk result (λ lines. lines ≡ length (cycle_lines probes.now regs.now.owed cycles
-        regs.now.pc before.old.items (row probes.now (machine_of bench.now)))) }
+        regs.now.pc rows.old.last.items (row probes.now (machine_of bench.now)))) }
     ensures text { IfOk result (λ _. text.new.items ≡ text.old.items ++ flat_map as_line
-        (cycle_lines probes.now regs.now.owed cycles regs.now.pc before.old.items
+        (cycle_lines probes.now regs.now.owed cycles regs.now.pc rows.old.last.items
         (row probes.now (machine_of bench.now)))) }
 {
     if rests && !probes.is_empty() {
         return Ok(0);
     }
-    add_began(
-        text, before, spare, cycles, regs.owed, regs.pc, probes, bench,
-    )
+    add_began(text, rows, cycles, regs.owed, regs.pc, probes, bench)
 }
 
 /// Adds a line for each instruction of a run of at most `n` cycles after which another row stands at the places. It is told
@@ -452,30 +467,17 @@ fn add_lines<const REGISTERS: bool>(
     requires seen { SeesAll seen.now probes.now }
     ensures { IfOk result (λ traced. IsTraced probes.now n bench.now traced text.new.items) }
 {
+    let mut rows = first_row(probes, bench);
     let mut lines = 0u32;
-    let mut before = ArrayVec::new();
-    let mut spare = ArrayVec::new();
-    put_row(&mut before, probes, bench);
     let mut copy = bench.copy(alloc)?;
     let mut done = 0;
     while done < n {
         let regs = copy.regs();
         match copy.go_on(n - done) {
-            None => {
-                return Ok(came_to(&copy, done, None, lines));
-            }
+            None => return Ok(came_to(&copy, done, None, lines)),
             Some(went) => {
                 let rests = row_stays::<REGISTERS>(probes, seen, went.op, &regs, &copy.regs());
-                lines += add_went(
-                    text,
-                    &mut before,
-                    &mut spare,
-                    done,
-                    &regs,
-                    rests,
-                    probes,
-                    &copy,
-                )?;
+                lines += add_went(text, &mut rows, done, &regs, rests, probes, &copy)?;
                 done += went.cycles;
                 if let Some(why) = went.mark {
                     return Ok(came_to(&copy, done, Some(why), lines));

@@ -37,9 +37,9 @@ fn push_source_line(out: &mut String, at: Addr, bytes: &[u8]) -> Result<usize, A
     Ok(size)
 }
 
-/// Writes the listed line of the piece in front, and tells how many bytes it has.
+/// Writes the line of a listing of the piece in front, and tells how many bytes it has.
 #[tactic(auto, using(crate::proofs::Loops::front_fits, crate::proofs::Loops::front_some))]
-fn push_listed_line(out: &mut String, at: Addr, bytes: &[u8]) -> Result<usize, AllocError>
+fn push_listing_line(out: &mut String, at: Addr, bytes: &[u8]) -> Result<usize, AllocError>
     requires { 0 < length bytes.now }
     ensures size { IfOk result (λ n. n ≡ piece_size (op_in_front bytes.now)) }
     ensures within { IfOk result (λ n. (0 < n) × (n ≤ length bytes.now)) }
@@ -69,7 +69,7 @@ pub fn listing(alloc: Global, rom: &[u8], from: Addr, lines: usize) -> Result<St
         if rest.is_empty() {
             return Ok(out);
         }
-        let size = push_listed_line(&mut out, Addr::ZERO.plus(at), rest)?;
+        let size = push_listing_line(&mut out, Addr::ZERO.plus(at), rest)?;
         rest = &rest[size..];
         at += size as u16;
     }

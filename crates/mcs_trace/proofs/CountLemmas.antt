@@ -43,6 +43,10 @@ counted-by stops n s t k c ran e runs jumps = record {
   jumps = subst (λ j. IsTally c.jumps.items (jumps_at (begun_within j s))) ran.cycles jumps;
 }
 
+-- a tally that was handed on
+pub same-tally : (s : Machine) (k : ℕ) (xs ys : List ℕ) (p : ℕ → Begun → Bool) → ys ≡ xs → IsTally xs (λ a. count_by (p a) (begun_within k s)) → IsTally ys (λ a. count_by (p a) (begun_within k s))
+same-tally s k xs ys p e t = subst (λ v. IsTally v (λ a. count_by (p a) (begun_within k s))) (sym e) t
+
 -- no number is more than the cycles that were done
 pub tally-few : (k : ℕ) (s : Machine) (xs : List ℕ) (p : ℕ → Begun → Bool) (at : ℕ) → at < 4096 → IsTally xs (λ a. count_by (p a) (begun_within k s)) → slice_index xs at ≤ k
 tally-few k s xs p at l t = let e = t.each at l in let f = counted-few k s (p at) in omega arith

@@ -1,6 +1,7 @@
 //! How often each address is begun at.
 ghost use Rattle.std.specs.Prelude.{◌≡◌, ◌<◌, ◌+◌, ◌%◌, ◌==◌, ◌&&◌, not, IfOk, length, slice_index, slice_set, replicate};
 ghost use Rattle.mcs_model.specs.Command.{machine_of, stops_of};
+ghost use Rattle.mcs_bench.specs.Runs.{stop_by};
 ghost use Rattle.mcs_trace.specs.Counted.{IsCounted, with_one};
 
 use mcs_bench::Bench;
@@ -58,6 +59,27 @@ fn note(runs: &mut Vec<u32>, jumps: &mut Vec<u32>, before: &Regs, after: &Regs)
     }
 }
 
+/// What was counted of a run that came to a bench, by what stopped it but for a code outside and its end.
+fn counts_of(
+    bench: &Bench,
+    cycles: u32,
+    mark: Option<Stop>,
+    runs: Vec<u32>,
+    jumps: Vec<u32>,
+) -> Counts
+    ensures cycles { result.cycles ≡ cycles }
+    ensures stop { result.stop ≡ stop_by (machine_of bench.now) mark }
+    ensures runs { result.runs.items ≡ runs.items }
+    ensures jumps { result.jumps.items ≡ jumps.items }
+{
+    Counts {
+        cycles,
+        stop: bench.stop_by(mark),
+        runs,
+        jumps,
+    }
+}
+
 /// Counts what a run of at most `n` cycles would begin.
 pub fn count_run(alloc: Global, n: u32, bench: &Bench) -> Result<Counts, AllocError>
     ensures { IfOk result (λ counts. IsCounted (stops_of bench.now) n (machine_of bench.now) counts) }
@@ -71,32 +93,15 @@ pub fn count_run(alloc: Global, n: u32, bench: &Bench) -> Result<Counts, AllocEr
         // (its range is a fact once it is read)
         let _at = before.pc.get();
         match copy.go_on(n - done) {
-            None => {
-                return Ok(Counts {
-                    cycles: done,
-                    stop: copy.stop_by(None),
-                    runs,
-                    jumps,
-                });
-            }
+            None => return Ok(counts_of(&copy, done, None, runs, jumps)),
             Some(went) => {
                 note(&mut runs, &mut jumps, &before, &copy.regs());
                 done += went.cycles;
                 if let Some(why) = went.mark {
-                    return Ok(Counts {
-                        cycles: done,
-                        stop: copy.stop_by(Some(why)),
-                        runs,
-                        jumps,
-                    });
+                    return Ok(counts_of(&copy, done, Some(why), runs, jumps));
                 }
             }
         }
     }
-    Ok(Counts {
-        cycles: n,
-        stop: copy.stop_by(None),
-        runs,
-        jumps,
-    })
+    Ok(counts_of(&copy, n, None, runs, jumps))
 }

@@ -1,4 +1,4 @@
-use Rattle.std.proofs.Common.{◌≡◌, ◌∙◌, ◌+◌, ◌-◌, ◌++◌, ℕ, None, sym, ap, subst, arith, length}
+use Rattle.std.proofs.Common.{◌≡◌, ◌∙◌, ◌+◌, ◌-◌, ℕ, None, sym, ap, subst, arith, length}
 use Rattle.mcs_model.specs.BenchState.{BenchState}
 use Rattle.mcs_model.specs.Command.{machine_of, stops_of}
 use Rattle.mcs_model.specs.Running.{Machine, Stops}
@@ -20,7 +20,7 @@ loop-done-init g c =
       going = subst (λ (x : BenchState). GoesOn (stops_of b) c.args.n 0 s (machine_of x)) (sym c.in_ok-copy.ensures) (begins (stops_of b) c.args.n s);
       stops = ap stops_of c.in_ok-copy.ensures;
       told = record {
-        row_now = c.put_row.ensures.text ∙ ap (λ v. v ++ row probes s) c.new-before.ensures ∙ sym (ap (λ (x : BenchState). row probes (machine_of x)) c.in_ok-copy.ensures);
+        row_now = c.first_row-rows.ensures ∙ sym (ap (λ (x : BenchState). row probes (machine_of x)) c.in_ok-copy.ensures);
         so_far = c.requires.empty ∙ sym (ap lines_text none);
         count = sym (ap length none);
         few = omega arith;
@@ -61,7 +61,7 @@ returns-in-Some-mark g c =
     let going = c.loop-done.invariant.going in
     let went : WentTo (stops_of b) (n - k) t u w = subst (λ (x : Stops). WentTo x (n - k) t u w) c.loop-done.invariant.stops c.in-Some.ensures.went in
     let ran = went-stops (stops_of b) n k s t u w c.in-Some-mark.why going went c.loop-done-test.true c.in-Some-mark.is in
-    let told = told-more c.args.probes.now (n - k) k w.cycles s t u c.regs-regs.result c.loop-done.before.items c.loop-done.text.items c.add_went.new.before.items c.add_went.new.text.items c.loop-done.lines c.in_ok-lines-in-Some.field-0 going.at went.ran went.some c.regs-regs.ensures.same c.loop-done.invariant.told c.in_ok-lines-in-Some.ensures.row c.in_ok-lines-in-Some.ensures.lines c.in_ok-lines-in-Some.ensures.text in
+    let told = told-more c.args.probes.now (n - k) k w.cycles s t u c.regs-regs.result c.loop-done.rows.last.items c.loop-done.text.items c.add_went.new.rows.last.items c.add_went.new.text.items c.loop-done.lines c.in_ok-lines-in-Some.field-0 going.at went.ran went.some c.regs-regs.ensures.same c.loop-done.invariant.told c.in_ok-lines-in-Some.ensures.row c.in_ok-lines-in-Some.ensures.lines c.in_ok-lines-in-Some.ensures.text in
     let came = c.came_to-in-Some-mark in
     told-by c.args.probes.now n b u (k + w.cycles) came.result c.add_went.new.text.items
     (ends (stops_of b) n (k + w.cycles) s u w.mark came.result.stop ran (came.ensures.stop ∙ ap (stop_by u) (sym c.in-Some-mark.is))) came.ensures.cycles (came.ensures.lines ∙ told.count) told.so_far
@@ -80,7 +80,7 @@ loop-done-preserved g c =
     record {
       going = went-goes (stops_of b) n k s t u w going went c.loop-done-test.true c.in_default.is;
       stops = ap stops_of c.go_on.ensures.rest ∙ c.loop-done.invariant.stops;
-      told = told-more c.args.probes.now (n - k) k w.cycles s t u c.regs-regs.result c.loop-done.before.items c.loop-done.text.items c.add_went.new.before.items c.add_went.new.text.items c.loop-done.lines c.in_ok-lines-in-Some.field-0 going.at went.ran went.some c.regs-regs.ensures.same c.loop-done.invariant.told c.in_ok-lines-in-Some.ensures.row c.in_ok-lines-in-Some.ensures.lines c.in_ok-lines-in-Some.ensures.text;
+      told = told-more c.args.probes.now (n - k) k w.cycles s t u c.regs-regs.result c.loop-done.rows.last.items c.loop-done.text.items c.add_went.new.rows.last.items c.add_went.new.text.items c.loop-done.lines c.in_ok-lines-in-Some.field-0 going.at went.ran went.some c.regs-regs.ensures.same c.loop-done.invariant.told c.in_ok-lines-in-Some.ensures.row c.in_ok-lines-in-Some.ensures.lines c.in_ok-lines-in-Some.ensures.text;
     }
 
 pub returns : goal.returns

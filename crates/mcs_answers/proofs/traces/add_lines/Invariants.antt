@@ -8,7 +8,7 @@ abbrev pub invariant-loop-done : goal.invariant-loop-done
 invariant-loop-done g l = record {
   going : GoesOn (stops_of l.fn.bench) l.n l.done (machine_of l.fn.bench) (machine_of l.copy);
   stops : stops_of l.copy ≡ stops_of l.fn.bench;
-  told : Told l.probes l.done (machine_of l.fn.bench) (machine_of l.copy) l.before.items l.text.items l.lines;
+  told : Told l.probes l.done (machine_of l.fn.bench) (machine_of l.copy) l.rows.last.items l.text.items l.lines;
 }
 
 abbrev pub decreases-loop-done : goal.decreases-loop-done

@@ -24,7 +24,7 @@ loop-line-preserved c =
     let full : eqb (length c.loop-line.rest.now) 0 ≡ false = sym c.is_empty.ensures ∙ c.if-is_empty.false in
     let some : 0 < length c.loop-line.rest.now = omega (arith, eqb-false _ _ full) in
     let here : c.plus.result ≡ c.loop-line.at = omega (arith, c.plus.ensures, c.loop-line.invariant.in_rom) in
-    next_listed (listing_text c.args.rom.now c.args.from c.args.lines) (string_bytes c.loop-line.out) (string_bytes c.push_listed_line.new.out) c.loop-line.rest.now c.args.lines c.loop-line._line c.loop-line.at c.in_ok-size.size c.plus.result
+    next_listed (listing_text c.args.rom.now c.args.from c.args.lines) (string_bytes c.loop-line.out) (string_bytes c.push_listing_line.new.out) c.loop-line.rest.now c.args.lines c.loop-line._line c.loop-line.at c.in_ok-size.size c.plus.result
     c.loop-line-test.true some c.loop-line.invariant here c.in_ok-size.ensures.size c.in_ok-size.ensures.line
 
 pub returns : goal.returns

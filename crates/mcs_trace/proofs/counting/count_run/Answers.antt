@@ -1,4 +1,4 @@
-use Rattle.std.proofs.Common.{◌≡◌, ◌∙◌, ◌+◌, ◌-◌, ℕ, ◌&&◌, None, refl, sym, ap, subst, arith}
+use Rattle.std.proofs.Common.{◌≡◌, ◌∙◌, ◌+◌, ◌-◌, ℕ, ◌&&◌, None, sym, ap, subst, arith}
 use Rattle.mcs_model.specs.BenchState.{BenchState}
 use Rattle.mcs_model.specs.Command.{machine_of, stops_of}
 use Rattle.mcs_model.specs.Running.{Machine, Stops}
@@ -6,7 +6,7 @@ use Rattle.mcs_bench.specs.declared.running.Went.{Went}
 use Rattle.mcs_bench.specs.Runs.{GoesOn, WentTo, stop_by}
 use Rattle.mcs_bench.proofs.Runs.{begins, ends, goes-full, goes-out, went-goes, went-stops}
 use Rattle.mcs_ahead.specs.Ahead.{is_at, jumps}
-use Rattle.mcs_trace.proofs.CountLemmas.{counted-by, tally-few, tally-none, runs-next, jumps-next}
+use Rattle.mcs_trace.proofs.CountLemmas.{counted-by, same-tally, tally-few, tally-none, runs-next, jumps-next}
 use Rattle.mcs_trace.proofs.counting.count_run.Goals as goal
 
 pub loop-done-init : goal.loop-done-init
@@ -40,9 +40,10 @@ returns-in-None c =
     let t : Machine = machine_of c.loop-done.copy in
     let counting = c.loop-done.invariant.counting in
     let told = c.in-None.ensures.went in
-    let stop = c.stop_by.ensures ∙ ap (λ (x : BenchState). stop_by (machine_of x) None) told.1 in
-    counted-by (stops_of b) c.args.n s t k _ (ends (stops_of b) c.args.n k s t None c.stop_by.result (goes-out (stops_of b) c.args.n k s t counting.going told.0) stop) refl
-    counting.run_tally counting.jump_tally
+    let came = c.counts_of in
+    let stop = came.ensures.stop ∙ ap (λ (x : BenchState). stop_by (machine_of x) None) told.1 in
+    counted-by (stops_of b) c.args.n s t k came.result (ends (stops_of b) c.args.n k s t None came.result.stop (goes-out (stops_of b) c.args.n k s t counting.going told.0) stop) came.ensures.cycles
+    (same-tally s k _ _ (λ a. is_at a) came.ensures.runs counting.run_tally) (same-tally s k _ _ (λ a x. is_at a x && jumps x) came.ensures.jumps counting.jump_tally)
 
 pub returns-in-Some-mark : goal.returns-in-Some-mark
 returns-in-Some-mark c =
@@ -56,9 +57,10 @@ returns-in-Some-mark c =
     let counting = c.loop-done.invariant.counting in
     let went : WentTo (stops_of b) (n - k) t u w = subst (λ (x : Stops). WentTo x (n - k) t u w) c.loop-done.invariant.stops c.in-Some.ensures.went in
     let ran = went-stops (stops_of b) n k s t u w c.in-Some-mark.why counting.going went c.loop-done-test.true c.in-Some-mark.is in
-    counted-by (stops_of b) n s u (k + w.cycles) _ (ends (stops_of b) n (k + w.cycles) s u w.mark c.stop_by-in-Some-mark.result ran (c.stop_by-in-Some-mark.ensures ∙ ap (stop_by u) (sym c.in-Some-mark.is))) refl
-    (runs-next (n - k) k w.cycles s t u c.regs-before.result c.loop-done.runs.items c.note.new.runs.items counting.going.at went.ran went.some c.regs-before.ensures.same (omega arith) c.note.ensures.runs counting.run_tally)
-    (jumps-next (n - k) k w.cycles s t u c.regs-before.result c.regs.result c.loop-done.jumps.items c.note.new.jumps.items counting.going.at went.ran went.some c.regs-before.ensures.same c.regs.ensures.same (omega arith) c.note.ensures.jumps counting.jump_tally)
+    let came = c.counts_of-in-Some-mark in
+    counted-by (stops_of b) n s u (k + w.cycles) came.result (ends (stops_of b) n (k + w.cycles) s u w.mark came.result.stop ran (came.ensures.stop ∙ ap (stop_by u) (sym c.in-Some-mark.is))) came.ensures.cycles
+    (same-tally s (k + w.cycles) _ _ (λ a. is_at a) came.ensures.runs (runs-next (n - k) k w.cycles s t u c.regs-before.result c.loop-done.runs.items c.note.new.runs.items counting.going.at went.ran went.some c.regs-before.ensures.same (omega arith) c.note.ensures.runs counting.run_tally))
+    (same-tally s (k + w.cycles) _ _ (λ a x. is_at a x && jumps x) came.ensures.jumps (jumps-next (n - k) k w.cycles s t u c.regs-before.result c.regs.result c.loop-done.jumps.items c.note.new.jumps.items counting.going.at went.ran went.some c.regs-before.ensures.same c.regs.ensures.same (omega arith) c.note.ensures.jumps counting.jump_tally))
 
 pub loop-done-preserved : goal.loop-done-preserved
 loop-done-preserved c =
@@ -90,5 +92,6 @@ returns c =
     let counting = c.loop-done.invariant.counting in
     let within = counting.going.within in
     let full : n ≡ k = omega arith in
-    counted-by (stops_of b) n s t k _ (ends (stops_of b) n k s t None c.stop_by-2.result (goes-full (stops_of b) n k s t counting.going (sym full)) c.stop_by-2.ensures) full
-    counting.run_tally counting.jump_tally
+    let came = c.counts_of-2 in
+    counted-by (stops_of b) n s t k came.result (ends (stops_of b) n k s t None came.result.stop (goes-full (stops_of b) n k s t counting.going (sym full)) came.ensures.stop) (came.ensures.cycles ∙ full)
+    (same-tally s k _ _ (λ a. is_at a) came.ensures.runs counting.run_tally) (same-tally s k _ _ (λ a x. is_at a x && jumps x) came.ensures.jumps counting.jump_tally)
