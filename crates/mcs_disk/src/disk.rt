@@ -4,7 +4,6 @@ ghost use Rattle.mcs_disk.specs.Disk.{DiskState, bytes_of, part, put, size_of, C
 ghost use Rattle.mcs_disk.specs.CallList.{Makes};
 ghost use Rattle.mcs_disk.specs.Calls.{WasRead, Wrote, Synced};
 
-
 /// The device refused a call.
 #[derive(Clone, Copy, Debug, PartialEq, Eq)]
 pub struct DiskFault;
