@@ -130,6 +130,13 @@ def check_number(browser):
     comes(browser, "the key is up", DOWN, "")
     place(browser, "time run")
     comes(browser, "the digit is seen", DIGITS, "5")
+    place(browser, "Run to where the digit is entered")
+    comes(browser, "without a key time runs up to there", WHOLE_STATUS, re.compile("^Time runs, up to"))
+    place(browser, "time run")
+    comes(browser, "until it is to run on without a goal", WHOLE_STATUS, re.compile(r"^Time runs\."))
+    browser.keys(["5"])
+    comes(browser, "a digit that is entered then is seen", DIGITS, "55")
+    verdict("and stops nothing", browser.script(WHOLE_STATUS), re.compile(r"^Time runs\."))
 
 
 def check_paper(browser):
