@@ -1,4 +1,4 @@
-// What the page says of boards that the bench refuses; the numbers are those of the manual ("Refusals of a board").
+// What the page says of boards that the bench refuses; the numbers are those of tools/lib/refusals.txt.
 import assert from "node:assert/strict";
 import { readFileSync } from "node:fs";
 import { test } from "node:test";
