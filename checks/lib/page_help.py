@@ -24,7 +24,7 @@ def check_help(browser):
     comes(browser, "F1 opens the help", HELP, True)
     browser.type_into("#help-search", "decimal adjust")
     comes(browser, "a search leaves the row that has it", ROWS, 1)
-    verdict("it is the manual's", browser.text("#help-sections tbody tr"), re.compile("^DAAFB11decimal adjust: 6 is added to ACC if CY"))
+    verdict("it is the manual's", browser.text("#help-sections tbody tr"), re.compile("^DAAFBdecimal adjust: 6 is added to ACC if CY"))
     browser.keys([ESCAPE])
     comes(browser, "Escape closes the help", HELP, False)
     verdict("and the button has the focus again", browser.script("return document.activeElement.id"), "help-button")
