@@ -4,6 +4,7 @@
 #     title WORDS
 #     key ROW COLUMN NAME
 #     test LEVEL NAME        what is at TEST, and its level while it is pressed
+#     printer STROBE PORT WORD WORD ..    its lines, and what it prints for codes 0, 1 ..
 #     colour LAMP WORD
 #     front CELL CELL ..     a row of lamps: `N,WIDTH,NAME` is lamp N with its name, without one a dot, `-,WIDTH,` a space. Behind the
 #                            lamps of the board are numbered those of groups that are scanned, row by row
@@ -79,6 +80,7 @@ BEGIN {
     if (face_title != "") print "title " face_title
     for (i = 1; i <= key_count; i++) print "key " key_row[key_names[i]] " " key_column[key_names[i]] " " key_names[i]
     if (pin_kind != "") print "test " pin_level " " pin_name
+    if (printer_strobe != "") print "printer " printer_strobe " " printer_port " " printer_words
     for (n in lamp_colour) print "colour " n " " lamp_colour[n]
     for (i = 1; i <= display_count; i++) take_group(display_first[i], display_digits[i], display_width[i], display_by[i])
     scanned = lamp_count
