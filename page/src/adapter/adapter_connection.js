@@ -2,6 +2,7 @@
 
 import { MessageReader, framed } from "../server/framing.js";
 import { AdapterError, fieldOf, wordsOf } from "./protocol.js";
+import * as say from "../words/adapter.js";
 
 /** @typedef {(args: any) => unknown} Act what a request does: it gives the body of the response, or a promise of it */
 
@@ -34,7 +35,7 @@ export class AdapterConnection {
   take(bytes) {
     for (const received of this.reader.take(bytes)) {
       if ("text" in received) this.takeText(received.text);
-      else this.refuse(0, "", new AdapterError(`a message of ${received.tooLong} bytes was not read`));
+      else this.refuse(0, "", new AdapterError(say.messageTooLong(received.tooLong)));
     }
   }
 
@@ -45,7 +46,7 @@ export class AdapterConnection {
     try {
       message = JSON.parse(text);
     } catch {
-      this.refuse(0, "", new AdapterError("a message is not JSON"));
+      this.refuse(0, "", new AdapterError(say.NOT_JSON));
       return;
     }
     const [seq, type, command] = ["seq", "type", "command"].map((name) => fieldOf(message, name));
@@ -53,7 +54,7 @@ export class AdapterConnection {
     if (type === "response" || type === "event") return;
     const number = Number.isSafeInteger(seq) ? seq : 0;
     if (type !== "request" || typeof command !== "string" || number !== seq) {
-      const words = "a message has a number seq, the type \"request\" and a command";
+      const words = say.MESSAGE_FORM;
       this.refuse(number, typeof command === "string" ? command : "", new AdapterError(words));
       return;
     }
@@ -65,8 +66,8 @@ export class AdapterConnection {
    * @param {string} command
    */
   faultOfOrder(command) {
-    if (!this.isOpen && command !== "initialize") return "initialize comes first";
-    return this.isOpen && command === "initialize" ? "initialize comes once" : "";
+    if (!this.isOpen && command !== "initialize") return say.INITIALIZE_FIRST;
+    return this.isOpen && command === "initialize" ? say.INITIALIZE_ONCE : "";
   }
 
   /**
@@ -79,7 +80,7 @@ export class AdapterConnection {
       const fault = this.faultOfOrder(command);
       if (fault) throw new AdapterError(fault);
       const act = Object.prototype.hasOwnProperty.call(this.requests, command) && this.requests[command];
-      if (!act) throw new AdapterError(`there is no ${command} here`);
+      if (!act) throw new AdapterError(say.noCommand(command));
       const given = await act(args);
       if (command === "initialize") this.isOpen = true;
       const body = given instanceof Followed ? given.body : given;

@@ -8,6 +8,7 @@ import { framesOf } from "./frames.js";
 import { fail, fieldOf, needNumber, needText } from "./protocol.js";
 import { setPlace } from "./setting.js";
 import { hoverOf, valueOfExpression } from "./values.js";
+import * as say from "../words/adapter.js";
 
 /**
  * @typedef {import("./launching.js").Launched} Launched
@@ -39,12 +40,12 @@ export class Answering {
   // --- the source ---
 
   get programName() {
-    return this.launched.program || "what stands in ROM";
+    return this.launched.program || say.WHAT_IS_IN_ROM;
   }
 
   get source() {
     const { program } = this.launched;
-    if (program === "") return { name: "ROM", sourceReference: ROM_SOURCE, origin: "made of what stands in ROM" };
+    if (program === "") return { name: "ROM", sourceReference: ROM_SOURCE, origin: say.MADE_OF_ROM };
     return { name: program.replace(/^.*[\\/]/, ""), path: program };
   }
 
@@ -58,7 +59,7 @@ export class Answering {
 
   /** @param {any} args */
   sourceText(args) {
-    if (!this.isProgram(fieldOf(args, "source") || args)) fail(`there is one source, ${this.programName}`);
+    if (!this.isProgram(fieldOf(args, "source") || args)) fail(say.oneSource(this.programName));
     return { content: this.session.program, mimeType: "text/x-asm" };
   }
 
@@ -85,7 +86,7 @@ export class Answering {
 
   /** @param {any} args */
   variables(args) {
-    const all = this.scopes.variables(needNumber(args, "variablesReference")) || fail("there is nothing of this reference");
+    const all = this.scopes.variables(needNumber(args, "variablesReference")) || fail(say.NO_REFERENCE);
     const from = Math.max(0, needNumber(args, "start", 0));
     const count = needNumber(args, "count", 0);
     const some = all.slice(from, count > 0 ? from + count : undefined);
@@ -150,8 +151,8 @@ export class Answering {
   disassemble(args, addressOf) {
     const begin = addressOf(needText(args, "memoryReference")) + needNumber(args, "offset", 0);
     const count = needNumber(args, "instructionCount");
-    if (!(begin >= 0 && begin <= LAST_ADDRESS)) fail("there are the addresses 0x000 to 0xFFF");
-    if (!(count >= 0 && count <= MOST_ROWS)) fail(`instructionCount is 0 to ${MOST_ROWS}`);
+    if (!(begin >= 0 && begin <= LAST_ADDRESS)) fail(say.ADDRESSES_ARE);
+    if (!(count >= 0 && count <= MOST_ROWS)) fail(say.rowsAre(MOST_ROWS));
     const rows = rowsAt(this.session, begin, needNumber(args, "instructionOffset", 0), count);
     return {
       instructions: rows.map(({ address, bytes, words, line, name }) => ({
@@ -170,9 +171,9 @@ export class Answering {
     const reference = needText(args, "memoryReference");
     const isBank = /^ram\.[0-7]$/.test(reference);
     const isRom = /^0x[0-9A-F]{1,3}$/i.test(reference);
-    if (!isBank && !isRom) fail(`${reference} is no memory, as 0x000 and ram.0 are`);
+    if (!isBank && !isRom) fail(say.noMemory(reference));
     const address = isRom ? Number(reference) : 0;
-    const bytes = bytesAt(this.session, reference) || fail(`the board has no ${reference}`);
+    const bytes = bytesAt(this.session, reference) || fail(say.boardHasNo(reference));
     return { bytes, from: address + needNumber(args, "offset", 0), bank: isBank ? reference.slice(4) : "" };
   }
 
@@ -180,7 +181,7 @@ export class Answering {
   readMemory(args) {
     const { bytes, from } = this.bytesOf(args);
     const count = needNumber(args, "count");
-    if (count < 0) fail("count is 0 or more");
+    if (count < 0) fail(say.COUNT_IS);
     if (from < 0 || from >= bytes.length) return { address: addressWords(from), unreadableBytes: count };
     const read = bytes.subarray(from, Math.min(bytes.length, from + count));
     const unread = count - read.length;
@@ -191,11 +192,11 @@ export class Answering {
   async writeMemory(args) {
     const { bytes, from, bank } = this.bytesOf(args);
     const data = bytesOfBase64(needText(args, "data"));
-    if (from < 0 || from + data.length > bytes.length) fail("it reaches outside of the memory");
+    if (from < 0 || from + data.length > bytes.length) fail(say.OUTSIDE_OF_MEMORY);
     const lines = [...data].map((byte, at) => `poke ${bank ? `ram.${bank}` : "rom"}.${from + at} ${byte}\n`).join("");
     const { entries } = await this.session.debugger.session.serve(lines, async () => true);
     const refused = entries.find(({ answers }) => refusalOf(answers[0]));
-    if (refused) fail(`${refused.line}: the bench answered ${refused.answers[0]}`);
+    if (refused) fail(say.benchAnswered(refused.line, refused.answers[0]));
     return { bytesWritten: data.length };
   }
 }
@@ -203,6 +204,6 @@ export class Answering {
 
 /** @param {string} text */
 function bytesOfBase64(text) {
-  if (!/^[A-Za-z0-9+/]*={0,2}$/.test(text) || text.length % 4 !== 0) fail("data is written in base 64");
+  if (!/^[A-Za-z0-9+/]*={0,2}$/.test(text) || text.length % 4 !== 0) fail(say.BASE_64);
   return Uint8Array.from(atob(text), (letter) => letter.charCodeAt(0));
 }

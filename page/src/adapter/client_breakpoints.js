@@ -6,6 +6,7 @@ import { hex } from "../bench/numbers.js";
 import { BreakpointList, MOST_BREAKPOINTS, MOST_ON, placeOfAddress, placeOfLine } from "../debug/breakpoints.js";
 import { placeOf } from "../bench/places.js";
 import { listOf, needNumber, needText, textOrNone, wordsOf } from "./protocol.js";
+import * as say from "../words/adapter.js";
 
 /**
  * @typedef {import("../debug/debug_session.js").DebugSession} DebugSession
@@ -21,7 +22,6 @@ import { listOf, needNumber, needText, textOrNone, wordsOf } from "./protocol.js
 /** @type {Omit<Wanted, "id">} */
 const PLAIN = { line: 0, address: -1, condition: "", from: 1, note: "", words: "" };
 const HITS = /^(?:>=|=|==|>)?\s*(\d{1,9})$/;
-const HITS_WORDS = "a hit count is a number, as in 5: it stops from that hit on";
 const MOST_DATA = 8;
 
 /**
@@ -33,7 +33,7 @@ function fromOf(text) {
   if (told === "") return { from: 1, words: "" };
   const found = HITS.exec(told);
   const from = found ? Number(found[1]) + (told.startsWith(">") && !told.startsWith(">=") ? 1 : 0) : 0;
-  return from >= 1 ? { from, words: "" } : { from: 1, words: HITS_WORDS };
+  return from >= 1 ? { from, words: "" } : { from: 1, words: say.HITS_WORDS };
 }
 
 /**
@@ -88,7 +88,7 @@ export class ClientBreakpoints {
     return this.set("labels", listOf(args, "breakpoints").map((given) => {
       const name = needText(given, "name").trim();
       const found = map.names.get(name);
-      const words = found && found.isLabel ? "" : `the program has no label ${name}`;
+      const words = found && found.isLabel ? "" : say.noLabel(name);
       const address = found && found.isLabel ? found.value : -1;
       return this.make({ ...partsOf(given), line: address < 0 ? 0 : map.lineOf(address), address, ...(words ? { words } : {}) });
     }));
@@ -104,7 +104,7 @@ export class ClientBreakpoints {
       const wanted = addressOf(needText(given, "instructionReference")) + needNumber(given, "offset", 0);
       const isThere = wanted >= 0 && wanted <= 4095;
       const { line, address } = isThere ? placeOfAddress(wanted, map) : { line: 0, address: -1 };
-      return this.make({ ...partsOf(given), line, address, ...(isThere ? {} : { words: "there are the addresses 0x000 to 0xFFF" }) });
+      return this.make({ ...partsOf(given), line, address, ...(isThere ? {} : { words: say.ADDRESSES_ARE }) });
     }));
   }
 
@@ -149,7 +149,7 @@ export class ClientBreakpoints {
     const faults = new Map();
     const all = [...this.all().values()];
     const isTooMany = (/** @type {number} */ at) => at >= MOST_ON;
-    all.forEach((each, at) => isTooMany(at) && faults.set(each, `${MOST_ON} breakpoints are on at most`));
+    all.forEach((each, at) => isTooMany(at) && faults.set(each, say.mostOn(MOST_ON)));
     const hits = new Map([...this.byId].map(([id, { address }]) => [address, (session.breakpoints.get(id) || { hits: 0 }).hits]));
     session.breakpoints = new BreakpointList();
     this.byId.clear();
@@ -204,7 +204,7 @@ export class ClientBreakpoints {
     const now = watchesOf(this.session);
     return places.map((place, at) => {
       const verified = now.includes(place);
-      return { verified, ...(verified ? {} : { message: `${asked[at]} is not watched: 8 characters of RAM that the board has can be` }) };
+      return { verified, ...(verified ? {} : { message: say.notWatched(asked[at]) }) };
     });
   }
 
@@ -257,7 +257,7 @@ export function dataOf(name, session) {
   const place = placeOf(name);
   const board = readBoard(session.debugger.session.lookQuestions.board);
   const isThere = place !== null && watchOf(name) !== "" && place.probesOn(board).length > 0;
-  return isThere && place ? { dataId: place.name, description: `${place.name} changes` } : null;
+  return isThere && place ? { dataId: place.name, description: say.changes(place.name) } : null;
 }
 
 /** @param {number} address */

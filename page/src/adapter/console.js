@@ -8,6 +8,7 @@ import { numberOf } from "../bench/numbers.js";
 import { keysOf } from "../testing/test_text.js";
 import { AdapterError, fail, wordsOf } from "./protocol.js";
 import { valueOfExpression } from "./values.js";
+import * as say from "../words/adapter.js";
 
 /**
  * @typedef {import("./machine.js").Machine} Machine
@@ -17,11 +18,6 @@ import { valueOfExpression } from "./values.js";
  * What came of a line: words, whether the machine is another one now, and a move that begins once they are told.
  * @typedef {{ words: string, changes: boolean, move: (() => void) | null }} Done
  */
-
-export const HELP = `Lines of the bench (regs, list @show 5, ram 0, poke r4 7, run 100, step, reset, ..), with @NAME for an address.
-press KEY, release KEY: a key goes down, or up; while time runs, press is a short press. keys KEYS: short presses, as time runs.
-until LABEL or ADDRESS, change PLACE: on up to there. back, back PLACE: an instruction back, before the last change. forward: again.
-R4, P2, ram.0.0x12, rom1, lamps, display, a name, a condition (r9 = 9 and lamp open on): what it is now.`;
 
 /** What a line begins with. */
 export const FIRST_WORDS = ["press", "release", "keys", "until", "change", "back", "forward", "help", "display", ...FORMS.keys()];
@@ -61,9 +57,9 @@ export class Console {
    */
   async take(text) {
     const line = text.trim();
-    if (line.length > LONGEST) fail(`more than ${LONGEST} characters are not taken`);
+    if (line.length > LONGEST) fail(say.tooLong(LONGEST));
     const [word, ...rest] = line.split("\n")[0].split(/[ \t]+/);
-    if (line === "" || line === "help" || line === "?") return told(HELP);
+    if (line === "" || line === "help" || line === "?") return told(say.HELP);
     const isNumbers = rest.length === 2 && rest.every((each) => !Number.isNaN(numberOf(each)));
     if ((word === "press" || word === "release") && !isNumbers) return this.moveKeys(word, rest);
     if (word === "keys" && rest.length > 0) return this.typeKeys(rest);
@@ -76,7 +72,7 @@ export class Console {
     try {
       return told(valueOfExpression(line, this.known));
     } catch (thrown) {
-      return fail(`${wordsOf(thrown)}; help shows what a line can be`);
+      return fail(say.seeHelp(wordsOf(thrown)));
     }
   }
 
@@ -86,7 +82,7 @@ export class Console {
   keyOf(name) {
     const there = [...this.keys.keys()].join(" ");
     const key = this.keys.get(name);
-    return key || fail(`the board has no key ${name}${there ? `; it has: ${there}` : "; its text names no keys (`# row 0: NAME ..`)"}`);
+    return key || fail(say.noKey(name, there));
   }
 
   /**
@@ -95,7 +91,7 @@ export class Console {
    * @param {string[]} names
    */
   async moveKeys(word, names) {
-    if (names.length === 0) fail(`it is written as ${word} KEY`);
+    if (names.length === 0) fail(say.keyForm(word));
     const keys = names.map((name) => this.keyOf(name));
     if (this.machine.isMoving && word === "press") return this.queue(keys);
     const lines = keys.map((key) => `${key[word]}\n`).join("");
@@ -116,7 +112,7 @@ export class Console {
       queue.press(place);
       queue.release(place);
     }
-    return told(this.machine.isMoving ? "" : `${keys.length} key${keys.length === 1 ? " waits" : "s wait"} for time to run (continue)`);
+    return told(this.machine.isMoving ? "" : say.keysWait(keys.length));
   }
 
   // --- moves ---
@@ -127,13 +123,13 @@ export class Console {
    * @returns {Done}
    */
   moveTo(word, rest) {
-    if (this.machine.isMoving) fail("time runs: pause comes first");
+    if (this.machine.isMoving) fail(say.TIME_RUNS);
     const place = rest.join(" ");
     /** @type {(act: () => void) => Done} */
     const move = (act) => ({ words: "", changes: false, move: act });
     if (word === "forward") return move(() => this.machine.forward());
     if (word === "back") return move(() => this.machine.back(place === "" ? { kind: "instruction" } : { kind: "change", place }));
-    if (place === "") fail(`it is written as ${word === "until" ? "until LABEL or until ADDRESS" : "change PLACE, as in change r4"}`);
+    if (place === "") fail(say.placeForm(word === "until" ? say.UNTIL_FORM : say.CHANGE_FORM));
     if (word === "change") return move(() => this.machine.go({ kind: "change", place }));
     const address = addressOf(place, this.known);
     return move(() => this.machine.go({ kind: "here", address }));
@@ -149,8 +145,8 @@ export class Console {
     const { lines, words } = putNames(`${line}\n`, this.session.map);
     if (words) fail(words);
     const kinds = readInputs(lines).map(({ kind }) => kind);
-    if (kinds.length > MOST_INPUTS) fail(`more than ${MOST_INPUTS} lines are not taken at once`);
-    if (this.machine.isMoving && kinds.some((kind) => RUNS.has(kind))) fail("time runs: pause comes first");
+    if (kinds.length > MOST_INPUTS) fail(say.tooManyLines(MOST_INPUTS));
+    if (this.machine.isMoving && kinds.some((kind) => RUNS.has(kind))) fail(say.TIME_RUNS);
     if (kinds.every((kind) => ASKS.has(kind))) return told(this.session.debugger.session.ask(lines).join("\n"));
     const done = await this.served(lines);
     if (kinds.some((kind) => BREAKS.has(kind))) this.calls.breaksChanged();
@@ -187,6 +183,6 @@ export function addressOf(text, { session }) {
   const word = text.trim().replace(/^@/, "");
   const number = /^[0-9A-Fa-f]{3}$/.test(word) && Number.isNaN(numberOf(word)) ? parseInt(word, 16) : numberOf(word);
   const named = Number.isNaN(number) ? session.map.valueOf(word) : number;
-  if (named === undefined) return fail(`${word} is no label of the program, and no address as 0x00D`);
-  return named <= 4095 ? named : fail("addresses are 0x000 to 0xFFF");
+  if (named === undefined) return fail(say.noAddress(word));
+  return named <= 4095 ? named : fail(say.ADDRESS_RANGE);
 }

@@ -19,6 +19,7 @@ import { Machine } from "./machine.js";
 import { NOT_STOPPED, fail, fieldOf, listOf, needNumber, needText, textOrNone } from "./protocol.js";
 import { Scopes } from "./scopes.js";
 import { ShownBoard, changeKey } from "./shown_board.js";
+import * as say from "../words/adapter.js";
 
 /**
  * @typedef {import("./adapter_connection.js").Act} Act
@@ -89,7 +90,7 @@ export class DebugAdapter {
 
   /** @returns {Open} */
   get there() {
-    return this.open || fail("nothing is launched yet");
+    return this.open || fail(say.NOTHING_LAUNCHED);
   }
 
   // --- from launch to disconnect ---
@@ -100,14 +101,14 @@ export class DebugAdapter {
       initialize: (args) => {
         this.firstLine = fieldOf(args, "linesStartAt1") === false ? 0 : 1;
         this.takesInvalidated = fieldOf(args, "supportsInvalidatedEvent") === true;
-        if (textOrNone(args, "pathFormat") === "uri") fail("files are named by paths here, not by addresses");
+        if (textOrNone(args, "pathFormat") === "uri") fail(say.PATHS_ONLY);
         return CAPABILITIES;
       },
       launch: (args) => this.launch(args),
-      attach: () => fail("there is nothing to attach to: launch begins a program, or opens a session file"),
+      attach: () => fail(say.NOTHING_TO_ATTACH),
       configurationDone: () => {
         const { launched } = this.there;
-        if (this.isConfigured) fail("configurationDone comes once");
+        if (this.isConfigured) fail(say.CONFIGURED_ONCE);
         this.isConfigured = true;
         return new Followed(undefined, () => (launched.stopsOnEntry ? this.stopped(this.standing("entry")) : this.there.machine.go(null)));
       },
@@ -125,7 +126,7 @@ export class DebugAdapter {
 
   /** @param {any} args */
   async launch(args) {
-    if (this.open) fail("launch comes once");
+    if (this.open) fail(say.LAUNCH_ONCE);
     await this.begin(await launch(this.engine, args, this.host, this.words));
     return new Followed(undefined, () => this.connection.tell("initialized"));
   }
@@ -155,7 +156,7 @@ export class DebugAdapter {
   /** @param {Launched} launched */
   tellRom({ session }) {
     const words = differenceWords(session);
-    if (words) this.output(`The source is not what stands in ROM now: ${words}.\n`, "console");
+    if (words) this.output(`${say.sourceDiffers(words)}\n`, "console");
   }
 
   /**
@@ -246,8 +247,8 @@ export class DebugAdapter {
     if (answering.isProgram(source) && launched.isDebugged) {
       return this.set((breakpoints) => breakpoints.setLines(args, (line) => line + 1 - this.firstLine));
     }
-    const message = launched.isDebugged ? `it is not in the program that is debugged, ${answering.programName}`
-      : "this runs without a debugger (noDebug)";
+    const message = launched.isDebugged ? say.notInProgram(answering.programName)
+      : say.NO_DEBUG;
     return { breakpoints: listOf(args, "breakpoints").map((given) => ({ verified: false, line: needNumber(given, "line"), message })) };
   }
 
@@ -276,7 +277,7 @@ export class DebugAdapter {
     const reference = needNumber(args, "variablesReference", 0);
     const found = reference > 0 ? answering.placeOf(reference, name) : name;
     const data = dataOf(found, launched.session);
-    if (!data) return { dataId: null, description: `${name} is no character of RAM: only these are watched` };
+    if (!data) return { dataId: null, description: say.noCharacter(name) };
     return { ...data, accessTypes: ["write"] };
   }
 
@@ -328,13 +329,13 @@ export class DebugAdapter {
   }
 
   needStopped() {
-    if (!this.isConfigured) fail("configurationDone comes first");
+    if (!this.isConfigured) fail(say.CONFIGURED_FIRST);
     if (this.there.machine.isMoving) fail(NOT_STOPPED);
   }
 
   /** @param {any} args */
   needThread(args) {
-    if (needNumber(args, "threadId", THREAD) !== THREAD) fail("there is one thread, 1");
+    if (needNumber(args, "threadId", THREAD) !== THREAD) fail(say.ONE_THREAD);
   }
 
   /** @param {any} args */
@@ -354,7 +355,7 @@ export class DebugAdapter {
     this.needThread(args);
     const { machine, launched } = this.there;
     const address = needNumber(args, "targetId");
-    if (!(address >= 0 && address <= 4095)) fail("there is no such target");
+    if (!(address >= 0 && address <= 4095)) fail(say.NO_TARGET);
     await launched.session.debugger.session.serve(`poke pc ${address}\n`, async () => true);
     await machine.stand();
     return new Followed(undefined, () => this.stopped(this.standing("goto")));
@@ -475,7 +476,7 @@ export class DebugAdapter {
    * @returns {Ended}
    */
   standing(reason) {
-    return { reason, words: `Stands at ${this.there.launched.session.placeWords}.`, id: 0 };
+    return { reason, words: say.standsAt(this.there.launched.session.placeWords), id: 0 };
   }
 
   /** @param {Ended} ended */

@@ -4,6 +4,7 @@
 import { refusalOf } from "../bench/answers.js";
 import { linesOf } from "../bench/inputs.js";
 import { AdapterError } from "./protocol.js";
+import * as say from "../words/adapter.js";
 
 /**
  * @typedef {import("../worker/worker_session.js").WorkerSession} WorkerSession
@@ -52,9 +53,9 @@ export class KeptSession {
     /** @type {(answers: string[]) => void} */
     const check = (answers) => {
       const refused = answers.find((answer) => refusalOf(answer));
-      if (refused) throw new AdapterError(`the session's file was not written: the program answered ${refused}`);
+      if (refused) throw new AdapterError(say.fileNotWritten(refused));
       const isSame = answers[answers.length - 1] === state;
-      if (!isSame) throw new AdapterError("the session's file came to another state than the session in memory");
+      if (!isSame) throw new AdapterError(say.OTHER_STATE);
     };
     if (missing) check(await this.file.ask(`${linesOf(missing)}state\n`, missing.length + 1));
     else await this.file.replace(last.file, `${linesOf(all)}state\n`, all.length + 1, check);

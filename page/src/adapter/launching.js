@@ -10,6 +10,7 @@ import { readProgram, differenceOf } from "../worker/program_check.js";
 import { sourceOfRom } from "../worker/sources.js";
 import { KeptSession } from "./kept_session.js";
 import { AdapterError, fieldOf, flagOf, textOrNone } from "./protocol.js";
+import * as say from "../words/adapter.js";
 
 /**
  * @typedef {import("../bench/answers.js").Refusal} Refusal
@@ -46,10 +47,10 @@ export function readWanted(args, host) {
   const named = project === "" ? { board: "", program: "" } : filesOf(project, host);
   const program = ownProgram || named.program;
   if (program === "" && session === "") {
-    const words = "launch needs \"project\", a folder with mcs4.toml, or \"program\", a program's text, or \"session\", a session file";
-    throw new AdapterError(`${words}; where "board" is left out it is the project's, or board.toml beside the program`, true);
+    const words = say.LAUNCH_NEEDS;
+    throw new AdapterError(say.andBoard(words), true);
   }
-  if (program !== "" && session === program) throw new AdapterError("program and session are one file", true);
+  if (program !== "" && session === program) throw new AdapterError(say.ONE_FILE, true);
   const found = program === "" ? "" : boardOf(program, host);
   const board = ownBoard || named.board || (host.isThere(found) ? found : "");
   return { board, program, session, load: flagOf(args, "load", false) };
@@ -63,7 +64,7 @@ export function readWanted(args, host) {
 function filesOf(name, host) {
   const file = lastPart(name) === PROJECT_FILE ? name : host.nameOf(PROJECT_FILE, name);
   const text = host.read(file);
-  if (text === null) throw new AdapterError(`there is no ${file}; it names board and program of a project`, true);
+  if (text === null) throw new AdapterError(say.noProjectFile(file), true);
   const { names, faults: [fault] } = readProjectToml(text);
   if (!names) throw new AdapterError(`${file}, line ${fault.line}: ${fault.words}`, true);
   return { board: host.beside(names.board.path, file), program: host.beside(names.program.path, file) };
@@ -89,7 +90,7 @@ function boardOf(program, host) {
  */
 function textIn(name, mark, host) {
   const text = host.read(name);
-  if (text === null) throw new AdapterError(`cannot read ${name}: it is not there, no text, or longer than one can be`, true);
+  if (text === null) throw new AdapterError(say.cannotRead(name), true);
   const whole = text.replace(/^\uFEFF/, "").replace(/\r\n?/g, "\n");
   const [fault] = faultsOfLines(whole, mark);
   if (fault) throw new AdapterError(`${lastPart(name)}, line ${fault.line}: ${fault.words}`, true);
@@ -103,7 +104,7 @@ function textIn(name, mark, host) {
  */
 function refused(name, { number, line }, words) {
   const place = line > 0 ? `, line ${line}` : "";
-  const why = number > 0 ? `${words.ofRefusal(number)} (no ${number})` : "a line that is a dot alone";
+  const why = number > 0 ? `${words.ofRefusal(number)} (no ${number})` : say.DOT_ALONE;
   return new AdapterError(`${lastPart(name)}${place}: ${why}`, true);
 }
 
@@ -116,7 +117,7 @@ function refused(name, { number, line }, words) {
  */
 function ofTexts(engine, wanted, host, words) {
   if (wanted.board === "") {
-    throw new AdapterError(`there is no board.toml beside ${wanted.program}: "board" names the board's text`, true);
+    throw new AdapterError(say.noBoardBeside(wanted.program), true);
   }
   const [board, program] = [textIn(wanted.board, "#", host), textIn(wanted.program, ";", host)];
   const session = new DebugSession(engine, { board, program });
@@ -136,7 +137,7 @@ async function ofFile(engine, wanted, host, words) {
   const program = wanted.program === "" ? "" : textIn(wanted.program, ";", host);
   const isNew = !host.isThere(wanted.session);
   if (isNew && (board === "" || program === "")) {
-    throw new AdapterError(`${wanted.session} is not there; with "board" and "program" it is made`, true);
+    throw new AdapterError(say.sessionNotThere(wanted.session), true);
   }
   // What cannot be made is refused before the file is.
   if (isNew) ofTexts(engine, wanted, host, words);
@@ -175,9 +176,9 @@ async function serveText(session, word, text, name, words) {
 export function differenceWords(session) {
   const { engine, file, lookQuestions } = session.debugger.session;
   const { refusal, ...program } = readProgram(engine, sentText(session.program, ";"));
-  if (refusal) return "the program has faults";
+  if (refusal) return say.PROGRAM_HAS_FAULTS;
   const difference = differenceOf(engine, file, lookQuestions.board, { refusal, ...program });
-  return difference ? `ROM has ${difference.hasRom ? "another byte" : "no chip"} at 0x${hex(difference.address, 3)}` : "";
+  return difference ? say.romDiffers(difference.hasRom, hex(difference.address, 3)) : "";
 }
 
 /**
@@ -191,8 +192,8 @@ function needInRom(session, engine, { program, session: file }, words) {
   if (refusal) throw refused(program, refusal, words);
   const fault = differenceWords(session);
   if (fault === "") return;
-  const difference = `${lastPart(program)} is not what stands in ROM of ${lastPart(file)}: ${fault}`;
-  throw new AdapterError(`${difference}. "load": true puts it there; without "program" the source is made of what stands in ROM`, true);
+  const difference = say.notInRomOf(lastPart(program), lastPart(file), fault);
+  throw new AdapterError(say.loadPuts(difference), true);
 }
 
 /**

@@ -5,6 +5,7 @@ import { Cancelled } from "../bench/faults.js";
 import { CYCLE_TIME } from "../time/cycles.js";
 import { Shown } from "./shown.js";
 import { fail, wordsOf } from "./protocol.js";
+import * as say from "../words/adapter.js";
 
 /**
  * @typedef {import("../debug/debug_session.js").DebugSession} DebugSession
@@ -97,7 +98,7 @@ export class Machine {
    * @param {() => boolean} isOpen
    */
   begin(act, isOpen) {
-    if (this.isMoving) fail("time runs already: pause comes first");
+    if (this.isMoving) fail(say.TIME_RUNS_ALREADY);
     this.isMoving = true;
     this.isToPause = false;
     this.isOpen = isOpen;
@@ -117,7 +118,7 @@ export class Machine {
     } catch (thrown) {
       const isPause = thrown instanceof Cancelled;
       if (!isPause) this.calls.output(`${wordsOf(thrown)}\n`, "stderr");
-      const words = isPause ? `Stopped at ${this.session.placeWords}.` : wordsOf(thrown);
+      const words = isPause ? say.stoppedAt(this.session.placeWords) : wordsOf(thrown);
       ended = { reason: isPause ? "pause" : "exception", words, id: 0 };
     }
     this.isOpen = () => false;
@@ -210,7 +211,7 @@ export class Machine {
    */
   tellTally({ notes, usual }, count) {
     this.noted += count;
-    if (count > notes.length) this.calls.output(`(${count - notes.length} notes before these)\n`, "console");
+    if (count > notes.length) this.calls.output(`${say.notesBefore(count - notes.length)}\n`, "console");
     for (const { words } of notes.slice(notes.length - Math.min(count, notes.length))) this.calls.output(`${words}\n`, "console");
     for (const { words } of usual) this.calls.output(`${words}\n`, "console");
   }

@@ -1,5 +1,7 @@
 // What the protocol of debug adapters says of messages, and what is read out of their arguments.
 
+import * as say from "../words/adapter.js";
+
 /** What a request is answered in the place of a body. */
 export class AdapterError extends Error {
   /**
@@ -39,7 +41,7 @@ export function fieldOf(value, name) {
  */
 export function needText(from, name) {
   const value = fieldOf(from, name);
-  return typeof value === "string" ? value : fail(`${name} is a text`);
+  return typeof value === "string" ? value : fail(say.isText(name));
 }
 
 /**
@@ -62,7 +64,7 @@ export function textOrNone(from, name) {
 export function needNumber(from, name, usual) {
   const value = fieldOf(from, name);
   if ((value === undefined || value === null) && usual !== undefined) return usual;
-  return Number.isSafeInteger(value) ? value : fail(`${name} is a whole number`);
+  return Number.isSafeInteger(value) ? value : fail(say.isWhole(name));
 }
 
 /**
@@ -74,7 +76,7 @@ export function needNumber(from, name, usual) {
 export function flagOf(from, name, usual) {
   const value = fieldOf(from, name);
   if (value === undefined || value === null) return usual;
-  return typeof value === "boolean" ? value : fail(`${name} is true or false`);
+  return typeof value === "boolean" ? value : fail(say.isBoolean(name));
 }
 
 /**
@@ -86,7 +88,7 @@ export function flagOf(from, name, usual) {
 export function listOf(from, name) {
   const value = fieldOf(from, name);
   if (value === undefined || value === null) return [];
-  return Array.isArray(value) ? value : fail(`${name} is a list`);
+  return Array.isArray(value) ? value : fail(say.isList(name));
 }
 
 /**

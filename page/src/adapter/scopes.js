@@ -5,6 +5,7 @@ import { hex, upTo } from "../bench/numbers.js";
 import { keysOf } from "../board/board_keys.js";
 import { Standing, wordsOfCharacter } from "../debug/standing.js";
 import { setPlace } from "./setting.js";
+import * as say from "../words/adapter.js";
 
 /**
  * @typedef {import("../debug/debug_session.js").DebugSession} DebugSession
@@ -54,7 +55,7 @@ function pairs({ standing }) {
 /** @param {Seen} seen */
 function banks({ standing }) {
   return [...standing.ram].map(([bank, { registers: all }]) => (
-    { ...variable(`bank ${bank}`, `${all.size / 4} chips${bank === standing.bank ? ", selected by DCL" : ""}`),
+    { ...variable(`bank ${bank}`, say.chipsOf(all.size / 4, bank === standing.bank)),
       inside: BANK + bank, count: all.size, memory: `ram.${bank}` }));
 }
 
@@ -66,7 +67,7 @@ function registersOfBank({ standing }, bank) {
   const ram = standing.ram.get(bank);
   return [...(ram ? ram.registers : [])].map(([place, { characters: digits, status }]) => {
     const [, chip, register] = place.split(".").map(Number);
-    return { ...variable(`chip ${chip}, register ${register}`, `${digits} ${status}`),
+    return { ...variable(say.chipRegister(chip, register), `${digits} ${status}`),
       inside: REGISTER + 16 * bank + 4 * chip + register, count: 20 };
   });
 }
@@ -109,8 +110,8 @@ function ports({ standing, face }) {
 /** @param {string} source the byte that SRC has sent, of a bank with the bank and a dot before it */
 function sourceOf(source) {
   const [bank, byte] = source.split(".");
-  if (byte === undefined) return variable("SRC", `${told(bank)}: ROM ${parseInt(bank[0], 16)}`);
-  return variable(`SRC of bank ${bank}`, `${told(byte)}: ${wordsOfCharacter(parseInt(byte, 16))}`);
+  if (byte === undefined) return variable("SRC", say.selectsRom(told(bank), parseInt(bank[0], 16)));
+  return variable(say.sourceOfBank(bank), `${told(byte)}: ${wordsOfCharacter(parseInt(byte, 16))}`);
 }
 
 /** @param {Seen} seen */
@@ -141,13 +142,13 @@ function names({ session: { map } }) {
 
 /** @type {Record<number, { title: string, of: (seen: Seen) => Variable[], hint?: string }>} */
 const SCOPES = {
-  [REGISTERS]: { title: "Registers", of: registers, hint: "registers" },
-  [PAIRS]: { title: "Pairs", of: pairs, hint: "registers" },
+  [REGISTERS]: { title: say.REGISTERS, of: registers, hint: "registers" },
+  [PAIRS]: { title: say.PAIRS, of: pairs, hint: "registers" },
   [RAM]: { title: "RAM", of: banks },
-  [PORTS]: { title: "Ports", of: ports },
-  [LAMPS]: { title: "Lamps", of: lamps },
-  [KEYS]: { title: "Keys", of: keys },
-  [NAMES]: { title: "Names", of: names },
+  [PORTS]: { title: say.PORTS, of: ports },
+  [LAMPS]: { title: say.LAMPS, of: lamps },
+  [KEYS]: { title: say.KEYS, of: keys },
+  [NAMES]: { title: say.NAMES, of: names },
 };
 
 export class Scopes {
@@ -196,8 +197,8 @@ export class Scopes {
    */
   async set(reference, name, value) {
     const found = (this.variables(reference) || []).find((each) => each.name === name);
-    if (!found) throw new Error(`there is no ${name} here`);
-    if (found.place === "") throw new Error(`${name} is what the machine makes it: nothing sets it`);
+    if (!found) throw new Error(say.noneHere(name));
+    if (found.place === "") throw new Error(say.nothingSets(name));
     await setPlace(this.session, found.place, value);
     const now = (this.variables(reference) || []).find((each) => each.name === name);
     return now ? now.value : value;

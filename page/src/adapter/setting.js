@@ -5,6 +5,7 @@ import { hex, numberOf } from "../bench/numbers.js";
 import { largestOf } from "../debug/condition_terms.js";
 import { lineOfChange } from "../worker/key_queue.js";
 import { AdapterError } from "./protocol.js";
+import * as say from "../words/adapter.js";
 
 /** @typedef {import("../debug/debug_session.js").DebugSession} DebugSession */
 
@@ -26,7 +27,7 @@ export function valueOf(text, session) {
   const number = /^0b[01]+$/i.test(word) ? parseInt(word.slice(2), 2) : numberOf(word);
   if (!Number.isNaN(number)) return number;
   const named = session.map.valueOf(word);
-  if (named === undefined) throw new AdapterError(`${text.trim() || "nothing"} is no number, as 10, 0x0A and 0b1010 are, and no name`);
+  if (named === undefined) throw new AdapterError(say.noNumber(text.trim() || say.NOTHING));
   return named;
 }
 
@@ -39,11 +40,11 @@ export function valueOf(text, session) {
 function linesFor(place, text, session) {
   if (place.startsWith("key ")) {
     const word = text.trim().toLowerCase();
-    if (word !== "down" && word !== "up") throw new AdapterError("a key is down or up");
+    if (word !== "down" && word !== "up") throw new AdapterError(say.KEY_IS);
     return `${lineOfChange({ place: place.slice(4), word: word === "down" ? "press" : "release" })}\n`;
   }
   const value = valueOf(text, session);
-  if (value > mostOf(place)) throw new AdapterError(`${place} holds 0 to ${mostOf(place)}`);
+  if (value > mostOf(place)) throw new AdapterError(say.holds(place, mostOf(place)));
   if (place === "test") return `test ${value}\n`;
   const pair = /^p([0-7])$/.exec(place);
   if (pair) return `poke r${2 * Number(pair[1])} ${value >> 4}\npoke r${2 * Number(pair[1]) + 1} ${value & 15}\n`;
@@ -57,5 +58,5 @@ function linesFor(place, text, session) {
  */
 export async function setPlace(session, place, text) {
   const { first } = await session.debugger.session.serve(linesFor(place, text, session), async () => true);
-  if (refusalOf(first)) throw new AdapterError(`${place} cannot be set: the bench answered ${first}`);
+  if (refusalOf(first)) throw new AdapterError(say.cannotBeSet(place, first));
 }

@@ -4,6 +4,7 @@
 import { LookReader } from "../bench/look.js";
 import { lineOfChange } from "../worker/key_queue.js";
 import { fail } from "./protocol.js";
+import * as say from "../words/adapter.js";
 
 /**
  * @typedef {import("./console.js").Console} Console
@@ -56,7 +57,7 @@ export class ShownBoard {
  * @param {boolean} isDown
  */
 export async function changeKey(machine, lines, place, isDown) {
-  if (!PLACE.test(place)) fail("a key's place is its row and column, as 0 2, or test and a level");
+  if (!PLACE.test(place)) fail(say.KEY_PLACE);
   const word = isDown ? "press" : "release";
   if (machine.isMoving) machine.session.debugger.session.queue[word](place);
   else await lines.served(`${lineOfChange({ word, place })}\n`);

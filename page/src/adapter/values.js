@@ -8,6 +8,7 @@ import { Standing } from "../debug/standing.js";
 import { textOf, valuesAt } from "../debug/value_words.js";
 import { readWatched } from "../debug/watched.js";
 import { AdapterError } from "./protocol.js";
+import * as say from "../words/adapter.js";
 
 /**
  * @typedef {import("../debug/debug_session.js").DebugSession} DebugSession
@@ -81,7 +82,7 @@ function watchedValue(text, session) {
 export function valueOfExpression(text, known) {
   const { session, face } = known;
   const told = text.trim();
-  if (told === "") throw new AdapterError("there is nothing to evaluate");
+  if (told === "") throw new AdapterError(say.NOTHING_TO_EVALUATE);
   if (told === "display" || told === "lamps") return known.shown();
   const value = registerValue(told, session) || nameValue(told, session) || placeValue(told, known) || watchedValue(told, session);
   if (value) return value;

@@ -1,6 +1,7 @@
 // A project with its folder: what its file names has to be there.
 
 import { LONGEST_PROJECT_FILE, PROJECT_FILE, filesNamed, readProjectToml } from "./project_toml.js";
+import * as say from "../words/server.js";
 
 /**
  * @typedef {import("./project_toml.js").ProjectNames} ProjectNames
@@ -32,10 +33,10 @@ export class ProjectFault extends Error {
  * @param {Uint8Array} bytes
  */
 function faultOfBytes(bytes) {
-  if (bytes.length === 0) return "it is empty; it names the files of the project, as board = \"board.toml\"";
+  if (bytes.length === 0) return say.EMPTY;
   const { length } = bytes;
-  if (length > LONGEST_PROJECT_FILE) return `it has ${length} bytes, more than a project file can have (${LONGEST_PROJECT_FILE})`;
-  return bytes.includes(0) ? "it has zero bytes; it is not a text" : "";
+  if (length > LONGEST_PROJECT_FILE) return say.tooLong(length, LONGEST_PROJECT_FILE);
+  return bytes.includes(0) ? say.ZERO_BYTES : "";
 }
 
 /**

@@ -3,6 +3,7 @@
 
 import { readBoardText } from "../text/board_reader.js";
 import { SPEEDS } from "../time/speeds.js";
+import * as say from "../words/server.js";
 
 /**
  * @typedef {import("../text/board_reader.js").Key} Key
@@ -23,11 +24,11 @@ export const LONGEST_PROJECT_FILE = 16384;
 const SPEED_NAMES = SPEEDS.map(({ id }) => `"${id}"`);
 /** What each key is, in words. */
 const KEYS = new Map([
-  ["board", "board is the path of a file: board = \"board.toml\""],
-  ["program", "program is the path of a file: program = \"program.asm\""],
-  ["tests", "tests is a list of paths: tests = [\"program.test\"]"],
-  ["properties", "properties is a list of paths: properties = [\"program.props\"]"],
-  ["speed", `speed is one of ${SPEED_NAMES.slice(0, -1).join(", ")} and ${SPEED_NAMES[SPEED_NAMES.length - 1]}`],
+  ["board", say.BOARD_IS],
+  ["program", say.PROGRAM_IS],
+  ["tests", say.TESTS_ARE],
+  ["properties", say.PROPERTIES_ARE],
+  ["speed", say.speedIs(SPEED_NAMES.slice(0, -1).join(", "), SPEED_NAMES[SPEED_NAMES.length - 1])],
 ]);
 const LISTS = ["tests", "properties"];
 const NEEDED = ["board", "program"];
@@ -47,12 +48,12 @@ function faultAt({ line, from, to }, words) {
  * @param {string} path
  */
 function faultOfPath(key, path) {
-  if (path === "") return `${key} has an empty path; ${KEYS.get(key)}`;
+  if (path === "") return say.emptyPath(key, KEYS.get(key));
   // eslint-disable-next-line no-control-regex
-  if (/[\u0000-\u001f\u007f]/.test(path)) return `a path of ${key} has a control character`;
-  if (path.includes("\\")) return `a path of ${key} has a \\; its folders are separated by /`;
-  if (path.startsWith("/")) return `${path} is no path from the project's folder; ${key} names files in it`;
-  if (path.split("/").includes("..")) return `${path} leads out of the project's folder; ${key} names files in it`;
+  if (/[\u0000-\u001f\u007f]/.test(path)) return say.controlCharacter(key);
+  if (path.includes("\\")) return say.backslash(key);
+  if (path.startsWith("/")) return say.noPath(path, key);
+  if (path.split("/").includes("..")) return say.outOfFolder(path, key);
   return "";
 }
 
@@ -62,7 +63,7 @@ function faultOfPath(key, path) {
  */
 function faultsOfKey({ name, line, from, to, value }) {
   const wanted = KEYS.get(name);
-  if (!wanted) return [faultAt({ line, from, to }, `a project has no key ${name}; it has board, program, tests, properties and speed`)];
+  if (!wanted) return [faultAt({ line, from, to }, say.noKey(name))];
   const { inner } = value;
   const values = LISTS.includes(name) && Array.isArray(inner) ? inner : [value];
   if (LISTS.includes(name) !== Array.isArray(inner)) return [faultAt(value, wanted)];
@@ -85,7 +86,7 @@ function faultsOfTwice(keys) {
   return keys.flatMap((key) => {
     const before = lines.get(key.name);
     if (before === undefined) lines.set(key.name, key.line);
-    return before === undefined || !KEYS.has(key.name) ? [] : [faultAt(key, `${key.name} stands in line ${before} already`)];
+    return before === undefined || !KEYS.has(key.name) ? [] : [faultAt(key, say.alreadyIn(key.name, before))];
   });
 }
 
@@ -112,13 +113,13 @@ export function readProjectToml(text) {
   const lists = keys.filter(({ value: { inner } }) => Array.isArray(inner) && inner.length === 0);
   const found = [
     ...faults.map((fault) => ({ ...fault, number: 0 })),
-    ...entries.map((entry) => faultAt(entry, "a project has no tables; each of its keys stands at the beginning of a line")),
+    ...entries.map((entry) => faultAt(entry, say.NO_TABLES)),
     ...[...others, ...lists].flatMap(faultsOfKey),
     ...faultsOfTwice(keys),
   ];
   if (found.length === 0) {
     const missing = NEEDED.filter((name) => !keys.some((key) => key.name === name));
-    found.push(...missing.map((name) => faultAt({ line: 1, from: 0, to: 0 }, `${name} is missing; ${KEYS.get(name)}`)));
+    found.push(...missing.map((name) => faultAt({ line: 1, from: 0, to: 0 }, say.missing(name, KEYS.get(name)))));
   }
   if (found.length > 0) return { names: null, faults: found.sort((one, other) => one.line - other.line) };
   const [[board], [program], tests, properties] = ["board", "program", ...LISTS].map((name) => filesOf(keys, name));

@@ -2,6 +2,7 @@
 
 import { breakpointLines, placeTold } from "./looks.js";
 import { placeIn, refuse } from "./words_of_line.js";
+import * as say from "../words/prompt.js";
 
 /**
  * @typedef {import("./prompt.js").Act} Act
@@ -27,7 +28,7 @@ export class BreakpointCommands {
   get acts() {
     /** @type {(isOn: boolean) => Act} */
     const turn = (isOn) => async (rest) => {
-      if (rest === "") refuse("which one? info breakpoints has their numbers");
+      if (rest === "") refuse(say.WHICH_ONE);
       for (const id of this.numbersOf(rest)) this.list.change(id, { isOn });
       await this.place();
     };
@@ -68,7 +69,7 @@ export class BreakpointCommands {
     }
     await machine.stand();
     const { address: placed } = this.list.get(made.id) || made;
-    calls.print(`Breakpoint ${made.id} at ${placeTold(session, placed)}.`);
+    calls.print(say.breakpointAt(made.id, placeTold(session, placed)));
   }
 
   async place() {
@@ -80,7 +81,7 @@ export class BreakpointCommands {
   numbersOf(rest) {
     return rest.split(/\s+/).filter(Boolean).map((word) => {
       const isThere = /^\d+$/.test(word) && this.list.get(Number(word));
-      return isThere ? Number(word) : refuse(`there is no breakpoint ${word}; info breakpoints has their numbers`);
+      return isThere ? Number(word) : refuse(say.noBreakpoint(word));
     });
   }
 
@@ -98,14 +99,14 @@ export class BreakpointCommands {
     const place = prompt.placeOfWords(rest, "watch");
     if (CHARACTER.test(place)) {
       await prompt.serve(`watch ${place.slice("ram.".length).replace(".", " ")}`);
-      prompt.calls.print(`${place} is watched.`);
+      prompt.calls.print(say.isWatched(place));
       return;
     }
     if (watched !== "" && watched !== place) {
-      refuse(`${watched} is watched, and of places that are no characters of RAM one can be: delete ${watched} comes first`);
+      refuse(say.oneIsWatched(watched));
     }
     this.watched = place;
-    prompt.calls.print(`${place} is watched by continue.`);
+    prompt.calls.print(say.watchedByContinue(place));
   }
 
   /** @param {string} rest */
@@ -113,14 +114,14 @@ export class BreakpointCommands {
     const place = this.prompt.placeOfWords(rest, "delete");
     if (CHARACTER.test(place)) await this.prompt.serve(`unwatch ${place.slice("ram.".length).replace(".", " ")}`);
     else if (this.watched === place) this.watched = "";
-    else refuse(`${place} is not watched`);
+    else refuse(say.notWatched(place));
   }
 
   /** What is watched. */
   get watches() {
     const [answer] = this.prompt.session.debugger.session.ask("watches\n");
     const told = answer.split(" ").slice(1).filter((each) => each !== "-").map((each) => `ram.${each.replace(".", ".0x")}`);
-    return [...told, ...(this.watched ? [`${this.watched}, by continue`] : [])].join("\n") || "nothing is watched";
+    return [...told, ...(this.watched ? [say.byContinue(this.watched)] : [])].join("\n") || say.NOTHING_WATCHED;
   }
 
   get told() {

@@ -3,13 +3,13 @@
 import { placeOf } from "../bench/places.js";
 import { setPlace } from "../adapter/setting.js";
 import { addressIn, refuse } from "./words_of_line.js";
+import * as say from "../words/prompt.js";
 
 /**
  * @typedef {import("./prompt.js").Act} Act
  * @typedef {import("./prompt.js").Prompt} Prompt
  */
 
-const SET_PLACES = "r4, p2, acc, cy, pc, dcl, test, ram.0.0x12, st.0.1.2 and rom.0x00F";
 
 export class ChangeCommands {
   /** @param {Prompt} prompt */
@@ -30,7 +30,7 @@ export class ChangeCommands {
         prompt.tellStop("");
       },
       bench: async (rest) => {
-        const { words, changes } = await prompt.lines.serve(rest || refuse("it is written as bench LINE, as bench state"));
+        const { words, changes } = await prompt.lines.serve(rest || refuse(say.BENCH_FORM));
         prompt.calls.print(words);
         if (changes) await prompt.machine.stand();
       },
@@ -50,10 +50,10 @@ export class ChangeCommands {
   async set(rest) {
     const { session, machine } = this.prompt;
     const [, left = "", right] = /^([^=\s]+)\s*(?:=|\s)\s*(.+)$/.exec(rest) || [];
-    if (right === undefined) refuse("it is written as set PLACE = VALUE, as set r4 = 7");
+    if (right === undefined) refuse(say.SET_FORM);
     const place = left.toLowerCase();
     const isPlace = placeOf(place) || /^(pc|test|p[0-7]|rom\.\w+)$/.test(place);
-    if (!isPlace) refuse(`${left} cannot be set: there are ${SET_PLACES}`);
+    if (!isPlace) refuse(say.cannotBeSet(left, say.SET_PLACES));
     const address = place === "pc" ? addressIn(right, session) : undefined;
     await setPlace(session, place, address === undefined ? right : String(address));
     await machine.stand();
@@ -63,13 +63,13 @@ export class ChangeCommands {
   async load() {
     const { calls, session, lines, machine } = this.prompt;
     const text = calls.source();
-    if (text === null) return refuse("there is no file of the source to read");
+    if (text === null) return refuse(say.NO_FILE);
     const refusal = await session.setProgram(text.replace(/^\uFEFF/, "").replace(/\r\n?/g, "\n"));
     if (refusal) {
       const place = refusal.line ? `, line ${refusal.line}` : "";
       refuse(`no ${refusal.number}${place}: ${lines.words.ofRefusal(refusal.number)}`);
     }
     await machine.stand();
-    return this.prompt.tellStop("The source is in ROM.");
+    return this.prompt.tellStop(say.SOURCE_IN_ROM);
   }
 }

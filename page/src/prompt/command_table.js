@@ -1,5 +1,7 @@
 // The commands of the prompt: their words, shorter ones, and what they do, in a line and in full.
 
+import * as say from "../words/prompt.js";
+
 /**
  * @typedef {{ name: string, short: string[], use: string, does: string, more: string }} CommandText
  */
@@ -73,8 +75,8 @@ export function commandOf(word) {
   if (own) return { command: own, words: "" };
   const alike = COMMANDS.filter(({ name }) => name.startsWith(word));
   if (alike.length === 1) return { command: alike[0], words: "" };
-  if (alike.length === 0) return { command: null, words: `there is no command ${word}; help shows them all` };
-  return { command: null, words: `${word} is not clear: ${alike.map(({ name }) => name).join(", ")}` };
+  if (alike.length === 0) return { command: null, words: say.noCommand(word) };
+  return { command: null, words: say.notClear(word, alike.map(({ name }) => name).join(", ")) };
 }
 
 /** @param {string} word "" for all commands */
@@ -83,5 +85,5 @@ export function helpOf(word) {
   const { command, words } = commandOf(word);
   if (!command) return words;
   const { short, use, does, more } = command;
-  return `${use}: ${does}.${more ? ` ${more}` : ""}${short.length > 0 ? ` Or: ${short.join(", ")}.` : ""}`;
+  return `${use}: ${does}.${more ? ` ${more}` : ""}${short.length > 0 ? say.otherNames(short.join(", ")) : ""}`;
 }

@@ -3,6 +3,7 @@
 import { readBoard } from "../bench/answers.js";
 import { keysOf } from "../testing/test_text.js";
 import { refuse } from "./words_of_line.js";
+import * as say from "../words/prompt.js";
 
 /**
  * @typedef {import("../debug/debug_session.js").DebugSession} DebugSession
@@ -34,8 +35,8 @@ export class KeysOfPrompt {
   told() {
     const down = this.session.debugger.session.ask("ports\n").find((line) => line.startsWith("keys ")) || "keys -";
     const { names } = this;
-    if (names.length === 0) return "the board has no keys";
-    return `${names.join(" ")}\n${down === "keys -" ? "none is down" : `down: ${down.slice(5)}`}`;
+    if (names.length === 0) return say.NO_KEYS;
+    return `${names.join(" ")}\n${down === "keys -" ? say.NONE_DOWN : say.down(down.slice(5))}`;
   }
 
   /**
@@ -58,11 +59,11 @@ export class KeysOfPrompt {
    * @param {string} command
    */
   read(text, command) {
-    if (text === "") refuse(`it is written as ${command} KEY; info keys has their names`);
+    if (text === "") refuse(say.keyForm(command));
     /** @type {(word: string) => NamedKey} */
     const found = (word) => {
       const { names } = this;
-      const why = names.length === 0 ? "the board has no keys" : `the board has no key ${word}; it has: ${names.join(" ")}`;
+      const why = names.length === 0 ? say.NO_KEYS : say.noKey(word, names.join(" "));
       return this.find(word) || refuse(why);
     };
     return text.split(/\s+/).flatMap((word) => (this.find(word) ? [word] : [...word])).map(found);

@@ -4,6 +4,7 @@ import { valueOfExpression } from "../adapter/values.js";
 import { commandOf, helpOf } from "./command_table.js";
 import * as looks from "./looks.js";
 import { addressIn, countIn, placeIn, refuse } from "./words_of_line.js";
+import * as say from "../words/prompt.js";
 
 /**
  * @typedef {import("./prompt.js").Act} Act
@@ -29,8 +30,8 @@ export class LookCommands {
   get acts() {
     const { calls, machine, session } = this.prompt;
     return {
-      lamps: () => calls.print(machine.shown.now() || "the board has no lamps"),
-      print: (rest) => calls.print(this.value(rest || refuse("it is written as print WHAT, as print r4"))),
+      lamps: () => calls.print(machine.shown.now() || say.NO_LAMPS),
+      print: (rest) => calls.print(this.value(rest || refuse(say.PRINT_FORM))),
       display: (rest) => this.display(rest),
       undisplay: (rest) => this.undisplay(rest),
       x: (rest) => this.examine(rest),
@@ -51,9 +52,9 @@ export class LookCommands {
   /** @param {string} rest also as gdb's layout and tui have it */
   view(rest) {
     const { view } = this.prompt.calls;
-    if (!/^(|on|off|enable|disable|src|regs|asm|split)$/.test(rest)) refuse("it is written as view, view on or view off");
+    if (!/^(|on|off|enable|disable|src|regs|asm|split)$/.test(rest)) refuse(say.VIEW_FORM);
     if (!view) {
-      refuse("the view is for a terminal: it stands above the commands that are typed there");
+      refuse(say.VIEW_NEEDS_TERMINAL);
       return;
     }
     const words = rest === "" ? view.toggle() : view.turn(!/^(off|disable)$/.test(rest));
@@ -91,7 +92,7 @@ export class LookCommands {
   undisplay(rest) {
     const numbers = rest.split(/\s+/).filter(Boolean).map(Number);
     const isWrong = numbers.some((each) => !(each >= 1 && each <= this.displays.length));
-    if (isWrong) refuse("there is no such display; info display has their numbers");
+    if (isWrong) refuse(say.NO_DISPLAY);
     this.displays = rest === "" ? [] : this.displays.filter((_, at) => !numbers.includes(at + 1));
   }
 
@@ -102,7 +103,7 @@ export class LookCommands {
     const many = countIn(count, MOST_SHOWN);
     if (/^ram\./i.test(place)) return calls.print(looks.characterLines(session, place, many));
     const address = place === "" ? session.address : addressIn(place, session);
-    if (address === undefined || address > 4095) return refuse(`${place} is no place: x/8 show, x/8 0x00F, x/16 ram.0.0x10`);
+    if (address === undefined || address > 4095) return refuse(say.noPlaceOfMemory(place));
     return calls.print(looks.codeLines(session, address, many));
   }
 
@@ -113,10 +114,10 @@ export class LookCommands {
     let from = this.listed + 1;
     if (rest !== "" || this.listed === 0) {
       const line = /^\d+$/.test(rest) ? Number(rest) : placeIn(rest, session).line;
-      if (line === 0) refuse("the source has no line there; x shows what stands in ROM");
+      if (line === 0) refuse(say.NO_LINE_THERE);
       from = Math.max(1, line - LISTED / 2);
     }
-    if (from > count) refuse(`the source has ${count} lines`);
+    if (from > count) refuse(say.sourceHas(count));
     calls.print(looks.sourceLines(session, from, from + LISTED - 1));
     this.listed = Math.min(count, from + LISTED - 1);
   }
@@ -132,12 +133,12 @@ export class LookCommands {
       keys: () => keys.told(),
       breakpoints: () => breakpoints.told,
       watches: () => breakpoints.watches,
-      display: () => this.displays.map((what, at) => `${at + 1}: ${what}`).join("\n") || "nothing is displayed",
+      display: () => this.displays.map((what, at) => `${at + 1}: ${what}`).join("\n") || say.NOTHING_DISPLAYED,
       names: () => looks.nameLines(session),
-      source: () => `${launched.program || "made of what stands in ROM"}, ${looks.linesOfSource(session)} lines`,
-      session: () => (launched.kept ? "a session file, which has at each stop what was done" : "in memory: nothing is kept"),
+      source: () => say.linesOf(launched.program || say.MADE_OF_ROM, looks.linesOfSource(session)),
+      session: () => (launched.kept ? say.SESSION_FILE : say.IN_MEMORY),
     };
     const found = INFOS.filter((kind) => rest !== "" && kind.startsWith(rest));
-    return kinds[found.length === 1 ? found[0] : refuse(`info shows ${INFOS.join(", ")}`)]();
+    return kinds[found.length === 1 ? found[0] : refuse(say.infoShows(INFOS.join(", ")))]();
   }
 }

@@ -7,6 +7,7 @@ import { wordsOfPlace } from "../words/stops.js";
 import { framesOf } from "../adapter/frames.js";
 import { rowsAt } from "../adapter/disassembly.js";
 import { refuse } from "./words_of_line.js";
+import * as say from "../words/prompt.js";
 
 /** @typedef {import("../debug/debug_session.js").DebugSession} DebugSession */
 
@@ -53,7 +54,7 @@ export function linesOfSource({ program }) {
  */
 export function sourceLines(session, from, to) {
   const last = Math.min(to, linesOfSource(session));
-  if (from > last) refuse(`the source has ${linesOfSource(session)} lines`);
+  if (from > last) refuse(say.sourceHas(linesOfSource(session)));
   return upTo(last - from + 1).map((at) => sourceLine(session, from + at)).join("\n");
 }
 
@@ -98,7 +99,7 @@ export function ramLines(session) {
     }),
     ...[...ports].map(([place, out]) => `ram${place} out ${out}`),
   ]);
-  return lines.length > 0 ? lines.join("\n") : "the board has no RAM";
+  return lines.length > 0 ? lines.join("\n") : say.NO_RAM;
 }
 
 /** @param {DebugSession} session */
@@ -125,13 +126,13 @@ export function placeTold(session, address) {
 /** @param {DebugSession} session */
 export function frameLines(session) {
   return framesOf(session).map(({ address, line, name }, at) => (
-    `#${at}  ${hex(address, 3)}  ${name}${line > 0 ? `, line ${line}` : ""}${at > 0 ? ", the call" : ""}`)).join("\n");
+    `#${at}  ${hex(address, 3)}  ${name}${line > 0 ? `, line ${line}` : ""}${at > 0 ? say.THE_CALL : ""}`)).join("\n");
 }
 
 /** @param {DebugSession} session */
 export function nameLines({ map }) {
   const names = [...map.names.values()];
-  if (names.length === 0) return "the source has no names";
+  if (names.length === 0) return say.NO_NAMES;
   return names.map(({ name, value, isLabel }) => (
     `${name.padEnd(16)}${isLabel ? hex(value, 3) : hex(value, 2).padStart(3)}${isLabel ? `  line ${map.lineOf(value)}` : ""}`)).join("\n");
 }
@@ -139,7 +140,7 @@ export function nameLines({ map }) {
 /** @param {DebugSession} session */
 export function breakpointLines({ breakpoints }) {
   const { all, kept } = breakpoints;
-  if (all.length === 0) return "there are no breakpoints";
+  if (all.length === 0) return say.NO_BREAKPOINTS;
   const lines = linesOfBreakpoints(kept);
   return all.map(({ id, hits }, at) => (
     `${id}  ${lines[at].slice("break ".length)}${hits > 0 ? `, ${counted(hits, "hit")}` : ""}`)).join("\n");
@@ -154,11 +155,11 @@ export function breakpointLines({ breakpoints }) {
 export function characterLines(session, text, count) {
   const [, bank, at] = /^ram\.([0-7])\.(\w+)$/i.exec(text) || [];
   const first = numberOf(at || "");
-  if (bank === undefined || !(first <= 255)) refuse(`${text} is no place of RAM, as ram.0.0x10 is`);
+  if (bank === undefined || !(first <= 255)) refuse(say.noPlaceOfRam(text));
   const standing = standingOf(session);
   const values = upTo(Math.min(count, 256 - first)).map((more) => standing.character(Number(bank), first + more));
   const lacking = values.findIndex((value) => value === "");
-  if (lacking === 0) refuse(`the board has no RAM at ${text}`);
+  if (lacking === 0) refuse(say.noRamAt(text));
   const known = lacking < 0 ? values : values.slice(0, lacking);
   return `ram.${bank}.0x${hex(first, 2)}  ${known.join("")}`;
 }

@@ -3,6 +3,7 @@
 import { callsOpen } from "./looks.js";
 import { backOver, pressed } from "./moves.js";
 import { countIn, cyclesIn, placeIn, refuse } from "./words_of_line.js";
+import * as say from "../words/prompt.js";
 
 /**
  * @typedef {import("./prompt.js").Act} Act
@@ -32,7 +33,7 @@ export class MoveCommands {
       },
       "finish": (rest) => this.finish(rest),
       "until": (rest) => {
-        if (rest === "") refuse("it is written as until PLACE, as until show");
+        if (rest === "") refuse(say.UNTIL_FORM);
         const { address } = placeIn(rest, this.prompt.session);
         return this.move(() => machine.go({ kind: "here", address }));
       },
@@ -45,7 +46,7 @@ export class MoveCommands {
       "reverse-next": (rest) => this.repeat(rest, () => machine.begin(async () => (
         machine.wentBack(await backOver(this.prompt.session, () => machine.between()), "goal")), () => false)),
       "reverse-continue": (rest) => {
-        if (rest !== "") refuse("reverse-continue stands alone; reverse-step N goes back so many instructions");
+        if (rest !== "") refuse(say.REVERSE_FORM);
         return this.move(() => machine.back({ kind: "arrival", place: this.prompt.watched }));
       },
       "back": (rest) => {
@@ -80,17 +81,17 @@ export class MoveCommands {
 
   /** @param {string} rest */
   finish(rest) {
-    if (rest !== "") refuse("finish stands alone");
-    if (callsOpen(this.prompt.session) === 0) refuse("no call waits for its return here");
+    if (rest !== "") refuse(say.FINISH_FORM);
+    if (callsOpen(this.prompt.session) === 0) refuse(say.NO_CALL_WAITS);
     return this.move(() => this.prompt.machine.go({ kind: "out" }));
   }
 
   /** @param {string} rest */
   goOn(rest) {
-    if (rest !== "") refuse("continue stands alone; run TIME lets a time pass");
+    if (rest !== "") refuse(say.CONTINUE_FORM);
     const { session, watched, calls, machine } = this.prompt;
     const stops = session.breakpoints.countOn > 0 || watched !== "" || session.debugger.session.ask("watches\n")[0] !== "watches -";
-    if (!stops && !calls.isByHand) refuse("nothing would stop it: set a breakpoint, or let a time pass by run 100 ms");
+    if (!stops && !calls.isByHand) refuse(say.NOTHING_STOPS);
     return this.move(() => machine.go(watched === "" ? null : { kind: "change", place: watched }));
   }
 
@@ -108,9 +109,9 @@ export class MoveCommands {
       }, () => true));
       if (why === "passed") continue;
       const left = keys.slice(at + 1).map(({ name }) => name).join(" ");
-      prompt.tellStop(left === "" ? words : `${words} Not pressed: ${left}.`);
+      prompt.tellStop(left === "" ? words : say.notPressed(words, left));
       return;
     }
-    prompt.tellStop(`Stands at ${session.placeWords}.`);
+    prompt.tellStop(say.standsAt(session.placeWords));
   }
 }

@@ -2,6 +2,7 @@
 
 import { DOWN_CYCLES } from "../worker/key_queue.js";
 import { isCall, isReturn } from "../worker/rom_codes.js";
+import * as say from "../words/prompt.js";
 
 /**
  * @typedef {import("../debug/debug_session.js").DebugSession} DebugSession
@@ -29,12 +30,12 @@ export async function backOver(session, goesOn) {
   let depth = went.isDone && isReturn(codeHere(session)) ? 1 : 0;
   while (depth > 0) {
     went = await session.back({ kind: "change", place: "ret" }, goesOn);
-    const words = `Back in the subroutine, at ${session.placeWords}: what is remembered begins in it.`;
+    const words = say.backInSubroutine(session.placeWords);
     if (!went.isDone) return { ...went, words, isDone: true };
     const code = codeHere(session);
     depth += Number(isReturn(code)) - Number(isCall(code));
   }
-  return { ...went, words: went.isDone ? `Back at ${session.placeWords}: this instruction is not done.` : went.words };
+  return { ...went, words: went.isDone ? say.backAt(session.placeWords) : went.words };
 }
 
 /**

@@ -19,6 +19,7 @@ import { INFOS, LookCommands } from "./look_commands.js";
 import { hereLine } from "./looks.js";
 import { MoveCommands } from "./move_commands.js";
 import { refuse } from "./words_of_line.js";
+import * as say from "../words/prompt.js";
 
 /**
  * @typedef {import("../adapter/launching.js").Launched} Launched
@@ -85,7 +86,7 @@ export class Prompt {
   async begin() {
     this.breakpoints.takeOwn();
     await this.session.placeBreakpoints();
-    this.tellStop(`Stands at ${this.session.placeWords}.`);
+    this.tellStop(say.standsAt(this.session.placeWords));
   }
 
   /** Others have a turn. Where nobody can stop what has no end, it ends after a while. */
@@ -102,7 +103,7 @@ export class Prompt {
   output(words, category) {
     if (category === "stderr") this.calls.complain(words.trimEnd());
     // What was not done is told once, as a refusal.
-    else if (!words.startsWith("Nothing was done")) this.calls.print(words.trimEnd());
+    else if (!words.startsWith(say.NOTHING_DONE)) this.calls.print(words.trimEnd());
   }
 
   // --- lines ---
@@ -137,8 +138,8 @@ export class Prompt {
     this.begun = this.session.debugger.session.count.total;
     act();
     await this.machine.move;
-    const words = this.ended.words.replace("the page remembers", "the session remembers");
-    return words.startsWith("Nothing was done") ? refuse(words) : words;
+    const words = this.ended.words.replace(say.PAGE_REMEMBERS, say.SESSION_REMEMBERS);
+    return words.startsWith(say.NOTHING_DONE) ? refuse(words) : words;
   }
 
   /**
@@ -167,11 +168,11 @@ export class Prompt {
    * @param {string} command
    */
   placeOfWords(text, command) {
-    if (text === "") refuse(`it is written as ${command} PLACE, as ${command} r4`);
+    if (text === "") refuse(say.placeForm(command));
     const lamp = this.face.lampNumbers.get(text.replace(/ /g, "_"));
     const place = placeOf(lamp === undefined ? text : `lamp ${lamp}`);
-    if (!place) return refuse(`${text} is no place: there are ${PLACES_TOLD}`);
-    return this.session.values([place.name])[0] === "" ? refuse(`the board has no ${place.name}`) : place.name;
+    if (!place) return refuse(say.noPlace(text, PLACES_TOLD));
+    return this.session.values([place.name])[0] === "" ? refuse(say.boardHasNo(place.name)) : place.name;
   }
 
   // --- completion ---

@@ -8,6 +8,7 @@ import { upTo } from "../bench/numbers.js";
 import { Standing } from "../debug/standing.js";
 import { wordsOfCycles } from "../time/cycles.js";
 import { codeLines, linesOfSource, sourceLine } from "./looks.js";
+import * as say from "../words/prompt.js";
 
 /**
  * @typedef {import("./prompt.js").Prompt} Prompt
@@ -150,7 +151,7 @@ export class View {
     const [keys = ""] = session.debugger.session.ask("ports\n").filter((line) => line.startsWith("keys ") && line !== "keys -");
     const shown = machine.shown.now();
     const displays = looks.displays.slice(0, MOST_DISPLAYS).map((what) => `${what} = ${looks.valueOrFault(what)}`);
-    return [shown, keys && `down: ${keys.slice("keys ".length)}`, ...displays].filter(Boolean).map((line) => cut(line, columns));
+    return [shown, keys && say.down(keys.slice("keys ".length)), ...displays].filter(Boolean).map((line) => cut(line, columns));
   }
 }
 

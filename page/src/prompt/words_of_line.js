@@ -3,6 +3,7 @@
 import { hex, numberOf } from "../bench/numbers.js";
 import { wholeDuration } from "../debug/durations.js";
 import { placeOfAddress, placeOfLine } from "../debug/breakpoints.js";
+import * as say from "../words/prompt.js";
 
 /**
  * @typedef {import("../debug/debug_session.js").DebugSession} DebugSession
@@ -20,7 +21,6 @@ export function refuse(words) {
   throw new Refused(words);
 }
 
-const PLACES = "a line of the source as 12, a label as show or show + 2, an address as 0x00F";
 
 /**
  * The address that a label with a number behind it says, or an address itself; undefined where it is none.
@@ -46,12 +46,12 @@ export function placeIn(text, session) {
   if (words === "") return { line: session.line, address: session.address };
   if (/^\d+$/.test(words)) {
     const { line, address } = placeOfLine(Number(words), session.map);
-    if (address < 0) refuse(`no instruction stands in line ${words} of the source, or behind it`);
+    if (address < 0) refuse(say.noInstructionIn(words));
     return { line, address };
   }
   const address = addressIn(words, session);
-  if (address === undefined) refuse(`${words} is no place in the program: it is ${PLACES}`);
-  if (address > 4095) refuse("addresses are 0x000 to 0xFFF");
+  if (address === undefined) refuse(say.noPlaceInProgram(words, say.PLACES));
+  if (address > 4095) refuse(say.ADDRESS_RANGE);
   return { line: placeOfAddress(address, session.map).line, address };
 }
 
@@ -62,7 +62,7 @@ export function placeIn(text, session) {
  */
 export function countIn(text, most) {
   const count = text.trim() === "" ? 1 : Number(text);
-  if (!/^\s*\d*\s*$/.test(text) || count < 1 || count > most) refuse(`a count is 1 to ${most.toLocaleString("en")}, not ${text.trim()}`);
+  if (!/^\s*\d*\s*$/.test(text) || count < 1 || count > most) refuse(say.countIs(most.toLocaleString("en"), text.trim()));
   return count;
 }
 
@@ -72,7 +72,7 @@ export function countIn(text, most) {
  */
 export function cyclesIn(text) {
   const cycles = wholeDuration(text.trim().split(/\s+/));
-  return cycles > 0 ? cycles : refuse(`${text.trim() || "nothing"} is no time: it is cycles as 538, or 54 us, 20 ms, 1.5 s`);
+  return cycles > 0 ? cycles : refuse(say.noTime(text.trim() || say.NOTHING));
 }
 
 /** @param {number} address */

@@ -10,6 +10,7 @@ import { helpForBoard } from "../text/text_help.js";
 import { tomlWords } from "../text/toml_words.js";
 import { BoardPlaces } from "./board_places.js";
 import { REQUEST_FAILED, ProtocolError, rangeOf } from "./protocol.js";
+import * as say from "../words/server.js";
 
 /**
  * @typedef {import("./open_text.js").OpenText} OpenText
@@ -95,7 +96,7 @@ export class BoardLanguage {
 
   /** @returns {import("./protocol.js").TextEdit[]} */
   rename() {
-    throw new ProtocolError(REQUEST_FAILED, "A board's text has no names that can be changed here.");
+    throw new ProtocolError(REQUEST_FAILED, say.NO_BOARD_NAMES);
   }
 
   /**

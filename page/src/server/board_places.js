@@ -1,6 +1,7 @@
 // The parts of a board in its text, and the values that name them: a lamp's line leads to its chip.
 
 import { readBoardText } from "../text/board_reader.js";
+import * as say from "../words/server.js";
 
 /**
  * @typedef {import("../text/board_reader.js").Entry} Entry
@@ -91,13 +92,13 @@ export class BoardPlaces {
     const found = LINE.exec(String(value.inner));
     if (!found || value.key === "port") return "";
     const [name, kind, first, second, third] = found;
-    const what = kind === "rom" ? `line ${second} of the port of ROM ${first}`
-      : kind === "chain" ? `bit ${second} of chain ${first}`
-        : `line ${third} of the port of RAM chip ${second} in bank ${first}`;
+    const what = kind === "rom" ? say.lineOfRom(second, first)
+      : kind === "chain" ? say.bitOfChain(second, first)
+        : say.lineOfRam(third, second, first);
     const lamp = this.lamps.indexOf(value.entry);
     const told = face.lamps.get(lamp);
     const ofLamp = lamp < 0 ? "" : `, lamp ${lamp}${told ? ` (${told.text})` : ""}`;
     const part = this.partOf(value);
-    return `${name}: ${what}${ofLamp}${part ? `; its ${kind === "chain" ? "chain" : "chip"} stands in line ${part.line}` : ""}.`;
+    return `${name}: ${what}${ofLamp}${part ? say.standsIn(kind === "chain", part.line) : ""}.`;
   }
 }

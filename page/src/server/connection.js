@@ -3,6 +3,7 @@
 import { MessageReader, framed } from "./framing.js";
 import { CANCELLED, INTERNAL_ERROR, INVALID_REQUEST, METHOD_NOT_FOUND, NOT_INITIALIZED, PARSE_ERROR } from "./protocol.js";
 import { ProtocolError, fieldOf } from "./protocol.js";
+import * as say from "../words/server.js";
 
 /**
  * @typedef {number | string | null} Id
@@ -40,7 +41,7 @@ export class Connection {
   take(bytes) {
     for (const received of this.reader.take(bytes)) {
       if ("text" in received) this.takeText(received.text);
-      else this.refuse(null, new ProtocolError(INVALID_REQUEST, `a message of ${received.tooLong} bytes was not read`));
+      else this.refuse(null, new ProtocolError(INVALID_REQUEST, say.messageTooLong(received.tooLong)));
     }
   }
 
@@ -50,14 +51,14 @@ export class Connection {
     try {
       message = JSON.parse(text);
     } catch {
-      this.refuse(null, new ProtocolError(PARSE_ERROR, "a message is not JSON"));
+      this.refuse(null, new ProtocolError(PARSE_ERROR, say.NOT_JSON));
       return;
     }
     const [id, method] = [fieldOf(message, "id"), fieldOf(message, "method")];
     // An answer to something: nothing is ever asked of the client.
     if (method === undefined && isId(id) && ("result" in message || "error" in message)) return;
     if (typeof method !== "string" || fieldOf(message, "jsonrpc") !== "2.0" || !(id === undefined || isId(id))) {
-      const words = "a message has jsonrpc \"2.0\", a method, and an id if it is answered";
+      const words = say.MESSAGE_FORM;
       this.refuse(isId(id) ? id : null, new ProtocolError(INVALID_REQUEST, words));
     } else if (id === undefined) this.notified(method, message.params);
     else this.request(id, method, message.params);
@@ -68,9 +69,9 @@ export class Connection {
    * @param {string} method
    */
   faultOfOrder(method) {
-    if (this.state === "shut") return new ProtocolError(INVALID_REQUEST, "after shutdown comes exit alone");
-    if (this.state === "new" && method !== "initialize") return new ProtocolError(NOT_INITIALIZED, "initialize comes first");
-    if (this.state === "open" && method === "initialize") return new ProtocolError(INVALID_REQUEST, "initialize comes once");
+    if (this.state === "shut") return new ProtocolError(INVALID_REQUEST, say.EXIT_AFTER_SHUTDOWN);
+    if (this.state === "new" && method !== "initialize") return new ProtocolError(NOT_INITIALIZED, say.INITIALIZE_FIRST);
+    if (this.state === "open" && method === "initialize") return new ProtocolError(INVALID_REQUEST, say.INITIALIZE_ONCE);
     return null;
   }
 
@@ -83,7 +84,7 @@ export class Connection {
     const fault = this.faultOfOrder(method);
     const act = Object.prototype.hasOwnProperty.call(this.served.requests, method) && this.served.requests[method];
     if (fault || !act) {
-      this.refuse(id, fault || new ProtocolError(METHOD_NOT_FOUND, `there is no ${method} here`));
+      this.refuse(id, fault || new ProtocolError(METHOD_NOT_FOUND, say.noMethod(method)));
       return;
     }
     this.waiting.add(id);
@@ -108,7 +109,7 @@ export class Connection {
     }
     if (method === "$/cancelRequest") {
       const id = fieldOf(params, "id");
-      if (this.waiting.delete(id)) this.refuse(id, new ProtocolError(CANCELLED, "it was cancelled"));
+      if (this.waiting.delete(id)) this.refuse(id, new ProtocolError(CANCELLED, say.CANCELLED));
       return;
     }
     const act = Object.prototype.hasOwnProperty.call(this.served.notifications, method) && this.served.notifications[method];

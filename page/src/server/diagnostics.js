@@ -3,6 +3,7 @@
 import { MOST_FAULTS } from "../text/program_faults.js";
 import { LONGEST_KEPT } from "../text/text_fault.js";
 import { rangeOf } from "./protocol.js";
+import * as say from "../words/server.js";
 
 /**
  * @typedef {import("../text/text_fault.js").Fault} Fault
@@ -36,7 +37,7 @@ export function diagnosticsOf(faults, areAll) {
   const isMore = faults.length > MOST_FAULTS || (!areAll && faults.length > 1);
   if (!isMore) return told;
   const { range } = told[told.length - 1];
-  return [...told, { range, severity: INFORMATION, source: SOURCE, message: "There may be more faults." }];
+  return [...told, { range, severity: INFORMATION, source: SOURCE, message: say.MAY_BE_MORE }];
 }
 
 /**
@@ -48,8 +49,7 @@ export function faultOfLength({ lines, length }) {
   if (length <= LONGEST_KEPT) return null;
   let [line, before] = [0, 0];
   for (; before + lines[line].length < LONGEST_KEPT; line++) before += lines[line].length + 1;
-  const words = `a text has at most ${LONGEST_KEPT.toLocaleString("en")} characters; this has ${length.toLocaleString("en")}, `
-    + "and the limit is passed here";
+  const words = say.textTooLong(LONGEST_KEPT.toLocaleString("en"), length.toLocaleString("en"));
   return { number: TEXT_TOO_LONG, line: line + 1, from: Math.max(0, LONGEST_KEPT - before - 1), to: lines[line].length, words };
 }
 
@@ -75,7 +75,7 @@ export function cures(uri, faults, range) {
   return faults.filter((fault) => touches(fault, range)).flatMap((fault) => {
     const texts = fault.cures || [];
     return texts.map((newText) => ({
-      title: `Write ${newText}`,
+      title: say.write(newText),
       kind: "quickfix",
       diagnostics: [diagnosticOf(fault)],
       isPreferred: texts.length === 1,

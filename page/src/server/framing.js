@@ -1,5 +1,7 @@
 // Messages as they go over a stream: a head that says how many bytes follow, and these.
 
+import * as say from "../words/server.js";
+
 /** Longer messages are not read. */
 export const LONGEST_MESSAGE = 16777216;
 const LONGEST_HEAD = 4096;
@@ -16,7 +18,7 @@ export class StreamLost extends Error {}
 /** @param {string} head */
 function sizeIn(head) {
   const sizes = head.split("\r\n").map((line) => SIZE.exec(line)).filter((each) => each !== null);
-  if (sizes.length !== 1) throw new StreamLost("a message begins with one line Content-Length: N, and an empty one after it");
+  if (sizes.length !== 1) throw new StreamLost(say.HEAD_FORM);
   return Number(/** @type {RegExpExecArray} */ (sizes[0])[1]);
 }
 
@@ -66,7 +68,7 @@ export class MessageReader {
         this.head = "";
         return at + 1;
       }
-      if (this.head.length > LONGEST_HEAD) throw new StreamLost(`the head of a message has more than ${LONGEST_HEAD} bytes`);
+      if (this.head.length > LONGEST_HEAD) throw new StreamLost(say.headTooLong(LONGEST_HEAD));
     }
     return bytes.length;
   }

@@ -3,6 +3,7 @@
 import { PROJECT_FILE, filesNamed, readProjectToml } from "../project/project_toml.js";
 import { readBoardText } from "../text/board_reader.js";
 import { LONGEST_KEPT } from "../text/text_fault.js";
+import * as say from "../words/server.js";
 
 /**
  * @typedef {import("./open_text.js").OpenText} OpenText
@@ -47,7 +48,7 @@ export function faultsOfProject(uri, text, textOf) {
   const { names, faults } = readProjectToml(text);
   if (!names) return faults;
   return filesNamed(names).filter(({ path }) => textOf(within(folderOf(uri), path)) === null).map(({ path, key, line, from, to }) => (
-    { number: 0, line, from, to, words: `${key}: there is no file ${path}` }));
+    { number: 0, line, from, to, words: say.noFile(key, path) }));
 }
 
 /**

@@ -12,6 +12,7 @@ import { ProgramLanguage } from "./program_language.js";
 import { INVALID_PARAMS, ProtocolError, fieldOf, needPosition, needRange, needText } from "./protocol.js";
 import { TextBench } from "./text_bench.js";
 import { MODIFIERS, TYPES, tokenCodes } from "./token_codes.js";
+import * as say from "../words/server.js";
 
 /**
  * @typedef {import("../text/text_fault.js").Fault} Fault
@@ -98,7 +99,7 @@ export class LanguageServer {
   textIn(params) {
     const uri = needText(fieldOf(fieldOf(params, "textDocument"), "uri"), "textDocument.uri");
     const text = this.texts.get(uri);
-    if (!text) throw new ProtocolError(INVALID_PARAMS, `${uri} is not open`);
+    if (!text) throw new ProtocolError(INVALID_PARAMS, say.notOpen(uri));
     return text;
   }
 
@@ -135,11 +136,11 @@ export class LanguageServer {
   changed(params) {
     const text = this.textIn(params);
     const changes = fieldOf(params, "contentChanges");
-    if (!Array.isArray(changes)) throw new ProtocolError(INVALID_PARAMS, "contentChanges is a list");
+    if (!Array.isArray(changes)) throw new ProtocolError(INVALID_PARAMS, say.CHANGES_ARE);
     // All of them are looked at before the first one is made.
     const edits = changes.map((change) => {
       const range = fieldOf(change, "range");
-      return { range: range ? needRange(range) : null, text: needText(fieldOf(change, "text"), "the text of a change") };
+      return { range: range ? needRange(range) : null, text: needText(fieldOf(change, "text"), say.TEXT_OF_CHANGE) };
     });
     for (const edit of edits) text.open.edit(edit.range, edit.text);
     text.open.version = fieldOf(fieldOf(params, "textDocument"), "version");
@@ -199,7 +200,7 @@ export class LanguageServer {
       if (diagnostics.length === 0 && this.languageOf(open) === this.program) this.program.assembled(open);
     } catch (thrown) {
       Object.assign(text, { faults: [], lookedAt: edits });
-      this.connection.tell(`the faults of ${uri}: ${thrown instanceof Error ? thrown.message : String(thrown)}`);
+      this.connection.tell(say.faultsOf(uri, thrown instanceof Error ? thrown.message : String(thrown)));
     }
   }
 

@@ -9,6 +9,7 @@ import { definitionOf, faultOfRenaming, nameAt, referencesOf } from "../text/ref
 import { sentText } from "../text/text_fault.js";
 import { helpForProgram } from "../text/text_help.js";
 import { REQUEST_FAILED, ProtocolError, rangeOf } from "./protocol.js";
+import * as say from "../words/server.js";
 
 /**
  * @typedef {import("../help/manual.js").Instruction} Instruction
@@ -108,8 +109,8 @@ export class ProgramLanguage {
     const codes = [...bytes.subarray(address, address + map.sizes[line])].map((byte) => hex(byte, 2)).join(" ");
     const { head } = partsOf(text);
     const instruction = head && this.instructions.get(head.text.toUpperCase());
-    const cycles = instruction ? `, ${instruction.cycles} cycle${instruction.cycles === "1" ? "" : "s"}` : "";
-    return `line ${line}: address 0x${hex(address, 3)}, ${codes}${cycles}`;
+    const cycles = instruction ? say.cyclesOf(instruction.cycles) : "";
+    return say.lineAt(line, hex(address, 3), codes, cycles);
   }
 
   /**
@@ -151,7 +152,7 @@ export class ProgramLanguage {
    */
   rename({ lines }, { line, character }, wanted) {
     const name = nameAt(lines, line, character);
-    if (name === "") throw new ProtocolError(REQUEST_FAILED, "No name of the program stands here.");
+    if (name === "") throw new ProtocolError(REQUEST_FAILED, say.NO_NAME_HERE);
     const fault = faultOfRenaming(lines, name, wanted, this.isInstruction);
     if (fault !== "") throw new ProtocolError(REQUEST_FAILED, fault);
     return referencesOf(lines, name).map(({ line: at, from, to }) => ({ range: rangeOf(at, from, to), newText: wanted }));

@@ -1,5 +1,7 @@
 // What the protocol of language servers says of messages: their form, and the numbers of their errors.
 
+import * as say from "../words/server.js";
+
 /**
  * @typedef {{ line: number, character: number }} Position from 0; characters are UTF-16 units, as JavaScript counts them
  * @typedef {{ start: Position, end: Position }} Range
@@ -55,7 +57,7 @@ export function fieldOf(value, name) {
  * @returns {string}
  */
 export function needText(value, what) {
-  if (typeof value !== "string") throw new ProtocolError(INVALID_PARAMS, `${what} is a text`);
+  if (typeof value !== "string") throw new ProtocolError(INVALID_PARAMS, say.isText(what));
   return value;
 }
 
@@ -66,7 +68,7 @@ export function needText(value, what) {
 export function needPosition(value) {
   const [line, character] = [fieldOf(value, "line"), fieldOf(value, "character")];
   if (![line, character].every((each) => Number.isSafeInteger(each) && each >= 0)) {
-    throw new ProtocolError(INVALID_PARAMS, "a position has a line and a character, whole numbers from 0");
+    throw new ProtocolError(INVALID_PARAMS, say.POSITION_IS);
   }
   return { line, character };
 }

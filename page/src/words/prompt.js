@@ -8,9 +8,9 @@ export const breakpointAt = (id, place) => `Breakpoint ${id} at ${place}.`;
 export const noBreakpoint = (word) => `there is no breakpoint ${word}; info breakpoints has their numbers`;
 /** @type {(place: string) => string} */
 export const isWatched = (place) => `${place} is watched.`;
-/** @type {(watched: string, first: string) => string} */
-export const oneIsWatched = (watched, first) => (
-  `${watched} is watched, and of places that are no characters of RAM one can be: delete ${first} comes first`);
+/** @type {(watched: string) => string} */
+export const oneIsWatched = (watched) => (
+  `${watched} is watched, and of places that are no characters of RAM one can be: delete ${watched} comes first`);
 /** @type {(place: string) => string} */
 export const watchedByContinue = (place) => `${place} is watched by continue.`;
 /** @type {(place: string) => string} */

@@ -74,7 +74,7 @@ export const TESTS_ARE = "tests is a list of paths: tests = [\"program.test\"]";
 export const PROPERTIES_ARE = "properties is a list of paths: properties = [\"program.props\"]";
 /** @type {(names: string, last: string) => string} */
 export const speedIs = (names, last) => `speed is one of ${names} and ${last}`;
-/** @type {(key: string, form: string) => string} */
+/** @type {(key: string, form: string | undefined) => string} */
 export const emptyPath = (key, form) => `${key} has an empty path; ${form}`;
 /** @type {(key: string) => string} */
 export const controlCharacter = (key) => `a path of ${key} has a control character`;
@@ -89,5 +89,5 @@ export const noKey = (name) => `a project has no key ${name}; it has board, prog
 /** @type {(name: string, line: number) => string} */
 export const alreadyIn = (name, line) => `${name} stands in line ${line} already`;
 export const NO_TABLES = "a project has no tables; each of its keys stands at the beginning of a line";
-/** @type {(name: string, form: string) => string} */
+/** @type {(name: string, form: string | undefined) => string} */
 export const missing = (name, form) => `${name} is missing; ${form}`;
