@@ -2,7 +2,7 @@
 -- that come after others.
 use Rattle.std.proofs.Common.{◌≡◌, ◌⊎◌, inl, inr, ⊎_elim, ℕ, zero, suc, ◌+◌, ◌≤◌, ◌<◌, List, [], ◌∷◌, ◌++◌, length, take, refl, arith, sym, ◌∙◌, ap, subst, get_or, length-take}
 use Rattle.mcs_disk.specs.Calls.{DiskCall, WasRead, Wrote, Failed, Synced, Torn, put, bytes_after, clock_of, images_after, since_after}
-use Rattle.mcs_disk.specs.Moments.{writes_of}
+use Rattle.mcs_disk.specs.Stretches.{writes_of}
 use Rattle.mcs_disk.specs.Disk.{DiskState, bytes_of, images_of, images_since, size_of, time_of}
 
 pub length-put : (at : ℕ) (from file : List ℕ) → length (put at from file) ≡ length file

@@ -2,7 +2,7 @@
 use Rattle.std.proofs.Common.{◌≡◌, inl, inr, ⊎_elim, ◌≤◌, List, [], ◌∷◌, ◌++◌, ℕ, zero, suc, replicate, refl, sym, ◌∙◌, ap, subst, append_assoc, Result, Ok, Err}
 use Rattle.mcs_disk.specs.CallList.{CutShort, FailureOf, Makes, OneUnsynced, unsynced}
 use Rattle.mcs_disk.specs.Calls.{DiskCall, Failed, Synced, WasRead, Wrote}
-use Rattle.mcs_disk.specs.Moments.{writes_of}
+use Rattle.mcs_disk.specs.Stretches.{writes_of}
 
 -- no call was made
 pub none_added : (calls : List DiskCall) → OneUnsynced calls calls

@@ -5,7 +5,7 @@ use Rattle.mcs_disk.specs.CallList.{CutShort, Makes}
 use Rattle.mcs_disk.specs.Disk.{CountsFault, DiskState, IsLater, bytes_of, images_of, images_since, most_faults, size_of, time_of}
 use Rattle.mcs_disk.specs.Calls.{bytes_after, clock_of, images_after, since_after, DiskCall, Failed, Synced, WasRead, Wrote}
 use Rattle.mcs_disk.specs.Changes.{Changes, ReadsOnly}
-use Rattle.mcs_disk.specs.Moments.{AddsNoImage, Either, LeavesOnly, writes_of}
+use Rattle.mcs_disk.specs.Stretches.{AddsNoImage, Either, LeavesOnly, writes_of}
 use Rattle.mcs_disk.specs.PowerCut.{IsDurable}
 use Rattle.mcs_disk.proofs.CallLaws.{Quiet, clock_of-more, lawful, quiet, quiet_bytes, quiet_durable, quiet_images, quiet_since, since_before, since_more, since_sized}
 use Rattle.mcs_disk.proofs.Calling.{reads_write_nothing, syncs_write_nothing}

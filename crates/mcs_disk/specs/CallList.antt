@@ -8,7 +8,7 @@ abbrev pub unsynced : List DiskCall → ℕ
 unsynced [] = 0
 unsynced (WasRead ∷ calls) = unsynced calls
 unsynced (Wrote at bytes ∷ calls) = unsynced calls + 1
-unsynced (Failed at bytes given ∷ calls) = unsynced calls + 1
+unsynced (Failed at tried seen ∷ calls) = unsynced calls + 1
 unsynced (Synced ∷ calls) = 0
 
 -- After each of the calls that this stretch adds to the old ones, at most one write is not yet
@@ -23,7 +23,7 @@ pub record OneUnsynced (old new : List DiskCall) : Type 0 where
 -- range
 abbrev pub FailureOf : DiskCall → List DiskCall → List DiskCall → Type 0
 FailureOf (Wrote at bytes) old new =
-    (new ≡ old) ⊎ ((given : List ℕ) × (new ≡ Failed at bytes given ∷ old))
+    (new ≡ old) ⊎ ((seen : List ℕ) × (new ≡ Failed at bytes seen ∷ old))
 FailureOf call old new = new ≡ old
 
 -- one of these calls failed, and those before it alone were made

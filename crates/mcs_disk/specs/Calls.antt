@@ -6,13 +6,13 @@ use Rattle.std.specs.Prelude.{◌≡◌, ◌⊎◌, ℕ, zero, suc, ◌+◌, ◌
 
 -- a call on a disk, with its answer
 pub data DiskCall : Type 0 where
-  -- a read, which gave the bytes that the disk holds
+  -- a read that answered Ok; on an honest disk it gave what the disk holds
   WasRead : DiskCall
   -- these bytes were written from this offset on
   Wrote : ℕ → List ℕ → DiskCall
-  -- A write of the first bytes from this offset on failed, or was cut off: any bytes may have come
-  -- into its range. The second bytes are those that a read gives from the offset on since then, in
-  -- the place of as many old ones; there are none where it gives what it gave before.
+  -- `Failed at tried seen`: a write of the bytes `tried` from the offset `at` on failed, or was cut
+  -- off. A power cut may leave any bytes in its range. From now on a read gives the bytes `seen`
+  -- there, cut to the length of `tried`; where there are none, it gives what it gave before.
   Failed : ℕ → List ℕ → List ℕ → DiskCall
   -- all that the disk holds was made stable
   Synced : DiskCall
@@ -39,8 +39,8 @@ abbrev pub bytes_after : List ℕ → List DiskCall → List ℕ
 bytes_after start [] = start
 bytes_after start (WasRead ∷ calls) = bytes_after start calls
 bytes_after start (Wrote at bytes ∷ calls) = put at bytes (bytes_after start calls)
-bytes_after start (Failed at bytes given ∷ calls) =
-    put at (take (length bytes) given) (bytes_after start calls)
+bytes_after start (Failed at tried seen ∷ calls) =
+    put at (take (length tried) seen) (bytes_after start calls)
 bytes_after start (Synced ∷ calls) = bytes_after start calls
 
 -- what a power cut after these calls may leave of a disk that held `start`: the images
@@ -49,16 +49,16 @@ images_after start [] image = image ≡ start
 images_after start (WasRead ∷ calls) image = images_after start calls image
 images_after start (Wrote at bytes ∷ calls) image =
     (before : List ℕ) × images_after start calls before × Torn at (length bytes) before image
-images_after start (Failed at bytes given ∷ calls) image =
-    (before : List ℕ) × images_after start calls before × Torn at (length bytes) before image
+images_after start (Failed at tried seen ∷ calls) image =
+    (before : List ℕ) × images_after start calls before × Torn at (length tried) before image
 images_after start (Synced ∷ calls) image = image ≡ bytes_after start calls
 
--- the clock of a disk: how many of the calls on it have answered Ok
+-- the clock of a disk: how many of the calls on it have answered Ok, a tick each
 abbrev pub clock_of : List DiskCall → ℕ
 clock_of [] = 0
 clock_of (WasRead ∷ calls) = clock_of calls + 1
 clock_of (Wrote at bytes ∷ calls) = clock_of calls + 1
-clock_of (Failed at bytes given ∷ calls) = clock_of calls
+clock_of (Failed at tried seen ∷ calls) = clock_of calls
 clock_of (Synced ∷ calls) = clock_of calls + 1
 
 -- what a power cut may leave that came after all of these calls, or after the older ones of them at

@@ -1,7 +1,7 @@
 -- What calls of a store do to its disk. It is cited by contracts of single calls alone.
 use Rattle.std.specs.Prelude.{◌≡◌, ℕ, ◌+◌, List, Result, OnOk}
 use Rattle.mcs_disk.specs.Disk.{CountsFault, DiskState, bytes_of, time_of}
-use Rattle.mcs_disk.specs.Moments.{AddsNoImage, Either, LeavesOnly}
+use Rattle.mcs_disk.specs.Stretches.{AddsNoImage, Either, LeavesOnly}
 use Rattle.mcs_disk.specs.PowerCut.{IsDurable}
 
 -- reads and syncs, of which one that fails is counted
@@ -9,11 +9,11 @@ pub record ReadsOnly (old new : DiskState) (failed : Type 0) : Type 0 where
   pub counts : CountsFault old new failed
   pub rests : AddsNoImage old new
 
--- A change in that many steps. Until Ok, a power cut leaves what has Before or what has After; from
+-- A change in that many ticks. Until Ok, a power cut leaves what has Before or what has After; from
 -- then on what has After alone.
-pub record Changes {T E : Type 0} (steps : ℕ) (old new : DiskState)
+pub record Changes {T E : Type 0} (count : ℕ) (old new : DiskState)
     (Before After : List ℕ → Type 0) (result : Result T E) : Type 0 where
   pub after : OnOk result (After (bytes_of new))
   pub durable : OnOk result (IsDurable new)
-  pub ticks : OnOk result (time_of new ≡ time_of old + steps)
+  pub ticks : OnOk result (time_of new ≡ time_of old + count)
   pub leaves : LeavesOnly old new (Either Before After)

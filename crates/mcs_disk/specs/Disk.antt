@@ -6,7 +6,7 @@ pub use Rattle.mcs_disk.specs.Calls.{part, put, Torn}
 
 -- all that a contract sees of a disk
 pub record DiskState : Type 1 where
-  -- how many calls have failed; it stays at its greatest value
+  -- how many calls have failed, counted up to `most_faults`
   pub faults : ℕ
   -- the premise on the device, which each kind of disk states for itself: where it holds, a read
   -- gives `bytes_of`
@@ -28,11 +28,12 @@ bytes_of disk = bytes_after disk.start disk.calls
 abbrev pub images_of : DiskState → List ℕ → Type 0
 images_of disk = images_after disk.start disk.calls
 
--- its clock: how many calls have answered Ok
+-- its clock, in ticks: how many calls have answered Ok
 abbrev pub time_of : DiskState → ℕ
 time_of disk = clock_of disk.calls
 
--- what a power cut at some moment since that time may have left, during a call or between two
+-- what a power cut now, or at some moment since that time, may leave or have left, during a call or
+-- between two
 abbrev pub images_since : ℕ → DiskState → List ℕ → Type 0
 images_since time disk = since_after disk.start disk.calls time
 
@@ -41,7 +42,8 @@ abbrev pub most_faults : ℕ
 most_faults = 2 ^ 64 - 1
 
 -- what calls do on any disk: what it held at the start and its honesty stay, and the count of
--- faults rises by one where a call failed, and nowhere else
+-- faults rises by one where a call failed, and nowhere else. `failed` says whether one did: `⊥`
+-- where none did.
 pub record CountsFault (old new : DiskState) (failed : Type 0) : Type 0 where
   pub start : new.start ≡ old.start
   pub honest : new.honest ↔ old.honest

@@ -3,8 +3,8 @@ pub mod Calls
 pub mod Changes
 pub mod Disk
 pub mod Fuse
-pub mod Moments
 pub mod NotedCalls
 pub mod PowerCut
 pub mod States
 pub mod StoredCalls
+pub mod Stretches

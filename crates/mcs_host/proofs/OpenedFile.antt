@@ -2,7 +2,7 @@
 use Rattle.std.proofs.Common.{◌≡◌, ◌∙◌, ap, ap₂, subst, sym, refl, inl, inr, ℕ, min, ◌+◌, List, ◌∷◌, length, Bool, true, IsTrue, arith}
 use Rattle.mcs_journal.specs.declared.format.TheConstants.{FILE_SIZE}
 use Rattle.mcs_host.specs.HostCalls.{HostCall, HostState, IsSame, Length, asked}
-use Rattle.mcs_host.specs.Opening.{IsBegun, IsBlank, IsFilledAfter, IsOpening, IsReadAfter, IsWrittenAfter, locking_calls}
+use Rattle.mcs_host.specs.Opening.{IsBegun, IsAllZeros, IsFilledAfter, IsOpening, IsReadAfter, IsWrittenAfter, locking_calls}
 
 -- the calls on a file that was locked and whose length was asked for
 measured_calls : (name : List ℕ) (found n : ℕ) (first locked measured : HostState) → locked.calls ≡ locking_calls name first.calls → measured ≡ asked (Length found true) locked → found ≡ n
@@ -12,7 +12,7 @@ measured_calls name found n first locked measured lock long is =
 
 pub filled_as_opened : (make : Bool) (name bytes written : List ℕ) (found : ℕ) (first locked measured filled : HostState) → IsTrue make → first.name ≡ name → IsBegun make first.calls
     → IsSame first locked → locked.calls ≡ locking_calls name first.calls → measured ≡ asked (Length found true) locked → found ≡ 0
-    → IsSame measured filled → IsFilledAfter name written bytes measured.calls filled.calls → length bytes ≡ FILE_SIZE → IsBlank written → IsOpening make name bytes true filled
+    → IsSame measured filled → IsFilledAfter name written bytes measured.calls filled.calls → length bytes ≡ FILE_SIZE → IsAllZeros written → IsOpening make name bytes true filled
 filled_as_opened make name bytes written found first locked measured filled to_be_made named begun same lock long none after fills size blank = record {
   named = after.name ∙ ap (λ (s : HostState). s.name) long ∙ same.name ∙ named;
   opened = first.calls;
@@ -32,7 +32,7 @@ whole_length found seen = omega (arith, seen)
 
 pub rewritten_as_opened : (make : Bool) (name bytes written : List ℕ) (stable : Bool) (found : ℕ) (first locked measured read again : HostState) → IsTrue make → first.name ≡ name
     → IsBegun make first.calls → IsSame first locked → locked.calls ≡ locking_calls name first.calls → measured ≡ asked (Length found true) locked → length bytes ≡ min found (FILE_SIZE + 1)
-    → IsSame measured read → IsReadAfter name bytes stable measured.calls read.calls → IsBlank bytes → IsSame read again → written ≡ bytes
+    → IsSame measured read → IsReadAfter name bytes stable measured.calls read.calls → IsAllZeros bytes → IsSame read again → written ≡ bytes
     → IsWrittenAfter name written read.calls again.calls → IsOpening make name bytes stable again
 rewritten_as_opened make name bytes written stable found first locked measured read again to_be_made named begun same lock long size after reads blank still these writes =
     let whole : found ≡ FILE_SIZE = whole_length found (sym size ∙ blank.size) in

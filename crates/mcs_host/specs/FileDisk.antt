@@ -25,6 +25,6 @@ abbrev pub IsApart : ℤ → Type 0
 IsApart number = pos 2 <ℤ number
 
 -- a disk that no call has reached, so all of its bytes are there after a power cut
-pub record IsOpened (disk : DiskState) : Type 0 where
+pub record IsUncalled (disk : DiskState) : Type 0 where
   pub faults : disk.faults ≡ 0
   pub calls : disk.calls ≡ []

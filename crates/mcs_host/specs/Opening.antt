@@ -11,7 +11,7 @@ abbrev pub AreZeros : List ℕ → Type 0
 AreZeros bytes = IsTrue (list_all (λ b. b == 0) bytes)
 
 -- the bytes of a blank file
-pub record IsBlank (bytes : List ℕ) : Type 0 where
+pub record IsAllZeros (bytes : List ℕ) : Type 0 where
   pub size : length bytes ≡ FILE_SIZE
   pub zeros : AreZeros bytes
 
@@ -75,7 +75,7 @@ pub record IsFilled
   pub size : length bytes ≡ FILE_SIZE
   pub stable : IsTrue is_name_stable
   pub written : List ℕ
-  pub is_blank : IsBlank written
+  pub is_blank : IsAllZeros written
   pub asked : IsFilledAfter name written bytes (Length 0 true ∷ locked) calls
 
 -- A file is read, or so much of a longer one that its size tells that it is no session.
@@ -86,7 +86,7 @@ pub record IsRead
   pub size : length bytes ≡ min found (FILE_SIZE + 1)
   -- one that was to be made is not empty, and not blank
   pub not_empty : IsTrue make → ¬ (found ≡ 0)
-  pub not_blank : IsTrue make → ¬ (IsBlank bytes)
+  pub not_blank : IsTrue make → ¬ (IsAllZeros bytes)
   pub asked : IsReadAfter name bytes is_name_stable (Length found true ∷ locked) calls
 
 -- A blank file may have holes: where it was to be made, it is read and then written.
@@ -94,7 +94,7 @@ pub record IsRewritten
     (make : Bool) (name bytes : List ℕ) (is_name_stable : Bool) (locked calls : List HostCall)
     : Type 0 where
   pub to_be_made : IsTrue make
-  pub is_blank : IsBlank bytes
+  pub is_blank : IsAllZeros bytes
   pub read : List HostCall
   pub asked : IsReadAfter name bytes is_name_stable (Length FILE_SIZE true ∷ locked) read
   pub writes : IsWrittenAfter name bytes read calls

@@ -24,7 +24,7 @@ pub struct FileDisk {
 
 impl FileDisk {
     ghost use Rattle.mcs_host.specs.Ending.{as_disk, as_host_file};
-    ghost use Rattle.mcs_host.specs.FileDisk.{IsOpened};
+    ghost use Rattle.mcs_host.specs.FileDisk.{IsUncalled};
     ghost use Rattle.mcs_host.specs.Opening.{IsOpening};
 
     /// Opens a file for reading and writing. Where `make` is true, the file is made where it is not
@@ -40,7 +40,7 @@ impl FileDisk {
         file: &str,
         make: bool,
     ) -> Result<FileDisk, FileFault>
-        ensures opened { IfOk result (λ disk. IsOpened (as_disk disk)) }
+        ensures opened { IfOk result (λ disk. IsUncalled (as_disk disk)) }
         ensures at_most { IfOk result (λ disk. size_of (as_disk disk) ≤ FILE_SIZE + 1) }
         ensures not_empty { IsTrue make → IfOk result (λ disk. 0 < size_of (as_disk disk)) }
         ensures asked { IfOk result (λ disk. IsOpening make file.now (bytes_of (as_disk disk))

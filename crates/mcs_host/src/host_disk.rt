@@ -35,7 +35,7 @@ pub struct HostDisk<H: HostFile> {
 
 impl<H: HostFile> HostDisk<H> {
     ghost use Rattle.mcs_host.specs.HostDisk.{host_disk};
-    ghost use Rattle.mcs_host.specs.FileDisk.{IsOpened};
+    ghost use Rattle.mcs_host.specs.FileDisk.{IsUncalled};
     ghost use Rattle.mcs_host.specs.Opening.{IsOpening};
 
     /// Opens a file of this name: see `FileDisk::open_at`.
@@ -45,7 +45,7 @@ impl<H: HostFile> HostDisk<H> {
         file: &str,
         make: bool,
     ) -> Result<HostDisk<H>, FileFault>
-        ensures opened { IfOk result (λ disk. IsOpened (host_disk disk)) }
+        ensures opened { IfOk result (λ disk. IsUncalled (host_disk disk)) }
         ensures at_most { IfOk result (λ disk. size_of (host_disk disk) ≤ FILE_SIZE + 1) }
         ensures not_empty { IsTrue make → IfOk result (λ disk. 0 < size_of (host_disk disk)) }
         ensures asked { IfOk result (λ disk. IsOpening make file.now (bytes_of (host_disk disk))

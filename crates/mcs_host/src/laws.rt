@@ -4,7 +4,7 @@ ghost use Rattle.std.specs.Prelude.{◌≡◌, ◌↔◌, ℕ, List};
 ghost use Rattle.mcs_disk.specs.Disk.{bytes_of, images_of, images_since};
 ghost use Rattle.mcs_disk.specs.PowerCut.{IsLeftByCut};
 ghost use Rattle.mcs_host.specs.Ending.{IsFoundAfterTheEnd, IsFoundWith, IsLeftSince, as_disk, as_host_file, found_in};
-ghost use Rattle.mcs_host.specs.FileDisk.{IsApart, IsOpened};
+ghost use Rattle.mcs_host.specs.FileDisk.{IsApart, IsUncalled};
 
 use crate::FileDisk;
 
@@ -20,7 +20,7 @@ pub fn what_is_found_is_an_image()
 pub fn opened_again_is_left_by_cut()
     ensures { (time : ℕ) (file again : FileDisk) → (as_disk file).honest
         → IsLeftSince time file → (as_disk again).honest
-        → IsOpened (as_disk again)
+        → IsUncalled (as_disk again)
         → bytes_of (as_disk again) ≡ found_in file
         → IsLeftByCut time (as_disk file) (as_disk again) }
 {}

@@ -3,7 +3,7 @@ ghost use Rattle.std.specs.Prelude.{◌≡◌, ◌==◌, ◌↔◌, ◌<◌, ◌
 ghost use Rattle.std.specs.List.{list_all};
 ghost use Rattle.mcs_host.specs.FileDisk.{IsApart};
 ghost use Rattle.mcs_host.specs.HostCalls.{HasCalls, IsSame, Made, SyncAll};
-ghost use Rattle.mcs_host.specs.Opening.{AreZeros, FolderCalls, IsBegun, IsBlank, IsFilledAfter, IsOpening, IsReadAfter, IsWrittenAfter, folder_of, locking_calls};
+ghost use Rattle.mcs_host.specs.Opening.{AreZeros, FolderCalls, IsBegun, IsAllZeros, IsFilledAfter, IsOpening, IsReadAfter, IsWrittenAfter, folder_of, locking_calls};
 
 use crate::file_fault::FileFault;
 use crate::host_file::{Host, HostFile};
@@ -167,7 +167,7 @@ fn sync_and_read<N: Host>(
 
 // The bytes are those of a blank file.
 fn is_blank(bytes: &[u8]) -> bool
-    ensures { IsTrue result ↔ IsBlank bytes.now }
+    ensures { IsTrue result ↔ IsAllZeros bytes.now }
 {
     bytes.len() == FILE_SIZE && are_zeros(bytes)
 }

@@ -3,7 +3,7 @@ use Rattle.std.proofs.Common.{◌≡◌, ◌+◌, List, [], ◌∷◌, ◌++◌,
 use Rattle.std.proofs.lemmas.List.{replicate-append-replicate}
 use Rattle.mcs_disk.specs.CallList.{Makes}
 use Rattle.mcs_disk.specs.Calls.{DiskCall, WasRead}
-use Rattle.mcs_journal.specs.Calls.{OnlyRead, many_reads}
+use Rattle.mcs_journal.specs.Calls.{AreReads, many_reads}
 
 pub on_err : {T E P : Type 0} (result : Result T E) → P → OnErr result P
 on_err (Ok x) p = tt
@@ -14,11 +14,11 @@ reads_sum a b old mid new first second =
     second ∙ ap (λ (l : List DiskCall). many_reads b ++ l) first ∙ sym (append_assoc (many_reads b) (many_reads a) old)
     ∙ ap (λ (l : List DiskCall). l ++ old) (replicate-append-replicate b a WasRead)
 
-pub reads_more : (a : ℕ) (old mid new : List DiskCall) → mid ≡ many_reads a ++ old → OnlyRead mid new → OnlyRead old new
+pub reads_more : (a : ℕ) (old mid new : List DiskCall) → mid ≡ many_reads a ++ old → AreReads mid new → AreReads old new
 reads_more a old mid new first then_some = record { count = then_some.count + a; all = reads_sum a then_some.count old mid new first then_some.all }
 
 -- a read that failed
-pub read_failed : {T E : Type 0} (old new : List DiskCall) (e : E) → Makes {T = T} {E = E} (WasRead ∷ []) old new (Err e) → OnlyRead old new
+pub read_failed : {T E : Type 0} (old new : List DiskCall) (e : E) → Makes {T = T} {E = E} (WasRead ∷ []) old new (Err e) → AreReads old new
 read_failed old new e made = record { count = 0; all = ⊎_elim (λ same. same) (λ none. absurd none) made.cut }
 
 -- one that did not

@@ -1,7 +1,7 @@
 -- What `create` and `open` answer follows from what their parts answered.
 use Rattle.std.proofs.Common.{◌≡◌, ◌≢◌, inr, ⊎_elim, refl, ◌∙◌, ap, Result, Ok, Err, IsErrOf}
 use Rattle.mcs_disk.specs.Disk.{CountsFault, DiskState, part, bytes_of, size_of}
-use Rattle.mcs_disk.specs.Moments.{AddsNoImage}
+use Rattle.mcs_disk.specs.Stretches.{AddsNoImage}
 use Rattle.mcs_disk.proofs.Composing.{counts_as}
 use Rattle.mcs_journal.specs.StoreCalls.{RefusesCreate, RefusesOpen, HoldsNone}
 use Rattle.mcs_journal.specs.File.{IsBlank}

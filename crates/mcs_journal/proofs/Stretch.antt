@@ -4,7 +4,7 @@ use Rattle.std.proofs.lemmas.Result.{on_ok_weaker}
 use Rattle.mcs_disk.specs.Disk.{DiskState, Torn, part, bytes_of, time_of}
 use Rattle.mcs_disk.proofs.CallLaws.{untorn}
 use Rattle.mcs_disk.specs.Changes.{Changes}
-use Rattle.mcs_disk.specs.Moments.{LeavesOnly, Either}
+use Rattle.mcs_disk.specs.Stretches.{LeavesOnly, Either}
 use Rattle.mcs_disk.specs.PowerCut.{IsDurable}
 use Rattle.mcs_disk.proofs.Composing.{leaves_then}
 use Rattle.mcs_journal.specs.Writing.{Commits}

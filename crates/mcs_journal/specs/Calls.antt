@@ -20,7 +20,7 @@ abbrev pub many_reads : ℕ → List DiskCall
 many_reads n = replicate n WasRead
 
 -- some reads, and nothing else
-pub record OnlyRead (old new : List DiskCall) : Type 0 where
+pub record AreReads (old new : List DiskCall) : Type 0 where
   pub count : ℕ
   pub all : new ≡ many_reads count ++ old
 
@@ -62,4 +62,4 @@ RefusedCreateCalls create_fault.NoMemory snap old new result = new ≡ old
 
 -- what a refused `open` has asked for: nothing, or a sync and then reads
 abbrev pub RefusedOpenCalls : List DiskCall → List DiskCall → Type 0
-RefusedOpenCalls old new = (new ≡ old) ⊎ OnlyRead (Synced ∷ old) new
+RefusedOpenCalls old new = (new ≡ old) ⊎ AreReads (Synced ∷ old) new

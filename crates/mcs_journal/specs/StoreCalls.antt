@@ -1,7 +1,7 @@
 -- What `create` and `open` answer, by what the disk holds. (Our own choice.)
 use Rattle.std.specs.Prelude.{◌≡◌, ◌+◌, ℕ, List, []}
 use Rattle.mcs_disk.specs.Disk.{DiskState, bytes_of, time_of, IsLater}
-use Rattle.mcs_disk.specs.Moments.{AddsNoImage}
+use Rattle.mcs_disk.specs.Stretches.{AddsNoImage}
 use Rattle.mcs_disk.specs.PowerCut.{IsDurable}
 use Rattle.mcs_journal.specs.File.{Holds, IsBlank, IsNoSession}
 use Rattle.mcs_journal.specs.declared.fault.OpenFault.{OpenFault}
@@ -32,7 +32,7 @@ RefusesCreate create_fault.NotBlank old new = ¬ (IsBlank old) × AddsNoImage ol
 RefusesCreate create_fault.Device old new = IsLater old new
 RefusesCreate create_fault.NoMemory old new = Unit {0}
 
--- the disk was blank, and now, five steps later, every image holds this snapshot and no records
+-- the disk was blank, and now, five ticks later, every image holds this snapshot and no records
 pub record Creates (old new : DiskState) (snap : List ℕ) : Type 0 where
   pub blank : IsBlank old
   pub holds : Holds (bytes_of new) snap []

@@ -2,7 +2,7 @@
 //! law; the call does nothing.
 ghost use Rattle.std.specs.Prelude.{◌⊎◌, ◌≡◌, ◌∷◌, [], ℕ, List, codes};
 ghost use Rattle.mcs_disk.specs.Disk.{bytes_of, time_of};
-ghost use Rattle.mcs_disk.specs.Moments.{Either, LeavesOnly};
+ghost use Rattle.mcs_disk.specs.Stretches.{Either, LeavesOnly};
 ghost use Rattle.mcs_disk.specs.PowerCut.{IsLeftByCut, IsDurable};
 ghost use Rattle.mcs_journal.specs.declared.format.TheConstants.{AREA_SIZE, COMMITTED, FILE_SIZE, FIRST_SLOT, HEADER_SIZE, LOG_SIZE, MOST_RECORD, MOST_SNAPSHOT, NAME, NOT_COMMITTED, RECORD_PLACE, SECOND_SLOT, SELECTOR_PLACE, SNAPSHOT_PLACE, BUFFER_SIZE, ZEROS, ZEROS_PLACE};
 ghost use Rattle.mcs_journal.specs.File.{Holds, ContentsAreUnique};

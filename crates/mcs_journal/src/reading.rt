@@ -7,7 +7,7 @@ ghost use Rattle.mcs_journal.specs.declared.format.TheConstants.{FILE_SIZE};
 ghost use Rattle.mcs_journal.specs.File.{Holds, IsLog, slot_of, frames_of};
 ghost use Rattle.mcs_disk.specs.CallList.{Makes};
 ghost use Rattle.mcs_disk.specs.Calls.{WasRead};
-ghost use Rattle.mcs_journal.specs.Calls.{OnlyRead, RefusedOpenCalls, many_reads, open_calls};
+ghost use Rattle.mcs_journal.specs.Calls.{AreReads, RefusedOpenCalls, many_reads, open_calls};
 ghost use Rattle.mcs_journal.specs.Writing.{IsHeader, IsNext, IsNoRecord, IsSnapshot};
 
 use crate::bytes::Bytes;
@@ -51,7 +51,7 @@ pub fn read_record<D: Disk>(
     ensures record_calls { IfOk result (λ o. IfSome o (λ r.
         (D.state disk.new).calls ≡ many_reads 3 ++ (D.state disk.old).calls)) }
     ensures refused_calls { OnErr result
-        (OnlyRead (D.state disk.old).calls (D.state disk.new).calls) }
+        (AreReads (D.state disk.old).calls (D.state disk.new).calls) }
     ensures fits_in { IfOk result (λ o. IfSome o (λ r. length r + 4 ≤ room)) }
     ensures closed { (D.state disk.old).honest
         → IfOk result (λ o. IfNone o (slice_index (bytes_of (D.state disk.old)) at ≢ 1)) }
@@ -96,7 +96,7 @@ pub fn read_log<D: Disk>(alloc: Global, disk: &mut D, at: usize) -> Result<Log, 
     ensures calls { IfOk result (λ log. (D.state disk.new).calls
         ≡ many_reads (1 + 3 * length log.records.items) ++ (D.state disk.old).calls) }
     ensures refused_calls { OnErr result
-        (OnlyRead (D.state disk.old).calls (D.state disk.new).calls) }
+        (AreReads (D.state disk.old).calls (D.state disk.new).calls) }
     ensures within { IfOk result (λ log. log.used + 1 ≤ LOG_SIZE) }
     ensures found { (D.state disk.old).honest
         → IfOk result (λ log. IsLog log.records.items (part at LOG_SIZE (bytes_of (D.state disk.old)))
@@ -122,7 +122,7 @@ pub fn read_header<D: Disk>(disk: &mut D) -> Result<Slot, OpenFault>
         (IsErrOf result OpenFault.Device) }
     ensures calls { OnOk result ((D.state disk.new).calls ≡ many_reads 1 ++ (D.state disk.old).calls) }
     ensures refused_calls { OnErr result
-        (OnlyRead (D.state disk.old).calls (D.state disk.new).calls) }
+        (AreReads (D.state disk.old).calls (D.state disk.new).calls) }
     ensures header { (D.state disk.old).honest
         → IfOk result (λ slot. IsHeader (bytes_of (D.state disk.old)) slot) }
     ensures no_session { (D.state disk.old).honest → IsErrOf result OpenFault.NotASession
@@ -150,7 +150,7 @@ pub fn read_snapshot<D: Disk>(alloc: Global, disk: &mut D, start: usize) -> Resu
         (IsErrOf result OpenFault.Device) }
     ensures calls { OnOk result ((D.state disk.new).calls ≡ many_reads 2 ++ (D.state disk.old).calls) }
     ensures refused_calls { OnErr result
-        (OnlyRead (D.state disk.old).calls (D.state disk.new).calls) }
+        (AreReads (D.state disk.old).calls (D.state disk.new).calls) }
     ensures snap { (D.state disk.old).honest
         → IfOk result (λ snap. IsSnapshot (bytes_of (D.state disk.old)) start snap) }
     ensures damaged { (D.state disk.old).honest → IsErrOf result OpenFault.Damaged

@@ -2,7 +2,7 @@
 ghost use Rattle.std.specs.Prelude.{◌≡◌, ◌≢◌, ◌⊎◌, ◌≤◌, ◌+◌, ◌↔◌, List, [], ◌∷◌, ◌++◌, ℕ, length, is_ok, IsTrue, IsErr, IsErrAnd, OnOk, OnErr, IfErr, IfOk};
 ghost use Rattle.mcs_disk.specs.Disk.{bytes_of, size_of, CountsFault};
 ghost use Rattle.mcs_disk.specs.Changes.{Changes};
-ghost use Rattle.mcs_disk.specs.Moments.{AddsNoImage, WritesNothing};
+ghost use Rattle.mcs_disk.specs.Stretches.{AddsNoImage, WritesNothing};
 ghost use Rattle.mcs_journal.specs.StoreCalls.{Creates, Opens, RefusesCreate, RefusesOpen};
 ghost use Rattle.mcs_disk.specs.CallList.{Makes, OneUnsynced, unsynced};
 ghost use Rattle.mcs_disk.specs.Calls.{WasRead};

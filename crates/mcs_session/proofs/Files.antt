@@ -2,7 +2,7 @@
 use Rattle.std.proofs.Common.{◌≡◌, inl, inr, ⊎_elim, None, ap, List, [], ◌∷◌, ℕ, sym, ◌∙◌, subst, refl, arith}
 use Rattle.mcs_disk.proofs.CallLaws.{lawful, size_of-bytes}
 use Rattle.mcs_disk.specs.Disk.{DiskState, bytes_of, time_of, images_of}
-use Rattle.mcs_disk.specs.Moments.{AddsNoImage, Either, LeavesOnly}
+use Rattle.mcs_disk.specs.Stretches.{AddsNoImage, Either, LeavesOnly}
 use Rattle.mcs_disk.specs.PowerCut.{IsDurable}
 use Rattle.mcs_journal.specs.StoreCalls.{Creates, Opens, RefusesOpen}
 use Rattle.mcs_journal.specs.File.{Holds, IsNoSession}
@@ -25,7 +25,7 @@ use Rattle.mcs_version1.specs.Lift.{lift}
 use Rattle.mcs_version1.proofs.Lifting.{command-lifts}
 use Rattle.mcs_session.specs.Version1.{ReplaysCommands1, RecordsStandFor1, StandsForLifted}
 use Rattle.mcs_session.specs.StandsFor.{ReplaysCommands, RecordsStandFor, StandsFor, StandsByEither, DiskStandsSince, HoldsState, DiskStandsFor, DiskStandsForLifted}
-use Rattle.mcs_session.specs.SessionCalls.{CreatesSession, FailsMigrating, MayMigrate, MigratesSession, RefusalLeaves}
+use Rattle.mcs_session.specs.SessionCalls.{CreatesSession, FailsMigrating, LeavesOldOrState, MigratesSession, RefusalLeaves}
 use Rattle.mcs_session.specs.Opening.{OpensSession, RefusesSession}
 use Rattle.mcs_session.specs.Log.{LogHolds}
 use Rattle.mcs_session.specs.Invariant.{IsRecorded, IsReplayed, MayReplaceContents, ReplacedContents}
@@ -74,7 +74,7 @@ pub held_on : (old new : DiskState) (snap : List ℕ) (records : List (List ℕ)
 held_on old new snap records opened = subst (λ (f : List ℕ). Holds f snap records) (sym (rests_bytes old new opened.rests)) opened.holds
 
 -- calls that rest leave what there was
-rests_may : (old new : DiskState) (s : BenchState) → AddsNoImage old new → MayMigrate old new s
+rests_may : (old new : DiskState) (s : BenchState) → AddsNoImage old new → LeavesOldOrState old new s
 rests_may old new s rests = record {
   later = rests.later;
   each = λ c left. inl ((lawful old).only_now c (rests_since old new rests (time_of old) c left));
@@ -148,7 +148,7 @@ holds_state file s held = stands_new file held.snap s held.spells held.holds
 
 -- the store was opened, and what it held was replaced or not
 migrates : (old mid new : DiskState) (snap : List ℕ) (records : List (List ℕ)) (s : BenchState) → Opens old mid snap records → RecordsStandFor One snap records s
-    → LeavesOnly mid new (Either (λ c. Holds c snap records) (λ c. HoldsState c s)) → MayMigrate old new s
+    → LeavesOnly mid new (Either (λ c. Holds c snap records) (λ c. HoldsState c s)) → LeavesOldOrState old new s
 migrates old mid new snap records s opened stand moments =
     leaves_then old mid new (Either (images_of old) (λ file. StandsByEither file s)) (rests_may old mid s opened.rests)
     (leaves_map mid new (Either (λ c. Holds c snap records) (λ c. HoldsState c s)) (Either (images_of old) (λ file. StandsByEither file s))
@@ -266,7 +266,7 @@ one_either file s t (inr a) (inl b) = sym (one_state file t s b (inr a))
 one_either file s t (inr a) (inr b) = one_first file s t a b
 
 -- a disk whose every image stands for a state by version 1
-pub stays_first : (old new : DiskState) (s u : BenchState) → MayMigrate old new u → u ≡ s → DiskStandsForLifted old s → DiskStandsSince (time_of old) new s
+pub stays_first : (old new : DiskState) (s u : BenchState) → LeavesOldOrState old new u → u ≡ s → DiskStandsForLifted old s → DiskStandsSince (time_of old) new s
 stays_first old new s u moments same each image left = ⊎_elim (λ before. inr (each image before)) (λ now. subst (λ (x : BenchState). StandsByEither image x) same now) (moments.each image left)
 
 pub opens_first : (old new : DiskState) (s u : BenchState) → DiskStandsForLifted old s → OpensSession old new u → MigratesSession old new u

@@ -3,7 +3,7 @@ use Rattle.std.proofs.Common.{◌≡◌, ◌+◌, ◌≤◌, inl, inr, ⊎_elim,
 use Rattle.std.proofs.lemmas.Grind.{common_steps}
 use Rattle.mcs_disk.specs.Disk.{DiskState, bytes_of, time_of}
 use Rattle.mcs_disk.specs.Changes.{Changes}
-use Rattle.mcs_disk.specs.Moments.{Either, LeavesOnly}
+use Rattle.mcs_disk.specs.Stretches.{Either, LeavesOnly}
 use Rattle.mcs_disk.specs.PowerCut.{IsDurable}
 use Rattle.mcs_disk.proofs.CallLaws.{lawful}
 use Rattle.mcs_disk.proofs.Composing.{leaves_map, leaves_then, no_later}

@@ -16,7 +16,7 @@ use Rattle.mcs_codec.specs.declared.versions.Version.TheVariants.{Two}
 use Rattle.mcs_session.specs.Acknowledgements.{Acknowledgements, last_moment, moments_of}
 use Rattle.mcs_session.specs.Cycles.{log_cycles, replay_cycles}
 use Rattle.mcs_session.specs.Invariant.{IsRecorded}
-use Rattle.mcs_session.specs.Log.{LogHolds, has_room_for, steps_of, log_after, log_after_all}
+use Rattle.mcs_session.specs.Log.{LogHolds, has_room_for, ticks_of, log_after, log_after_all}
 use Rattle.mcs_session.specs.StandsFor.{ReplaysCommands, StandsFor}
 use Rattle.mcs_session.proofs.Records.{pair_more, same_list}
 
@@ -109,14 +109,14 @@ some_steps clock false = omega arith
 
 moments_rise : (clock : ℕ) (log : List Command) (cs : List Command) → AreRising clock (moments_of clock log cs)
 moments_rise clock log [] = tt
-moments_rise clock log (c ∷ cs) = (some_steps clock (has_room_for log c), moments_rise (clock + steps_of log c) (log_after log c) cs)
+moments_rise clock log (c ∷ cs) = (some_steps clock (has_room_for log c), moments_rise (clock + ticks_of log c) (log_after log c) cs)
 
 pub rising : (old new : DiskState) (cs : List Command) (a : Acknowledgements old new cs) → AreRising (time_of old) a.moments
 rising old new cs a = subst (AreRising (time_of old)) (sym a.timed) (moments_rise (time_of old) a.log cs)
 
 length-moments : (clock : ℕ) (log : List Command) (cs : List Command) → length (moments_of clock log cs) ≡ length cs
 length-moments clock log [] = refl
-length-moments clock log (c ∷ cs) = let rest = length-moments (clock + steps_of log c) (log_after log c) cs in omega (arith, rest)
+length-moments clock log (c ∷ cs) = let rest = length-moments (clock + ticks_of log c) (log_after log c) cs in omega (arith, rest)
 
 -- one for each command
 pub counted : (old new : DiskState) (cs : List Command) (a : Acknowledgements old new cs) → length a.moments ≡ length cs
@@ -130,7 +130,7 @@ log_append log (c ∷ cs) ds = log_append (log_after log c) cs ds
 
 moments_append : (clock : ℕ) (log : List Command) (cs ds : List Command) → moments_of clock log (cs ++ ds) ≡ moments_of clock log cs ++ moments_of (last_moment clock (moments_of clock log cs)) (log_after_all log cs) ds
 moments_append clock log [] ds = refl
-moments_append clock log (c ∷ cs) ds = ap (λ (ms : List ℕ). (clock + steps_of log c) ∷ ms) (moments_append (clock + steps_of log c) (log_after log c) cs ds)
+moments_append clock log (c ∷ cs) ds = ap (λ (ms : List ℕ). (clock + ticks_of log c) ∷ ms) (moments_append (clock + ticks_of log c) (log_after log c) cs ds)
 
 pub timed_more : (clock mid : ℕ) (log : List Command) (cs ds : List Command) (ms ns : List ℕ) → ms ≡ moments_of clock log cs → mid ≡ last_moment clock ms → ns ≡ moments_of mid (log_after_all log cs) ds
     → ms ++ ns ≡ moments_of clock log (cs ++ ds)

@@ -4,22 +4,23 @@
 use Rattle.std.specs.Prelude.{◌≡◌, ◌+◌, ◌≤◌, ℕ, List, [], ◌∷◌, count_by, nat_le}
 use Rattle.mcs_disk.specs.Disk.{DiskState, bytes_of, time_of}
 use Rattle.mcs_model.specs.declared.command.Command.{Command}
-use Rattle.mcs_session.specs.Log.{LogHolds, log_after, steps_of}
+use Rattle.mcs_session.specs.Log.{LogHolds, log_after, ticks_of}
 
 -- the moments at which these commands, recorded in turn from that clock and that log on, are
--- acknowledged: each four steps after the one before, or eight where its record had no room
+-- acknowledged: each four ticks after the one before, or eight where its record had no room
 abbrev pub moments_of : ℕ → List Command → List Command → List ℕ
 moments_of clock log [] = []
 moments_of clock log (c ∷ cs) =
-    (clock + steps_of log c) ∷ moments_of (clock + steps_of log c) (log_after log c) cs
+    (clock + ticks_of log c) ∷ moments_of (clock + ticks_of log c) (log_after log c) cs
 
 -- the last of the moments, or the clock where there is none
 abbrev pub last_moment : ℕ → List ℕ → ℕ
 last_moment clock [] = clock
 last_moment clock (m ∷ ms) = last_moment m ms
 
--- Between these two states of a disk the commands were acknowledged, each at its moment: what the
--- log held at the start determines them all.
+-- The moments of these commands, recorded in turn between these two states of a disk: what the log
+-- held at the start determines them all, and the last is not after the end. That each command is
+-- kept from its moment on says `KeepsCommands`.
 pub record Acknowledgements (old new : DiskState) (commands : List Command) : Type 0 where
   pub log : List Command
   pub held : LogHolds (bytes_of old) log

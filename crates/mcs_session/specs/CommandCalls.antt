@@ -1,14 +1,14 @@
 -- What the calls of an open session answer, and what they do to the disk.
 use Rattle.std.specs.Prelude.{◌≡◌, ◌+◌, min, Bool, true, false, ℕ, List, None, Some, Result, Ok, Err}
 use Rattle.mcs_disk.specs.Disk.{DiskState, most_faults, bytes_of, time_of}
-use Rattle.mcs_disk.specs.Moments.{Either, LeavesOnly}
+use Rattle.mcs_disk.specs.Stretches.{Either, LeavesOnly}
 use Rattle.mcs_model.specs.declared.command.Command.{Command}
 use Rattle.mcs_model.specs.declared.command.Reply.{Reply}
 use Rattle.mcs_model.specs.BenchState.{BenchState}
 use Rattle.mcs_model.specs.Command.{refusal, after, reply}
 use Rattle.mcs_session.specs.declared.fault.SessionFault.{SessionFault}
 use Rattle.mcs_session.specs.declared.fault.SessionFault.TheVariants.{Refused, Device, Closed}
-use Rattle.mcs_session.specs.Log.{LogHolds, log_after, steps_of}
+use Rattle.mcs_session.specs.Log.{LogHolds, log_after, ticks_of}
 use Rattle.mcs_session.specs.StandsFor.{DiskStandsFor, HoldsState, StandsFor}
 
 -- ---- `apply`
@@ -37,12 +37,12 @@ LeavesEitherState old new s other =
     LeavesOnly old new (Either (λ file. StandsFor file s) (λ file. StandsFor file other))
 
 -- Until the command is acknowledged, a power cut leaves the state before or after, and from then on
--- the state after. Its record was added to the log, in the steps that take.
+-- the state after. Its record was added to the log, in the ticks that it takes.
 pub record AcknowledgesCommand (old new : DiskState) (s : BenchState) (c : Command) : Type 0 where
   pub leaves : LeavesEitherState old new s (after s c)
   pub log : List Command
   pub held : LogHolds (bytes_of old) log
-  pub ticks : time_of new ≡ time_of old + steps_of log c
+  pub ticks : time_of new ≡ time_of old + ticks_of log c
   pub holds : LogHolds (bytes_of new) (log_after log c)
   pub stands : DiskStandsFor new (after s c)
 
@@ -66,7 +66,7 @@ MayAnswerSettle live result = ⊥
 abbrev pub KeepsState : DiskState → DiskState → BenchState → Type 0
 KeepsState old new s = LeavesOnly old new (λ file. StandsFor file s)
 
--- The bytes of the disk stood for this state, and now, four steps later, it holds a snapshot of it
+-- The bytes of the disk stood for this state, and now, four ticks later, it holds a snapshot of it
 -- and no records. At every moment between, a power cut leaves this state.
 pub record SettlesSession (old new : DiskState) (s : BenchState) : Type 0 where
   pub stood : StandsFor (bytes_of old) s

@@ -2,7 +2,7 @@
 use Rattle.std.specs.Prelude.{◌≡◌, ◌+◌, ◌≤◌, ℕ, List, [], Bool, IsTrue, Result, length, if◌then◌else◌}
 use Rattle.mcs_disk.specs.Disk.{DiskState, bytes_of, time_of}
 use Rattle.mcs_disk.specs.Changes.{Changes}
-use Rattle.mcs_disk.specs.Moments.{Either, LeavesOnly}
+use Rattle.mcs_disk.specs.Stretches.{Either, LeavesOnly}
 use Rattle.mcs_disk.specs.PowerCut.{IsDurable}
 use Rattle.mcs_journal.specs.File.{Holds}
 use Rattle.mcs_journal.specs.declared.format.TheConstants.{MOST_RECORD, MOST_SNAPSHOT}
@@ -11,7 +11,7 @@ use Rattle.mcs_model.specs.BenchState.{BenchState}
 use Rattle.mcs_model.specs.declared.command.Command.{Command}
 use Rattle.mcs_codec.specs.declared.versions.Version.{Version}
 use Rattle.mcs_session.specs.Cycles.{log_cycles}
-use Rattle.mcs_session.specs.Log.{LogHolds, has_room_for, steps_of}
+use Rattle.mcs_session.specs.Log.{LogHolds, has_room_for, ticks_of}
 use Rattle.mcs_session.specs.StandsFor.{HoldsState, RecordsStandFor, StandsFor}
 
 -- an honest disk of an open session: whatever a power cut leaves stands for the state of the bench,
@@ -42,13 +42,13 @@ pub record IsReplayed
   pub stand : RecordsStandFor version snap records s
   pub count : cycles ≡ log_cycles stand.commands
 
--- Room was made for the record of a command: in no step where there was room, and else in four, by
+-- Room was made for the record of a command: in no tick where there was room, and else in four, by
 -- a snapshot of the state in the place of all records. The disk stands for the same state still, by
 -- a log of that many cycles.
 pub record HasMadeRoom (old new : DiskState) (c : Command) (cycles : ℕ) (s : BenchState) : Type 0 where
   pub log : List Command
   pub held : LogHolds (bytes_of old) log
-  pub ticks : time_of new + 4 ≡ time_of old + steps_of log c
+  pub ticks : time_of new + 4 ≡ time_of old + ticks_of log c
   pub holds : LogHolds (bytes_of new) (if has_room_for log c then log else [])
   pub recorded : IsRecorded new cycles s
 
@@ -71,20 +71,20 @@ pub record ReplacedContents
   pub held : HoldsState (bytes_of new) s
   pub durable : IsDurable new
 
--- a snapshot of this state takes the place of the pair that the disk holds, in four steps
-abbrev pub ReplacesAll : {T E : Type 0} → DiskState → DiskState → BenchState → Result T E → Type 0
-ReplacesAll old new s result =
+-- a snapshot of this state takes the place of the pair that the disk holds, in four ticks
+abbrev pub ReplacesWhatIsHeld : {T E : Type 0} → DiskState → DiskState → BenchState → Result T E → Type 0
+ReplacesWhatIsHeld old new s result =
     (snap : List ℕ) (records : List (List ℕ)) → Holds (bytes_of old) snap records
     → Changes 4 old new (λ c. Holds c snap records) (λ c. HoldsState c s) result
 
 -- `MayReplaceContents` for the pair that the disk held, whichever that is
-abbrev pub MayReplaceAll : DiskState → DiskState → BenchState → Type 0
-MayReplaceAll old new s =
+abbrev pub MayReplaceWhatIsHeld : DiskState → DiskState → BenchState → Type 0
+MayReplaceWhatIsHeld old new s =
     (snap : List ℕ) (records : List (List ℕ)) → Holds (bytes_of old) snap records
     → MayReplaceContents old new snap records s
 
 -- `ReplacedContents` for it
-abbrev pub ReplacedAll : DiskState → DiskState → BenchState → Type 0
-ReplacedAll old new s =
+abbrev pub ReplacedWhatWasHeld : DiskState → DiskState → BenchState → Type 0
+ReplacedWhatWasHeld old new s =
     (snap : List ℕ) (records : List (List ℕ)) → Holds (bytes_of old) snap records
     → ReplacedContents old new snap records s

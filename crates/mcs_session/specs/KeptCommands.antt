@@ -29,7 +29,8 @@ pub record StandsForPrefix
 -- ---- a run
 
 -- From the state s on the commands `done` were acknowledged. All of `reached`, which are these and
--- then those that the device failed at, may have reached the disk.
+-- then `failed`, may have reached the disk: none more, or the one that the device failed at
+-- (`ClosesSession` of mcs_shell).
 pub record KeepsCommands
     (old new : DiskState) (s : BenchState) (done reached : List Command) : Type 0 where
   pub acknowledged : Acknowledgements old new done

@@ -30,6 +30,6 @@ abbrev pub log_after_all : List Command → List Command → List Command
 log_after_all log [] = log
 log_after_all log (c ∷ cs) = log_after_all (log_after log c) cs
 
--- the steps of the clock that recording a command takes
-abbrev pub steps_of : List Command → Command → ℕ
-steps_of log c = if has_room_for log c then 4 else 8
+-- the ticks of the disk's clock that recording a command takes
+abbrev pub ticks_of : List Command → Command → ℕ
+ticks_of log c = if has_room_for log c then 4 else 8

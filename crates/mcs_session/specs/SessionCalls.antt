@@ -1,7 +1,7 @@
 -- What making and opening a session do to the disk.
 use Rattle.std.specs.Prelude.{◌≡◌, ◌⊎◌, ◌+◌}
 use Rattle.mcs_disk.specs.Disk.{DiskState, bytes_of, time_of, images_of, IsLater}
-use Rattle.mcs_disk.specs.Moments.{Either, LeavesOnly, AddsNoImage}
+use Rattle.mcs_disk.specs.Stretches.{Either, LeavesOnly, AddsNoImage}
 use Rattle.mcs_journal.specs.File.{IsBlank}
 use Rattle.mcs_journal.specs.declared.fault.OpenFault.{OpenFault}
 use Rattle.mcs_journal.specs.declared.fault.OpenFault.TheVariants as open_fault
@@ -9,7 +9,7 @@ use Rattle.mcs_model.specs.BenchState.{BenchState, new_bench_state}
 use Rattle.mcs_session.specs.StandsFor.{HoldsState, DiskStandsFor, StandsByEither, StandsFor}
 use Rattle.mcs_session.specs.Version1.{StandsForLifted}
 
--- the disk was blank, and now, five steps later, every image stands for a new bench
+-- the disk was blank, and now, five ticks later, every image stands for a new bench
 pub record CreatesSession (old new : DiskState) : Type 0 where
   pub blank : IsBlank old
   pub stands : DiskStandsFor new new_bench_state
@@ -18,14 +18,14 @@ pub record CreatesSession (old new : DiskState) : Type 0 where
 
 -- whatever a power cut of this stretch leaves is an image that the disk had before, or stands for
 -- this state
-abbrev pub MayMigrate : DiskState → DiskState → BenchState → Type 0
-MayMigrate old new s =
+abbrev pub LeavesOldOrState : DiskState → DiskState → BenchState → Type 0
+LeavesOldOrState old new s =
     LeavesOnly old new (Either (images_of old) (λ file. StandsByEither file s))
 
 -- What opening a session in this state did: a file of version 2 is not written; one of version 1 is
 -- replaced by a snapshot of version 2.
 pub record MigratesSession (old new : DiskState) (s : BenchState) : Type 0 where
-  pub leaves : MayMigrate old new s
+  pub leaves : LeavesOldOrState old new s
   pub rests : StandsFor (bytes_of old) s → AddsNoImage old new
   pub migrated : StandsForLifted (bytes_of old) s → HoldsState (bytes_of new) s
 
@@ -33,7 +33,7 @@ pub record MigratesSession (old new : DiskState) (s : BenchState) : Type 0 where
 pub record FailsMigrating (old new : DiskState) : Type 0 where
   pub state : BenchState
   pub stands : StandsForLifted (bytes_of old) state
-  pub leaves : MayMigrate old new state
+  pub leaves : LeavesOldOrState old new state
 
 -- what a refused `open` did to the disk: nothing, except for a device fault while a file of version
 -- 1 was replaced

@@ -4,14 +4,14 @@ ghost use Rattle.std.specs.Prelude.{◌≡◌, ◌+◌, ◌≤◌, None, IfOk, I
 ghost use Rattle.mcs_codec.specs.Codec.{Spells, SpellsState};
 ghost use Rattle.mcs_codec.specs.CommandBytes.{command_bytes};
 ghost use Rattle.mcs_disk.specs.CallList.{OneUnsynced};
-ghost use Rattle.mcs_disk.specs.Moments.{LeavesOnly};
+ghost use Rattle.mcs_disk.specs.Stretches.{LeavesOnly};
 ghost use Rattle.mcs_disk.specs.Disk.{CountsFault};
 ghost use Rattle.mcs_journal.specs.File.{HasRoom};
 ghost use Rattle.mcs_model.specs.Command.{after, refusal};
 ghost use Rattle.mcs_model.specs.declared.command.Command.{Command};
 ghost use Rattle.mcs_session.specs.Cycles.{replay_cycles};
 ghost use Rattle.mcs_session.specs.CommandCalls.{AcknowledgesCommand, LeavesEitherState};
-ghost use Rattle.mcs_session.specs.Invariant.{HasMadeRoom, IsReady, IsRecorded, ReplacesAll};
+ghost use Rattle.mcs_session.specs.Invariant.{HasMadeRoom, IsReady, IsRecorded, ReplacesWhatIsHeld};
 ghost use Rattle.mcs_session.specs.StandsFor.{StandsFor};
 
 use crate::replaying::replay_cycles;
@@ -80,7 +80,7 @@ impl<D: Disk + Drop> CommandLog<D> {
         ensures used { OnOk result ((self.new.store.used ≡ 0) × (self.new.cycles ≡ 0)) }
         ensures ready { IsReady self.new.cycles self.new.payload.items self.new.snapshot.items }
         ensures replaces { (D.state self.old.store.disk).honest
-            → ReplacesAll (D.state self.old.store.disk) (D.state self.new.store.disk)
+            → ReplacesWhatIsHeld (D.state self.old.store.disk) (D.state self.new.store.disk)
             bench.now result }
     {
         let length = encode_state(&mut self.snapshot, bench);

@@ -2,14 +2,14 @@
 ghost use Rattle.std.specs.Prelude.{◌≡◌, ◌≢◌, ◌⊎◌, ◌↔◌, IsTrue, true, false, IsErrAnd, IfOk, IfErr};
 ghost use Rattle.mcs_disk.specs.Disk.{bytes_of, size_of, CountsFault};
 ghost use Rattle.mcs_disk.specs.CallList.{OneUnsynced, unsynced};
-ghost use Rattle.mcs_disk.specs.Moments.{WritesNothing};
+ghost use Rattle.mcs_disk.specs.Stretches.{WritesNothing};
 ghost use Rattle.mcs_journal.specs.StoreCalls.{RefusesCreate};
 ghost use Rattle.mcs_model.specs.BenchState.{new_bench_state};
 ghost use Rattle.mcs_session.specs.StandsFor.{StandsFor, DiskStandsFor};
 ghost use Rattle.mcs_session.specs.CommandCalls.{AppliesCommand, ClosesAtDeviceFault, MayAnswerSettle, RecordsOrFails, SettlesOrFails};
 ghost use Rattle.mcs_session.specs.SessionCalls.{CreatesSession, MigratesSession, RefusalLeaves};
 ghost use Rattle.mcs_session.specs.Opening.{OpensSession, RefusesSession};
-ghost use Rattle.mcs_session.specs.Invariant.{HasContents, IsReady, IsRecorded, MayReplaceAll, ReplacedAll};
+ghost use Rattle.mcs_session.specs.Invariant.{HasContents, IsReady, IsRecorded, MayReplaceWhatIsHeld, ReplacedWhatWasHeld};
 
 use crate::fault::SessionFault;
 use crate::recording::{CommandLog, encode_state, log_buffers};
@@ -271,11 +271,11 @@ fn begin<D: Disk + Drop>(
         OneUnsynced (D.state store.disk).calls (D.state r.1).calls) }
     ensures same { replayed.version ≡ Version.Two → IfOk result (λ s. s.disk ≡ store.disk) }
     ensures version_1 { replayed.version ≡ Version.One → (D.state store.disk).honest
-        → IfOk result (λ s. ReplacedAll (D.state store.disk) (D.state s.disk) replayed.bench) }
+        → IfOk result (λ s. ReplacedWhatWasHeld (D.state store.disk) (D.state s.disk) replayed.bench) }
     ensures refused { IfErr result (λ r. (r.0 ≡ OpenFault.Device) × ((replayed.version ≡ Version.One)
         × CountsFault (D.state store.disk) (D.state r.1) (Unit {0}))) }
     ensures failed { (D.state store.disk).honest
-        → IfErr result (λ r. MayReplaceAll (D.state store.disk) (D.state r.1) replayed.bench) }
+        → IfErr result (λ r. MayReplaceWhatIsHeld (D.state store.disk) (D.state r.1) replayed.bench) }
 {
     let (payload, snapshot) = buffers;
     let (bench, version) = (replayed.bench, replayed.version);

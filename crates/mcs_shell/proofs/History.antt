@@ -5,7 +5,7 @@ use Rattle.std.proofs.lemmas.Grind.{common_steps}
 use Rattle.mcs_disk.proofs.CallLaws.{lawful}
 use Rattle.mcs_disk.proofs.Composing.{durable_since, rests_since, later_before}
 use Rattle.mcs_disk.specs.Disk.{DiskState, bytes_of, time_of, images_of, images_since}
-use Rattle.mcs_disk.specs.Moments.{AddsNoImage}
+use Rattle.mcs_disk.specs.Stretches.{AddsNoImage}
 use Rattle.mcs_disk.specs.PowerCut.{IsLeftByCut, IsDurable}
 use Rattle.mcs_journal.specs.declared.fault.OpenFault.{OpenFault}
 use Rattle.mcs_journal.specs.declared.fault.OpenFault.TheVariants.{NotASession, Damaged, Device, NoMemory}
@@ -24,7 +24,7 @@ use Rattle.mcs_session.proofs.Prefixes.{acknowledged_none}
 use Rattle.mcs_session.proofs.Using.{rising}
 use Rattle.mcs_shell.specs.History.{CameOf, History, IsHistory, KeepsOf, KeepsOfEach, KeepsOfRun, Refused, Served, Sitting, StoppedSitting, SurvivesHistory, disk_left}
 use Rattle.mcs_shell.specs.Headline.{AnswersAndAcknowledges, done_in, reached_in}
-use Rattle.mcs_shell.specs.Program.{OpenBegins, OpenIsRefused}
+use Rattle.mcs_shell.specs.Program.{OpenBegins, OpenRefusal}
 use Rattle.mcs_shell.specs.RefusalNumbers.{open_fault_number}
 use Rattle.mcs_shell.specs.Shell.{ShellRun}
 use Rattle.mcs_shell.proofs.Surviving.{answered_by, honest_of_run, kept_of_run}
@@ -141,11 +141,11 @@ refused_in NoMemory disk left image s here rests now = rests_in disk left image 
 refused_in Device disk left image s here (inl rests) now = rests_in disk left image s here rests now
 refused_in Device disk left image s here (inr fails) now = fails_in disk left image s here fails now
 
-number_refused : {D : Type 0} (state_of : D → DiskState) (disk left : D) (number : ℕ) (s : BenchState) → Stands (state_of disk) s → OpenIsRefused (state_of disk) (state_of left) number → (number ≡ 53) ⊎ (number ≡ 90)
+number_refused : {D : Type 0} (state_of : D → DiskState) (disk left : D) (number : ℕ) (s : BenchState) → Stands (state_of disk) s → OpenRefusal (state_of disk) (state_of left) number → (number ≡ 53) ⊎ (number ≡ 90)
 number_refused state_of disk left number s here refused =
     elim (refused_number refused.fault (state_of disk) s here (refused.refuses here.honest).0) [ inl is ↦ inl (refused.told ∙ is) | inr is ↦ inr (refused.told ∙ is) ]
 
-stands_refused : {D : Type 0} (state_of : D → DiskState) → (disk left found : D) (number t : ℕ) (s : BenchState) → Stands (state_of disk) s → OpenIsRefused (state_of disk) (state_of left) number
+stands_refused : {D : Type 0} (state_of : D → DiskState) → (disk left found : D) (number t : ℕ) (s : BenchState) → Stands (state_of disk) s → OpenRefusal (state_of disk) (state_of left) number
     → time_of (state_of disk) ≤ t → ((state_of left).honest → IsLeftByCut t (state_of left) (state_of found)) → Stands (state_of found) s
 stands_refused state_of disk left found number t s here refused late stopped =
     let honest = refused.counts.honest.1 here.honest in

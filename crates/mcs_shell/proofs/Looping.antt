@@ -123,7 +123,7 @@ begun_has_memory end bytes whole met halted ends is = let P : ShellEnd → Type 
 
 -- the loop has nothing to write first
 ran_loop : (end : ShellEnd) (r r' : KnownBytes) (a c : ShellState) (halted : Option ShellEnd) (read : ReadInput r r') (m : ServesInputs IsIntact (inputs_read read) a c halted)
-    → ReadsLittleAhead read.bytes (inputs_in (answered_steps m.met)) → EndsBy end true read.bytes read.whole m.met halted → RanShellGiven IsIntact [] end r r' a c
+    → ReadsLittleAhead read.bytes (inputs_in (answered_steps m.met)) → EndsBy end true read.bytes read.ended m.met halted → RanShellGiven IsIntact [] end r r' a c
 ran_loop end r r' a c halted read m near ends = record {
   read = read;
   began = record { whole = true; started = a.out; wrote = Appends-nil a.out };
@@ -131,7 +131,7 @@ ran_loop end r r' a c halted read m near ends = record {
   served = m;
   near = near;
   ends = ends;
-  untold = λ is. absurd (begun_has_memory end read.bytes read.whole m.met halted ends is);
+  unwritten = λ is. absurd (begun_has_memory end read.bytes read.ended m.met halted ends is);
 }
 
 cut_has_no_end : false ≡ true → ⊥
@@ -139,7 +139,7 @@ cut_has_no_end e = absurd (cc e)
 
 -- the bytes were cut off there
 abbrev read_cut : (r r' : KnownBytes) (bytes : List ℕ) → Consumes r r' bytes → length bytes ≤ INPUT_BYTES → ReadInput r r'
-read_cut r r' bytes consumed within = record { bytes = bytes; consumed = consumed; within = within; whole = false; input_ended = λ e. absurd (cut_has_no_end e) }
+read_cut r r' bytes consumed within = record { bytes = bytes; consumed = consumed; within = within; ended = false; input_ended = λ e. absurd (cut_has_no_end e) }
 
 -- these bytes, and what was unfinished then
 abbrev met_all : (whole : Bool) (a b c : ShellState) (line : Pending) (bytes : List ℕ) (halted : Option ShellEnd) → ServesBytes a b nothing_pending line bytes None → ServesInputs IsIntact (inputs_after line [] whole) b c halted → ServesInputs IsIntact (inputs bytes whole) a c halted
@@ -168,7 +168,7 @@ pub ran_whole : (end : ShellEnd) (r r' r'' : KnownBytes) (a b c : ShellState) (l
     → (m : ServesInputs IsIntact (inputs_after line [] true) b c halted) → EndsBy end true x.bytes true (x.fed.met ++ m.met) halted → RanShellGiven IsIntact [] end r r'' a c
 ran_whole end r r' r'' a b c line chunk total most halted x small y m ends =
     let below : length x.bytes < INPUT_BYTES = omega (arith, x.count, small) in
-    ran_loop end r r'' a c halted (record { bytes = x.bytes; consumed = last_read r r' r'' most x.bytes chunk x.consumed y; within = omega (arith, below); whole = true; input_ended = λ e. (below, y.at_end refl) })
+    ran_loop end r r'' a c halted (record { bytes = x.bytes; consumed = last_read r r' r'' most x.bytes chunk x.consumed y; within = omega (arith, below); ended = true; input_ended = λ e. (below, y.at_end refl) })
     (met_all true a b c line x.bytes halted x.fed m) (near_whole a b line x.bytes x.fed m.met) ends
 
 ends_one : (going : Bool) (o : Outcome) (end : ShellEnd) (bytes : List ℕ) (whole : Bool) (met : List Step) → halt_of going o ≡ Some end → EndsBy end true bytes whole met (Some end)
@@ -233,7 +233,7 @@ pub ran_after : (end : ShellEnd) (r r' : KnownBytes) (a b : ShellState) (started
 ran_after end r r' a b started first_line settle wrote x =
     let begun : x.began.whole ≡ true = whole_first x.began.whole started x.began.started x.began.wrote in
     let nothing : Appends started x.began.started [] = subst (λ (v : Bool). WroteBytes v started x.began.started []) begun x.began.wrote in
-    let ends : EndsBy end true x.read.bytes x.read.whole x.served.met x.halted = subst (λ (v : Bool). EndsBy end v x.read.bytes x.read.whole x.served.met x.halted) begun x.ends in
+    let ends : EndsBy end true x.read.bytes x.read.ended x.served.met x.halted = subst (λ (v : Bool). EndsBy end v x.read.bytes x.read.ended x.served.met x.halted) begun x.ends in
     let P : List ℕ → Type 0 = λ v. Appends a.out x.began.started v in
     record {
       read = x.read;
@@ -242,7 +242,7 @@ ran_after end r r' a b started first_line settle wrote x =
       served = meets_under (inputs_read x.read) (with_written a x.began.started) b x.halted settle x.served;
       near = x.near;
       ends = ends;
-      untold = λ is. absurd (begun_has_memory end x.read.bytes x.read.whole x.served.met x.halted ends is);
+      unwritten = λ is. absurd (begun_has_memory end x.read.bytes x.read.ended x.served.met x.halted ends is);
     }
 
 nothing_cut : inputs [] false ≡ []
@@ -258,7 +258,7 @@ not_begun end r a out first_line settle some untold ends = record {
   served = meets_as IsOpenOnHonestDisk (inputs [] false) [] (with_written a out) (with_written a out) None nothing_cut (meets_under [] (with_written a out) (with_written a out) None settle (meets_nothing (with_written a out)));
   near = record { before = []; ahead = []; parts = refl; few = omega arith; more = []; answered_are = sym (append-nil (inputs [] false) ∙ nothing_cut) };
   ends = ends;
-  untold = untold;
+  unwritten = untold;
 }
 
 pub session_has_bytes : (s : BenchState) → 0 < length (session_text s)

@@ -14,7 +14,7 @@ use Rattle.mcs_shell.specs.declared.ends.Outcome.{Outcome}
 -- now is what that input left, and no call on the disk came after it. So a command that is answered
 -- `ok` is done and recorded, and on an honest disk the clock stands at its moment (`clock` of
 -- `KeepsAllCommands`).
-pub record AnswersUpTo {D : Type 0} (state_of : D → DiskState) (now : SessionView D)
+pub record AnswersJustNow {D : Type 0} (state_of : D → DiskState) (now : SessionView D)
     (bytes : List ℕ) : Type 0 where
   pub before : SessionView D
   pub input : Input
@@ -30,6 +30,6 @@ pub record AnswersUpTo {D : Type 0} (state_of : D → DiskState) (now : SessionV
 -- stands for its state, with the command that is answered.
 pub record MayTell {D : Type 0} (state_of : D → DiskState) (session : SessionView D)
     (bytes : List ℕ) : Type 0 where
-  pub says : (bytes ≡ session_text session.state) ⊎ AnswersUpTo state_of session bytes
+  pub says : (bytes ≡ session_text session.state) ⊎ AnswersJustNow state_of session bytes
   pub stands : IsTrue session.live → (state_of session.disk).honest
       → DiskStandsFor (state_of session.disk) session.state

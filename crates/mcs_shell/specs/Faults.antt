@@ -1,4 +1,4 @@
--- How often a reader and a writer have failed, by how a shell ended.
+-- How often a reader and a writer have failed, by how a shell ended; and a run without any fault.
 use Rattle.std.specs.Prelude.{◌≡◌, ◌≢◌, ◌⊎◌, ◌+◌, ◌<◌, ◌++◌, ℕ, min, Option, Some, None, MatchResult, Result}
 use Rattle.std.specs.Io.KnownBytes.{Appends}
 use Rattle.std.specs.Option.{option_map}

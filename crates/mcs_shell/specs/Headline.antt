@@ -20,10 +20,10 @@ use Rattle.mcs_shell.specs.Transcript.{ArePossibleSteps, Step, answer, acknowled
 
 -- ---- what a run answered
 
--- A run met these inputs, the first of those that the bytes which it read spell. What it wrote is
--- the first line of a session and then their answers, each that of the state after the commands
--- accepted before it. Only a write that failed, and a shell that had no memory to begin, leave the
--- last of it out.
+-- A run met the first inputs among those that the bytes which it read spell: all of them, unless a
+-- write or the device failed, or the shell had no memory to begin. It wrote the first line of a
+-- session and then their answers, each by the state after the commands accepted before it; a failed
+-- write and lack of memory alone cut that off at its end.
 pub record AnswersInTurn
     (end : ShellEnd) {reader reader' : KnownBytes} (read : ReadInput reader reader')
     (a b : ShellState) (met : List Step) : Type 0 where
@@ -46,8 +46,9 @@ done_in run = in_turn acknowledged_commands run.before.state run.ran.served.met
 abbrev pub reached_in : {D : Type 0} {state_of : D → DiskState} → ShellRun state_of → List Command
 reached_in run = in_turn reached_commands run.before.state run.ran.served.met
 
--- The answers of a run are those of the inputs that it met, in turn, and each command that it
--- answered `ok` was acknowledged at its moment (`state_of` is what contracts see of its disk).
+-- The answers of a run are those of the inputs that it met, in turn. The commands that it answered
+-- `ok` have their moments, and besides them at most the one that it answered `no 53` may have
+-- reached the disk (`state_of` is what contracts see of its disk).
 pub record AnswersAndAcknowledges
     {D : Type 0} {state_of : D → DiskState} (run : ShellRun state_of) : Type 0 where
   pub answers : AnswersInTurn run.end run.ran.read

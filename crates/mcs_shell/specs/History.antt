@@ -9,7 +9,7 @@ use Rattle.mcs_model.specs.Fold.{fold}
 use Rattle.mcs_session.specs.Acknowledgements.{acknowledged_by}
 use Rattle.mcs_session.specs.SessionState.{SessionView}
 use Rattle.mcs_shell.specs.Headline.{AnswersAndAcknowledges, reached_in}
-use Rattle.mcs_shell.specs.Program.{IsOpenedOn, IsOpenRefused, OpenIsRefused}
+use Rattle.mcs_shell.specs.Program.{IsOpenedOn, IsOpenRefused, OpenRefusal}
 use Rattle.mcs_shell.specs.Shell.{ShellRun}
 
 -- ---- what happened
@@ -24,7 +24,7 @@ pub data Sitting {D : Type 0} (state_of : D → DiskState) : Type 0 where
 abbrev pub CameOf : {D : Type 0} {state_of : D → DiskState} → D → Sitting state_of → Type 0
 CameOf {state_of = state_of} disk (Served run) = IsOpenedOn state_of disk run.before
 CameOf {state_of = state_of} disk (Refused number left) =
-    OpenIsRefused (state_of disk) (state_of left) number
+    OpenRefusal (state_of disk) (state_of left) number
 
 -- the disk after all the calls of a sitting, whether or not a stop cut off the last of them
 abbrev pub disk_left : {D : Type 0} {state_of : D → DiskState} → Sitting state_of → D
@@ -75,8 +75,8 @@ sittings_of history =
 -- ---- what is kept of it
 
 -- A run began in the state s, and answered the inputs that it met. It was stopped at that time or
--- later, and these of its commands are kept: the first of those that it answered `ok` and the one
--- that it answered `no 53`, with each that had its moment by that time.
+-- later, and these of its commands are kept: a prefix of those that it answered `ok` and then the
+-- one that it answered `no 53`, with each that had its moment by that time.
 pub record KeepsOfRun
     {D : Type 0} (state_of : D → DiskState) (run : ShellRun state_of) (time : ℕ) (s : BenchState)
     (kept : List Command) : Type 0 where

@@ -2,7 +2,7 @@
 use Rattle.std.specs.Prelude.{◌≡◌, ◌⊎◌, ◌≤◌, ℕ}
 use Rattle.mcs_disk.specs.Disk.{bytes_of, time_of}
 use Rattle.mcs_host.specs.Ending.{IsLeftSince, as_disk, found_in}
-use Rattle.mcs_host.specs.FileDisk.{IsOpened}
+use Rattle.mcs_host.specs.FileDisk.{IsUncalled}
 use Rattle.mcs_host.specs.declared.file_disk.FileDisk.{FileDisk}
 use Rattle.mcs_session.specs.Acknowledgements.{acknowledged_by}
 use Rattle.mcs_session.specs.KeptCommands.{IsAfterPrefix}
@@ -15,7 +15,7 @@ use Rattle.mcs_shell.specs.Shell.{ShellRun}
 -- opened with what is found in it, and is honest from then on.
 pub record IsFoundAgain (time : ℕ) (file again : FileDisk) : Type 0 where
   pub left : IsLeftSince time file
-  pub opened : IsOpened (as_disk again)
+  pub opened : IsUncalled (as_disk again)
   pub bytes : bytes_of (as_disk again) ≡ found_in file
   pub honest : (as_disk again).honest
 

@@ -71,6 +71,6 @@ inputs_of_lines whole false (l ∷ ls) =
       | Some kind ↦ text_input whole kind ls ++ inputs_of_lines whole true ls
     ]
 
--- the inputs that the bytes spell; `whole` says that input ended there, else it was cut
+-- the inputs that the bytes spell; `ended` says that input ended there, else it was cut
 unfoldable pub inputs : List ℕ → Bool → List Input
-inputs bytes whole = inputs_of_lines whole false (lines bytes whole)
+inputs bytes ended = inputs_of_lines ended false (lines bytes ended)

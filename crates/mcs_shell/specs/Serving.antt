@@ -56,7 +56,7 @@ LeavesSession Given true a b done reached = ClosesSession Given a b done reached
 
 -- ---- inputs in turn
 
--- From a on these steps were made, in turn, and then there is b. `Given` is the premise of what the
+-- From a on these steps were made, in turn, and left b. `Given` is the premise of what the
 -- disk keeps.
 pub record ServesSteps
     (Given : Premise) (a : ShellState) (met : List Step) (b : ShellState) : Type 0 where
@@ -69,11 +69,11 @@ pub record ServesSteps
 
 -- the first of these inputs were met: all, where nothing halted the shell
 pub record ServesInputs
-    (Given : Premise) (given : List Input) (a b : ShellState)
+    (Given : Premise) (asked : List Input) (a b : ShellState)
     (halted : Option ShellEnd) : Type 0 where
   pub met : List Step
   pub serves : ServesSteps Given a met b
   pub halts : halt_after met ≡ halted
   pub not_met : List Input
-  pub spelled : given ≡ inputs_in met ++ not_met
+  pub spelled : asked ≡ inputs_in met ++ not_met
   pub all_met : halted ≡ None → not_met ≡ []

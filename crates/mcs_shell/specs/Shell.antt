@@ -13,9 +13,8 @@ use Rattle.mcs_answers.specs.AnswerTexts.{session_text}
 use Rattle.mcs_session.specs.KeptCommands.{IsOpenOnHonestDisk}
 use Rattle.mcs_shell.specs.Serving.{ServesInputs, WroteBytes}
 
--- No more than 4,096 bytes were read ahead of the inputs that were answered: these are those that
--- the bytes before spell, and maybe more. (A numeral, so that a shell with a larger chunk is
--- refused.)
+-- All inputs that the bytes read spell, but for the last 4,096 bytes at most, were answered, and
+-- maybe more. (A numeral, so that a shell with a larger chunk is refused.)
 pub record ReadsLittleAhead (bytes : List ℕ) (answered : List Input) : Type 0 where
   pub before : List ℕ
   pub ahead : List ℕ
@@ -30,12 +29,12 @@ pub record ReadInput (reader reader' : KnownBytes) : Type 0 where
   pub consumed : Consumes reader reader' bytes
   pub within : length bytes ≤ INPUT_BYTES
   -- whether input ended after them; then the limit was not reached, and the reader has nothing left
-  pub whole : Bool
-  pub input_ended : whole ≡ true → (length bytes < INPUT_BYTES) × IsAtEnd reader'
+  pub ended : Bool
+  pub input_ended : ended ≡ true → (length bytes < INPUT_BYTES) × IsAtEnd reader'
 
 -- the inputs that it spells
 abbrev pub inputs_read : {reader reader' : KnownBytes} → ReadInput reader reader' → List Input
-inputs_read read = inputs read.bytes read.whole
+inputs_read read = inputs read.bytes read.ended
 
 -- What was begun: a first line was written, or only the first bytes of it, or none.
 pub record Began (first_line : List ℕ) (out : KnownBytes) : Type 0 where
@@ -51,16 +50,16 @@ IsNotBegun begun bytes met = (begun ≡ false) × (bytes ≡ []) × (met ≡ [])
 -- What a run is by its end: whether its first line was written whole, the bytes that were read and
 -- whether input ended after them, the inputs that were met, and what halted it.
 abbrev pub EndsBy : ShellEnd → Bool → List ℕ → Bool → List Step → Option ShellEnd → Type 0
-EndsBy End begun bytes whole met halted = (begun ≡ true) × (whole ≡ true) × (halted ≡ None)
-EndsBy ReadFault begun bytes whole met halted =
-    (begun ≡ true) × (whole ≡ false) × (halted ≡ None) × (length bytes < INPUT_BYTES)
-EndsBy InputLimit begun bytes whole met halted =
-    (begun ≡ true) × (whole ≡ false) × (halted ≡ None) × (length bytes ≡ INPUT_BYTES)
-EndsBy WriteFault begun bytes whole met halted =
+EndsBy End begun bytes ended met halted = (begun ≡ true) × (ended ≡ true) × (halted ≡ None)
+EndsBy ReadFault begun bytes ended met halted =
+    (begun ≡ true) × (ended ≡ false) × (halted ≡ None) × (length bytes < INPUT_BYTES)
+EndsBy InputLimit begun bytes ended met halted =
+    (begun ≡ true) × (ended ≡ false) × (halted ≡ None) × (length bytes ≡ INPUT_BYTES)
+EndsBy WriteFault begun bytes ended met halted =
     ((begun ≡ true) × (halted ≡ Some WriteFault)) ⊎ IsNotBegun begun bytes met
-EndsBy DeviceFault begun bytes whole met halted =
+EndsBy DeviceFault begun bytes ended met halted =
     (begun ≡ true) × (halted ≡ Some DeviceFault)
-EndsBy NoMemory begun bytes whole met halted = IsNotBegun begun bytes met
+EndsBy NoMemory begun bytes ended met halted = IsNotBegun begun bytes met
 
 -- The shell ran from a to b: what it read, what it began, and what it served of the inputs that it
 -- read.
@@ -72,8 +71,8 @@ pub record RanShellGiven
   pub halted : Option ShellEnd
   pub served : ServesInputs Given (inputs_read read) (with_written a began.started) b halted
   pub near : ReadsLittleAhead read.bytes (inputs_in (answered_steps served.met))
-  pub ends : EndsBy end began.whole read.bytes read.whole served.met halted
-  pub untold : end ≡ NoMemory → b.out ≡ a.out
+  pub ends : EndsBy end began.whole read.bytes read.ended served.met halted
+  pub unwritten : end ≡ NoMemory → b.out ≡ a.out
 
 -- a run whose first line is that of the session, under the premise that the session is open and its
 -- disk honest

@@ -3,7 +3,7 @@ ghost use Rattle.std.specs.Prelude.{◌≡◌, ◌⊎◌, IfOk, IfErr, IfSome, I
 ghost use Rattle.std.specs.Process.{exit_status};
 ghost use Rattle.mcs_host.specs.CommandLine.{choice_in, takes_arguments};
 ghost use Rattle.mcs_host.specs.Ending.{as_disk};
-ghost use Rattle.mcs_host.specs.FileDisk.{IsOpened};
+ghost use Rattle.mcs_host.specs.FileDisk.{IsUncalled};
 ghost use Rattle.mcs_host.specs.declared.file_disk.FileDisk.{FileDisk};
 ghost use Rattle.mcs_host.specs.declared.file_fault.FileFault.{FileFault};
 ghost use Rattle.mcs_shell.specs.Faults.{streams_view};
@@ -147,11 +147,11 @@ pub fn session_on<D: Disk + Drop>(
 
 /// Makes or opens the session in a file, or tells why there is none.
 pub fn session_in(rt: &HostRuntime, choice: &Choice) -> Result<Session<FileDisk>, Refused<FileDisk>>
-    ensures begun { IfOk result (λ session. (disk : FileDisk) × IsOpened (as_disk disk)
+    ensures begun { IfOk result (λ session. (disk : FileDisk) × IsUncalled (as_disk disk)
         × IsBegunOn as_disk choice.now disk session) }
     ensures refused { IfErr result (λ refused.
         ((fault : FileFault) × (refused.fault ≡ BeginFault.File fault))
-        ⊎ ((disk : FileDisk) × IsOpened (as_disk disk)
+        ⊎ ((disk : FileDisk) × IsUncalled (as_disk disk)
         × IsSomeAnd refused.disk (λ left. IsRefusedBy choice.now (as_disk disk) (as_disk left)
         (begin_fault_number refused.fault)))) }
 {

@@ -1,7 +1,7 @@
 use Rattle.std.proofs.Common.{rules, ◌≡◌, min, ◌+◌, length, true}
 use Rattle.mcs_journal.specs.declared.format.TheConstants.{FILE_SIZE}
 use Rattle.mcs_host.specs.HostCalls.{IsSame, Length, asked}
-use Rattle.mcs_host.specs.Opening.{AreZeros, IsBlank, IsWrittenAfter}
+use Rattle.mcs_host.specs.Opening.{AreZeros, IsAllZeros, IsWrittenAfter}
 use Rattle.mcs_host.proofs.OpenedFile.{filled_as_opened, rewritten_as_opened}
 use Rattle.mcs_host.proofs.ZeroBytes.{zeros_taken}
 use Rattle.mcs_host.proofs.opening.lock_and_read.Goals as goal
@@ -24,7 +24,7 @@ returns-in_ok-map_err-clause-asked g c =
     let bytes = c.sync_and_read.new.bytes.items in
     let measured : state c.length.new.self ≡ asked (Length c.in_ok-found.found true) (state c.lock.new.opened) = search rules in
     let size : length bytes ≡ min c.in_ok-found.found (FILE_SIZE + 1) = search rules in
-    let blank : IsBlank bytes = search rules in
+    let blank : IsAllZeros bytes = search rules in
     let these : c.deref-then-is_blank.result.now ≡ bytes = search rules in
     let still : IsSame (state c.sync_and_read.new.opened) (state c.write_whole.new.opened) = search rules in
     let writes : IsWrittenAfter c.args.file.now c.deref-then-is_blank.result.now (state c.sync_and_read.new.opened).calls (state c.write_whole.new.opened).calls = search rules in

@@ -3,7 +3,7 @@ use Rattle.mcs_disk.proofs.CallLaws.{size_of-bytes}
 use Rattle.mcs_disk.proofs.Composing.{rests_bytes, sync_reads, rests_durable, rests_then, reads_then, reads_as, synced_durable}
 use Rattle.mcs_journal.proofs.Asked.{on_err, reads_more, reads_sum}
 use Rattle.mcs_disk.specs.Calls.{DiskCall, Synced}
-use Rattle.mcs_journal.specs.Calls.{OnlyRead, many_reads}
+use Rattle.mcs_journal.specs.Calls.{AreReads, many_reads}
 use Rattle.std.proofs.Common.{rules, ◌≡◌, inr, ◌+◌, ◌*◌, List, [], ◌∷◌, ◌++◌, ℕ, length, append_assoc, sym, ◌∙◌, ap, subst, arith, IsErrOf}
 use Rattle.mcs_disk.specs.Disk.{part, bytes_of, size_of}
 use Rattle.mcs_journal.specs.File.{Holds, IsLog, start_of}
@@ -55,12 +55,12 @@ returns-in_err-log-clause-damaged g c = λ h told snap records held.
 pub returns-in_err-snap-clause-refused_calls : goal.returns-in_err-snap-clause-refused_calls
 returns-in_err-snap-clause-refused_calls g c =
     let new = (g.D.Disk.state c.read_snapshot.new.disk).calls in
-    on_err _ (inr (subst (λ (l : List DiskCall). OnlyRead l new) c.in_ok-sync.ensures.noted.all (reads_more 1 _ _ _ c.in_ok-slot.ensures.calls c.in_err-snap.ensures.refused_calls)))
+    on_err _ (inr (subst (λ (l : List DiskCall). AreReads l new) c.in_ok-sync.ensures.noted.all (reads_more 1 _ _ _ c.in_ok-slot.ensures.calls c.in_err-snap.ensures.refused_calls)))
 
 pub returns-in_err-log-clause-refused_calls : goal.returns-in_err-log-clause-refused_calls
 returns-in_err-log-clause-refused_calls g c =
     let new = (g.D.Disk.state c.read_log.new.disk).calls in
-    on_err _ (inr (subst (λ (l : List DiskCall). OnlyRead l new) c.in_ok-sync.ensures.noted.all
+    on_err _ (inr (subst (λ (l : List DiskCall). AreReads l new) c.in_ok-sync.ensures.noted.all
     (reads_more 3 _ _ _ (reads_sum 1 2 _ _ _ c.in_ok-slot.ensures.calls c.in_ok-snap.ensures.calls) c.in_err-log.ensures.refused_calls)))
 
 pub returns-clause-calls : goal.returns-clause-calls

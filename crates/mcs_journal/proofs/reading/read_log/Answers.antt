@@ -1,6 +1,6 @@
 use Rattle.mcs_disk.proofs.CallLaws.{size_of-bytes}
 use Rattle.mcs_journal.proofs.Asked.{on_err, reads_more, reads_sum}
-use Rattle.mcs_journal.specs.Calls.{OnlyRead, many_reads}
+use Rattle.mcs_journal.specs.Calls.{AreReads, many_reads}
 use Rattle.std.proofs.Common.{rules, ◌≡◌, ◌≢◌, ◌≤◌, ◌+◌, ◌*◌, ◌-◌, List, [], ◌∷◌, ◌++◌, ℕ, length, length-append, sym, ◌∙◌, ap, subst, arith, IsErrOf, get_or}
 use Rattle.mcs_journal.specs.declared.fault.OpenFault.TheVariants.{Damaged}
 use Rattle.mcs_disk.specs.Disk.{part, bytes_of}
@@ -62,7 +62,7 @@ returns-in_err-record-clause-refused_calls g c = on_err _ (reads_more _ _ _ _ c.
 pub returns-in_err-push-clause-refused_calls : goal.returns-in_err-push-clause-refused_calls
 returns-in_err-push-clause-refused_calls g c =
     let n = 3 * length c.loop-records.records.items in
-    let some : OnlyRead (g.D.Disk.state c.args.disk.now).calls (g.D.Disk.state c.read_record.new.disk).calls =
+    let some : AreReads (g.D.Disk.state c.args.disk.now).calls (g.D.Disk.state c.read_record.new.disk).calls =
     record { count = 3 + n; all = reads_sum n 3 _ _ _ c.loop-records.invariant.calls (rw c.in-Some.is at c.in_ok-record.ensures.record_calls) } in
     on_err _ some
 

@@ -1,6 +1,6 @@
 use Rattle.mcs_disk.specs.Changes.{ReadsOnly}
 use Rattle.mcs_disk.proofs.Composing.{rests_bytes, reads_then, reads_as}
-use Rattle.mcs_journal.specs.Calls.{OnlyRead}
+use Rattle.mcs_journal.specs.Calls.{AreReads}
 use Rattle.mcs_journal.proofs.Asked.{on_err, read_failed, reads_more, reads_sum}
 use Rattle.std.proofs.Common.{rules, ◌≡◌, ◌+◌, ◌*◌, ◌++◌, ℕ, length, take, drop, get_or, refl, ◌∙◌, ap, arith}
 use Rattle.std.proofs.lemmas.List.{take_at}
@@ -44,7 +44,7 @@ returns-then-len-eq0-clause-refused_calls g c = record { count = 2; all = reads_
 
 pub returns-in_err-bytes-clause-refused_calls : goal.returns-in_err-bytes-clause-refused_calls
 returns-in_err-bytes-clause-refused_calls g c =
-    let two : OnlyRead (g.D.Disk.state c.args.disk.now).calls (g.D.Disk.state c.read_at-2.new.disk).calls =
+    let two : AreReads (g.D.Disk.state c.args.disk.now).calls (g.D.Disk.state c.read_at-2.new.disk).calls =
     record { count = 2; all = reads_sum 1 1 _ _ _ c.in_ok-read_at.ensures.calls.all c.in_ok-read_at-2.ensures.calls.all } in
     on_err _ two
 

@@ -3,7 +3,7 @@ use Rattle.std.specs.Process.{exit_status}
 use Rattle.std.specs.declared.process.ExitCode.{ExitCode}
 use Rattle.mcs_host.specs.CommandLine.{arguments_of_choice}
 use Rattle.mcs_host.specs.Ending.{as_disk}
-use Rattle.mcs_host.specs.FileDisk.{IsOpened}
+use Rattle.mcs_host.specs.FileDisk.{IsUncalled}
 use Rattle.mcs_host.specs.declared.file_disk.FileDisk.{FileDisk}
 use Rattle.mcs_host.specs.declared.arguments.Choice.{Choice}
 use Rattle.mcs_session.specs.SessionState.{SessionView}
@@ -38,7 +38,7 @@ usage_of (Err refusal) session (Ok code) streams streams' P served refused =
 served_as_chosen : {E F : Type 0} (entered : Option (List ℕ × List ℕ)) (choice : Choice) (begun : Result (SessionView FileDisk) F)
     (session : Option (SessionView FileDisk)) (status : Result ExitCode E) (streams streams' : StreamsView)
     → entered ≡ Some (arguments_of_choice choice)
-    → IfOk begun (λ before. (disk : FileDisk) × IsOpened (as_disk disk) × IsBegunOn as_disk choice disk before)
+    → IfOk begun (λ before. (disk : FileDisk) × IsUncalled (as_disk disk) × IsBegunOn as_disk choice disk before)
     → Serves begun session status streams streams' → OnErr begun (session ≡ None)
     → IfSome session (λ after. ServedChosenSession as_disk entered status streams streams' after)
 served_as_chosen entered choice (Ok before) (Some after) status streams streams' is found served none =

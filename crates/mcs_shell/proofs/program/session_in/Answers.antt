@@ -1,6 +1,6 @@
 use Rattle.std.proofs.Common.{◌≡◌, ◌⊎◌, Result, Ok, Err, IfOk, IfErr, IsErrAnd, IsSomeAnd, inl, inr}
 use Rattle.mcs_host.specs.Ending.{as_disk}
-use Rattle.mcs_host.specs.FileDisk.{IsOpened}
+use Rattle.mcs_host.specs.FileDisk.{IsUncalled}
 use Rattle.mcs_host.specs.declared.file_disk.FileDisk.{FileDisk}
 use Rattle.mcs_host.specs.declared.file_fault.FileFault.{FileFault}
 use Rattle.mcs_host.specs.declared.arguments.Choice.{Choice}
@@ -12,21 +12,21 @@ use Rattle.mcs_shell.specs.declared.faults.BeginFault.TheVariants as begin_fault
 use Rattle.mcs_shell.proofs.program.session_in.Goals as goal
 
 begun_on : (choice : Choice) (opened : Result FileDisk FileFault) (result : Result (SessionView FileDisk) (Refused FileDisk))
-    → IfOk opened (λ disk. IsOpened (as_disk disk))
+    → IfOk opened (λ disk. IsUncalled (as_disk disk))
     → IfOk opened (λ disk. IfOk result (λ s. IsBegunOn as_disk choice disk s))
     → IfErr opened (λ fault. IsErrAnd result (λ r. r.fault ≡ begin_fault.File fault))
-    → IfOk result (λ s. (disk : FileDisk) × IsOpened (as_disk disk) × IsBegunOn as_disk choice disk s)
+    → IfOk result (λ s. (disk : FileDisk) × IsUncalled (as_disk disk) × IsBegunOn as_disk choice disk s)
 begun_on choice (Ok disk) (Ok s) is begun none = (disk, is, begun)
 begun_on choice (Ok disk) (Err r) is begun none = tt
 begun_on choice (Err fault) (Ok s) is begun none = absurd none
 begun_on choice (Err fault) (Err r) is begun none = tt
 
 refused_on : (choice : Choice) (opened : Result FileDisk FileFault) (result : Result (SessionView FileDisk) (Refused FileDisk))
-    → IfOk opened (λ disk. IsOpened (as_disk disk))
+    → IfOk opened (λ disk. IsUncalled (as_disk disk))
     → IfOk opened (λ disk. IfErr result (λ r. IsSomeAnd r.disk (λ left. IsRefusedBy choice (as_disk disk) (as_disk left) (begin_fault_number r.fault))))
     → IfErr opened (λ fault. IsErrAnd result (λ r. r.fault ≡ begin_fault.File fault))
     → IfErr result (λ r. ((fault : FileFault) × (r.fault ≡ begin_fault.File fault))
-    ⊎ ((disk : FileDisk) × IsOpened (as_disk disk) × IsSomeAnd r.disk (λ left. IsRefusedBy choice (as_disk disk) (as_disk left) (begin_fault_number r.fault))))
+    ⊎ ((disk : FileDisk) × IsUncalled (as_disk disk) × IsSomeAnd r.disk (λ left. IsRefusedBy choice (as_disk disk) (as_disk left) (begin_fault_number r.fault))))
 refused_on choice (Ok disk) (Ok s) is refused none = tt
 refused_on choice (Ok disk) (Err r) is refused none = inr (disk, is, refused)
 refused_on choice (Err fault) (Ok s) is refused none = tt

@@ -9,11 +9,11 @@ abbrev pub writes_of : List DiskCall → ℕ
 writes_of [] = 0
 writes_of (WasRead ∷ calls) = writes_of calls
 writes_of (Wrote at bytes ∷ calls) = writes_of calls + 1
-writes_of (Failed at bytes given ∷ calls) = writes_of calls + 1
+writes_of (Failed at tried seen ∷ calls) = writes_of calls + 1
 writes_of (Synced ∷ calls) = writes_of calls
 
--- no write is noted of the stretch, on an honest disk or another: none was answered Ok, and one
--- that failed has left nothing
+-- no write more is noted, on an honest disk or another: none was answered Ok, and one that failed
+-- has left nothing
 abbrev pub WritesNothing : DiskState → DiskState → Type 0
 WritesNothing old new = writes_of new.calls ≡ writes_of old.calls
 
@@ -22,11 +22,11 @@ pub record AddsNoImage (old new : DiskState) : Type 0 where
   pub later : IsLater old new
   pub unwritten : WritesNothing old new
 
--- more calls: at each moment since the first of them began, an image has P
+-- `new` is later than `old`, and whatever a power cut at some moment since `old` leaves has P
 pub record LeavesOnly (old new : DiskState) (P : List ℕ → Type 0) : Type 0 where
   pub later : IsLater old new
   pub each : (image : List ℕ) → images_since (time_of old) new image → P image
 
--- nothing was done yet, or all of it
+-- an image has P, or it has Q
 abbrev pub Either : (List ℕ → Type 0) → (List ℕ → Type 0) → List ℕ → Type 0
 Either P Q image = P image ⊎ Q image
