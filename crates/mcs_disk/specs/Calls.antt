@@ -4,7 +4,8 @@
 -- opened.)
 use Rattle.std.specs.Prelude.{◌≡◌, ◌⊎◌, ℕ, zero, suc, ◌+◌, ◌≤◌, ◌<◌, List, [], ◌∷◌, length, take, drop, slice_index}
 
--- a call on a disk, with its answer
+-- A call on a disk as it is noted: it answered Ok, or is a write that failed. A failed read or sync
+-- is not noted, nor need a failed write be where it left nothing (`Makes` of CallList).
 pub data DiskCall : Type 0 where
   -- a read that answered Ok; on an honest disk it gave what the disk holds
   WasRead : DiskCall

@@ -32,8 +32,8 @@ images_of disk = images_after disk.start disk.calls
 abbrev pub time_of : DiskState → ℕ
 time_of disk = clock_of disk.calls
 
--- what a power cut now, or at some moment since that time, may leave or have left, during a call or
--- between two
+-- What a power cut now, or at some moment since that time, may leave or have left. (A cut during a
+-- write leaves one of the images after it; one during a read or a sync, of those before it.)
 abbrev pub images_since : ℕ → DiskState → List ℕ → Type 0
 images_since time disk = since_after disk.start disk.calls time
 

@@ -7,8 +7,9 @@ use Rattle.mcs_disk.specs.Disk.{DiskState, bytes_of, images_of, images_since}
 abbrev pub IsDurable : DiskState → Type 0
 IsDurable disk = (image : List ℕ) → images_of disk image → image ≡ bytes_of disk
 
--- A power cut on old, now or at some moment since that time, left new: an honest disk. What a read
--- of it gives is one of the images that old had since then, and it is the only image that new has.
+-- Power was cut on old, now or at some moment since that time, and left new: an honest disk. Calls
+-- of old after the cut are those that would have followed; they were never made. What a read of new
+-- gives is one of the images that old had since then, and it is the only image that new has.
 pub record IsLeftByCut (time : ℕ) (old new : DiskState) : Type 0 where
   pub honest : new.honest
   pub found : images_since time old (bytes_of new)

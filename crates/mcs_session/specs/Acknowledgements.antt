@@ -1,6 +1,7 @@
--- Which commands of a run were acknowledged, and when. A command is acknowledged as the call that
--- records it answers Ok. Its moment is the disk's clock then, and the clock stands there still as
--- its `ok` is written: no call on the disk comes between (`MayTell` of mcs_shell).
+-- When the commands of a run were acknowledged; which they are, say those that cite this. A
+-- command is acknowledged as the call that records it answers Ok. Its moment is the disk's clock
+-- then, and the clock stands there still as its `ok` is written: no call on the disk comes
+-- between (`MayTell` of mcs_shell).
 use Rattle.std.specs.Prelude.{◌≡◌, ◌+◌, ◌≤◌, ℕ, List, [], ◌∷◌, count_by, nat_le}
 use Rattle.mcs_disk.specs.Disk.{DiskState, bytes_of, time_of}
 use Rattle.mcs_model.specs.declared.command.Command.{Command}

@@ -52,7 +52,7 @@ pub record HasMadeRoom (old new : DiskState) (c : Command) (cycles : ℕ) (s : B
   pub holds : LogHolds (bytes_of new) (if has_room_for log c then log else [])
   pub recorded : IsRecorded new cycles s
 
--- a pair stands on an honest disk, and it is all that is there
+-- some snapshot and records stand in the bytes of the disk
 pub record HasContents (disk : DiskState) : Type 0 where
   pub snap : List ℕ
   pub records : List (List ℕ)

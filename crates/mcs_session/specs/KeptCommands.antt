@@ -29,8 +29,8 @@ pub record StandsForPrefix
 -- ---- a run
 
 -- From the state s on the commands `done` were acknowledged. All of `reached`, which are these and
--- then `failed`, may have reached the disk: none more, or the one that the device failed at
--- (`ClosesSession` of mcs_shell).
+-- then `failed`, may have reached the disk. (Which `failed` are, say those that cite this: none in
+-- `KeepsAllCommands`, in `ClosesSession` of mcs_shell the one that the device failed at.)
 pub record KeepsCommands
     (old new : DiskState) (s : BenchState) (done reached : List Command) : Type 0 where
   pub acknowledged : Acknowledgements old new done

@@ -6,7 +6,8 @@ use Rattle.mcs_journal.specs.declared.fault.OpenFault.TheVariants as open_fault
 use Rattle.mcs_model.specs.BenchState.{BenchState}
 use Rattle.mcs_session.specs.StandsFor.{DiskStandsFor, StandsByEither}
 
--- the bytes of the disk stood for this state, and now whatever a power cut leaves stands for it
+-- the bytes of the disk stood for this state, by either version, and now whatever a power cut
+-- leaves stands for it by version 2
 pub record OpensSession (old new : DiskState) (s : BenchState) : Type 0 where
   pub stood : StandsByEither (bytes_of old) s
   pub stands : DiskStandsFor new s

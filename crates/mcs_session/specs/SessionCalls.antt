@@ -35,8 +35,8 @@ pub record FailsMigrating (old new : DiskState) : Type 0 where
   pub stands : StandsForLifted (bytes_of old) state
   pub leaves : LeavesOldOrState old new state
 
--- what a refused `open` did to the disk: nothing, except for a device fault while a file of version
--- 1 was replaced
+-- what a refused `open` did to the disk: reads and syncs alone, except for a device fault while a
+-- file of version 1 was replaced
 abbrev pub RefusalLeaves : OpenFault → DiskState → DiskState → Type 0
 RefusalLeaves open_fault.Device old new = AddsNoImage old new ⊎ FailsMigrating old new
 RefusalLeaves fault old new = AddsNoImage old new

@@ -10,10 +10,10 @@ use Rattle.mcs_shell.specs.Serving.{LeavesSession}
 use Rattle.mcs_shell.specs.Transcript.{acknowledged_commands, answer, is_device_fault, reached_commands}
 use Rattle.mcs_shell.specs.declared.ends.Outcome.{Outcome}
 
--- These bytes are the answer to some input, which the session met as it was `before`; what is there
--- now is what that input left, and no call on the disk came after it. So a command that is answered
--- `ok` is done and recorded, and on an honest disk the clock stands at its moment (`clock` of
--- `KeepsAllCommands`).
+-- These bytes are what is answered to some input with some outcome in a session `before`, which
+-- that leaves as it is now: no call on the disk came after it. So a command that is answered `ok`
+-- is done and recorded, and on an honest disk the clock stands at its moment (`clock` of
+-- `KeepsAllCommands`). That the input was read and met says `RanShell`.
 pub record AnswersJustNow {D : Type 0} (state_of : D → DiskState) (now : SessionView D)
     (bytes : List ℕ) : Type 0 where
   pub before : SessionView D

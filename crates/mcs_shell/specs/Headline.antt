@@ -22,8 +22,8 @@ use Rattle.mcs_shell.specs.Transcript.{ArePossibleSteps, Step, answer, acknowled
 
 -- A run met the first inputs among those that the bytes which it read spell: all of them, unless a
 -- write or the device failed, or the shell had no memory to begin. It wrote the first line of a
--- session and then their answers, each by the state after the commands accepted before it; a failed
--- write and lack of memory alone cut that off at its end.
+-- session and then their answers, each by the state after the commands that were answered `ok`
+-- before it; a failed write and lack of memory alone cut that off at its end.
 pub record AnswersInTurn
     (end : ShellEnd) {reader reader' : KnownBytes} (read : ReadInput reader reader')
     (a b : ShellState) (met : List Step) : Type 0 where

@@ -74,8 +74,8 @@ pub record RanShellGiven
   pub ends : EndsBy end began.whole read.bytes read.ended served.met halted
   pub unwritten : end ≡ NoMemory → b.out ≡ a.out
 
--- a run whose first line is that of the session, under the premise that the session is open and its
--- disk honest
+-- a run whose first line is that of the session; what `kept` says of its disk has the premise that
+-- the session is open and its disk honest
 abbrev pub RanShell : ShellEnd → KnownBytes → KnownBytes → ShellState → ShellState → Type 0
 RanShell end reader reader' a b =
     RanShellGiven IsOpenOnHonestDisk (session_text a.session.state) end reader reader' a b

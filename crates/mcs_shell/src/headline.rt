@@ -12,10 +12,10 @@ ghost use Rattle.mcs_shell.specs.Shell.{ShellRun};
 use mcs_disk::Disk;
 
 /// However a run of the shell ended, on an open session of an honest disk: the answers that it
-/// wrote are those of the inputs that it met, in turn, each by the state after the commands
-/// accepted before it. Wherever power was cut since it began, what is opened then is the bench
-/// after a prefix of the commands that were answered `ok`, and the one that was answered `no 53`,
-/// and the prefix holds each command acknowledged by then.
+/// wrote are those of the inputs that it met, in turn, each by the state after the commands that
+/// were answered `ok` before it. Wherever power was cut since it began, what is opened then is the
+/// bench after a prefix of the commands that were answered `ok`, and the one that was answered `no
+/// 53`, and the prefix holds each command acknowledged by then.
 pub fn a_run_answers_and_survives_power_cuts<D: Disk, E: Disk>()
     ensures { (run : ShellRun D.state) → IsOpenOnHonestDisk (session_state D.state run.before)
         → AnswersAndSurvives D.state E.state run }
