@@ -269,7 +269,7 @@ def check_never(browser):
     browser.reload()
     until_ready(browser)
     comes(browser, "a reload ends it, which is told", STATUS, re.compile("^Stopped at 000: the return from the subroutine was not reached, as "
-                                                                         "the page was loaded anew"))
+                                                                         "the page was loaded again"))
     browser.click("#back-stop")
     # How many cycles passed before the session was kept for the last time depends on the browser.
     comes(browser, "and nothing is lost", STATUS, re.compile("^Back at the stop at 000"))
