@@ -41,7 +41,7 @@ PLACE = """
 const at = document.activeElement;
 const place = at.closest("#session-bar, #clock, #history, #front, #texts, #processor, #listing, #breakpoints, #watched, #memory, #ports, #talk, #notice");
 return place ? place.id : ''"""
-IN_EDITOR = "return document.activeElement.closest('.CodeMirror') !== null"
+IN_EDITOR = "return document.activeElement.closest('.cm-editor') !== null"
 ORDER = ["session-bar", "clock", "history", "front", "texts", "processor", "listing", "breakpoints", "watched", "memory", "ports", "talk"]
 
 
@@ -61,7 +61,7 @@ def check_tab_key(browser):
         stops += 1
     verdict("Tab goes through the panels in their order", seen, ORDER)
     verdict("in few stops", stops < 80, True)
-    browser.script("document.querySelector('#program-editor .CodeMirror').CodeMirror.focus()")
+    browser.script("document.querySelector('#program-editor .cm-editor').lineEditor.focus()")
     before = browser.script(TEXT_OF_EDITOR, "#program-editor")
     browser.keys([ESCAPE, TAB])
     verdict("Escape and then Tab leaves a text", browser.script(IN_EDITOR), False)
@@ -172,8 +172,8 @@ def check_tests(browser):
     look_at(browser, "the tests")
     check_properties(browser)
     show_text(browser, "program")
-    browser.script("document.querySelector('#program-editor .CodeMirror').CodeMirror.scrollIntoView({ line: 480, ch: 0 })")
-    comes(browser, "counts stand beside the source", "return document.querySelectorAll('.lacking .mark-counts').length > 0", True)
+    browser.script("document.querySelector('#program-editor .cm-editor').lineEditor.scrollIntoView({ line: 480, ch: 0 }, 0)")
+    comes(browser, "counts stand beside the source", "return document.querySelectorAll('.at-lacking .mark-counts').length > 0", True)
     look_at(browser, "the source with its counts")
 
 

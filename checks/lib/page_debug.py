@@ -30,10 +30,10 @@ LINES = PROGRAM.split("\n")
 JUN, WMP, INC = (LINES.index(next(line for line in LINES if text in line)) + 1 for text in ("JUN loop", "WMP", "INC R9"))
 
 SHOW_PROGRAM = """
-document.querySelector("#program-editor .CodeMirror").CodeMirror.setValue(arguments[0])"""
+document.querySelector("#program-editor .cm-editor").lineEditor.setValue(arguments[0])"""
 # A line put in before another one, as by a keyboard.
 INSERT = """
-const editor = document.querySelector("#program-editor .CodeMirror").CodeMirror;
+const editor = document.querySelector("#program-editor .cm-editor").lineEditor;
 editor.replaceRange(`        ${arguments[1]}\\n`, { line: arguments[0] - 1, ch: 0 }, undefined, "paste")"""
 LISTED = """
 return [...document.querySelectorAll("#breakpoint-list li")].map((row) =>
@@ -49,7 +49,7 @@ field.dispatchEvent(new Event("change", { bubbles: true }))"""
 CONDITION, FROM, NOTE = range(3)
 # Shift and F9 at a line of the source; and where the caret is then.
 ASK_FOR_WORDS = """
-const editor = document.querySelector("#program-editor .CodeMirror").CodeMirror;
+const editor = document.querySelector("#program-editor .cm-editor").lineEditor;
 editor.setCursor({ line: arguments[0], ch: 0 });
 editor.getInputField().dispatchEvent(new KeyboardEvent("keydown", { key: "F9", keyCode: 120, shiftKey: true, bubbles: true }))"""
 ASKED = "const list = document.activeElement.closest('#breakpoint-list'); return list ? list.id : ''"
@@ -89,7 +89,7 @@ def check_holds(browser):
     verdict("the list has it by name and line", browser.script(LISTED), f"\u25cf 00F (loop + 4, line {WMP + 2})")
     browser.script(INSERT, 1, "")
     comes(browser, "while the source differs from ROM its mark stays", MARGIN, str(WMP + 3))
-    browser.script("document.querySelector('#program-editor .CodeMirror').CodeMirror.undo()")
+    browser.script("document.querySelector('#program-editor .cm-editor').lineEditor.undo()")
     comes(browser, "undone it is where it was", MARGIN, str(WMP + 2))
 
 

@@ -6,16 +6,16 @@ import time
 from page_in_browser import NOTICE, PUT_INTO_EDITOR, STATUS, TEXT_OF_EDITOR, choose_example, open_anew, show_text, stop_time
 from verdicts import comes, verdict
 
-CONTROL, SHIFT, ENTER, ESCAPE, TAB = "\ue009", "\ue008", "\ue007", "\ue00c", "\ue004"
+CONTROL, SHIFT, ALT, ENTER, ESCAPE, TAB = "\ue009", "\ue008", "\ue00a", "\ue007", "\ue00c", "\ue004"
 END, DOWN, F2, F9, F12, BACKSPACE = "\ue010", "\ue015", "\ue032", "\ue039", "\ue03c", "\ue003"
 PROGRAM, BOARD = "#program-editor", "#board-editor"
 # A text that could be sent, of 16,381 bytes without its comments and indentation, and of 36,497 with them.
 LONGEST = "; a line of a comment, with words in it, and then some more of them\n" * 240 + "\tNOP\n" * 4035 + ";\n"
 
-SCROLLED = "return document.querySelector('#program-editor .CodeMirror').CodeMirror.getScrollInfo().top"
-EDITOR = "const editor = document.querySelector(`${arguments[0]} .CodeMirror`).CodeMirror; "
+SCROLLED = "return document.querySelector('#program-editor .cm-editor').lineEditor.getScrollInfo().top"
+EDITOR = "const editor = document.querySelector(`${arguments[0]} .cm-editor`).lineEditor; "
 CARET = f"{EDITOR}const at = editor.getCursor(); return [at.line, at.ch, editor.getSelection()]"
-SET_CARET = f"{EDITOR}editor.setCursor(arguments[1], arguments[2]); editor.focus()"
+SET_CARET = f"{EDITOR}editor.setCursor({{ line: arguments[1], ch: arguments[2] }}); editor.focus()"
 FAULTS = "return [...document.querySelectorAll('{} .faults-told li')].map((each) => each.textContent).join('|')"
 UNDERLINED = "return [...document.querySelectorAll('{} .fault')].map((each) => each.textContent).join(' ')"
 TOLD = "return document.querySelector('{} .told').textContent"
@@ -24,19 +24,21 @@ LISTING = "return document.querySelector('#lines-of-program').textContent"
 INSIDE = "return document.activeElement.closest('.paper') !== null"
 # How far the numbers of the lines that are shown stand from their lines, at the end of a text that is wider than its box.
 NUMBERS = f"""{EDITOR}
-editor.scrollTo(1000, 1e6);
-const rows = [...editor.getWrapperElement().querySelectorAll(".CodeMirror-code > *")].filter((row) => row.querySelector(".CodeMirror-linenumber"));
-const top = (row, part) => row.querySelector(part).getBoundingClientRect().top;
-const apart = rows.map((row) => Math.abs(top(row, ".CodeMirror-linenumber") - top(row, ".CodeMirror-line")));
-const last = rows[rows.length - 1].querySelector(".CodeMirror-linenumber").textContent;
+editor.scrollTo(1e6);
+editor.view.scrollDOM.scrollLeft = 1000;
+const shown = (part) => [...editor.view.dom.querySelectorAll(part)].filter((each) => each.getBoundingClientRect().height > 0);
+const lines = shown(".cm-line").map((line) => line.getBoundingClientRect().top);
+const numbers = shown(".cm-lineNumbers .cm-gutterElement");
+const apart = numbers.map((number) => Math.min(...lines.map((line) => Math.abs(number.getBoundingClientRect().top - line))));
+const last = numbers[numbers.length - 1].textContent;
 return [last, editor.getScrollInfo().width > editor.getScrollInfo().clientWidth, Math.max(...apart) < 2]"""
 # How long a key takes, from the key to the end of all that is done for it, in the median.
 KEY_TIMES = f"""{EDITOR}
-editor.setCursor(arguments[1], 0);
+editor.setCursor({{ line: arguments[1], ch: 0 }});
 const times = [];
 for (let key = 0; key < 100; key++) {{
   const begun = performance.now();
-  editor.replaceSelection(key % 20 === 19 ? "\\n" : "x", "end", "+input");
+  editor.replaceSelection(key % 20 === 19 ? "\\n" : "x", "input.type");
   times.push(performance.now() - begun);
 }}
 editor.undo();
@@ -55,7 +57,7 @@ return times.reduce((all, time) => all + time, 0) / times.length / Math.max(0.1,
 PASTE = """
 const data = new DataTransfer();
 data.setData("text/plain", arguments[1].repeat(arguments[2]));
-const input = document.querySelector(`${arguments[0]} .CodeMirror`).CodeMirror.getInputField();
+const input = document.querySelector(`${arguments[0]} .cm-editor`).lineEditor.getInputField();
 input.focus();
 const paste = new Event("paste", { bubbles: true, cancelable: true });
 Object.defineProperty(paste, "clipboardData", { value: data });
@@ -104,11 +106,11 @@ def check_typing(browser):
     # A key, so that Tab indents.
     browser.keys([DOWN, TAB, "l", "d"], 5, 5)
     browser.chord(CONTROL, " ")
-    comes(browser, "what begins so can be chosen", "return [...document.querySelectorAll('.CodeMirror-hint')]"
+    comes(browser, "what begins so can be chosen", "return [...document.querySelectorAll('.cm-tooltip-autocomplete li')]"
           ".map((each) => each.textContent.slice(0, 3)).join()", "LD ,LDM")
     browser.keys([DOWN, ENTER, " ", "5", ENTER, "J", "U", "N", " ", "l", "o"], 5, 5)
     browser.chord(CONTROL, " ")
-    browser.until("return document.querySelectorAll('.CodeMirror-hint').length", 1)
+    browser.until("return document.querySelectorAll('.cm-tooltip-autocomplete li').length", 1)
     browser.keys([ENTER], 5, 5)
     comes(browser, "Tab indents, and what was chosen is there", TEXT_OF_EDITOR.replace("arguments[0]", f"'{PROGRAM}'"),
           "loop:\tNOP\n\tLDM 5\n\tJUN loop")
@@ -174,8 +176,8 @@ other:  NOP
 def check_folding(browser):
     """Parts fold by the margin and by keys, what is in them stays, and what is to be seen unfolds."""
     put(browser, PROGRAM, FOLDING)
-    browser.until("return document.querySelectorAll('#program-editor .CodeMirror-foldgutter-open').length", 4)
-    browser.click(f"{PROGRAM} .CodeMirror-foldgutter-open")
+    browser.until("return document.querySelectorAll('#program-editor .fold-open').length", 4)
+    browser.click(f"{PROGRAM} .fold-open")
     comes(browser, "a click in the margin folds lines", FOLDED, "\u2026 1 line")
     verdict("and sets no breakpoint", browser.script(f"return document.querySelector('{PROGRAM} .mark-breakpoints') === null"), True)
     browser.script(SET_CARET, PROGRAM, 5, 8)
@@ -185,8 +187,11 @@ def check_folding(browser):
     comes(browser, "the keys fold the part that the caret is in", FOLDED, "\u2026 1 line,\u2026 1 line")
     verdict("the innermost one, whose first line the caret is in", browser.script(CARET, PROGRAM)[:1], [4])
     verdict("the text is what it was", browser.script(TEXT_OF_EDITOR, PROGRAM), FOLDING)
-    browser.script(f"{EDITOR}editor.execCommand('foldAll')", PROGRAM)
-    browser.script(f"{EDITOR}editor.focus(); editor.setCursor(7, 2)", PROGRAM)
+    browser.script(SET_CARET, PROGRAM, 7, 2)
+    keys = [CONTROL, SHIFT, ALT, "["]
+    browser.actions({"type": "key", "id": "keyboard", "actions": [
+        *[{"type": "keyDown", "value": key} for key in keys], *[{"type": "keyUp", "value": key} for key in reversed(keys)]]})
+    browser.script(SET_CARET, PROGRAM, 7, 2)
     comes(browser, "all of it folds", FOLDED, "\u2026 1 line,\u2026 2 lines,\u2026 1 line")
     browser.click(f"{PROGRAM} .send")
     comes(browser, "it is assembled as it is", STATUS, re.compile("^Time runs"))
@@ -204,7 +209,7 @@ def check_numbers(browser):
 
 
 def check_hidden(browser):
-    browser.script(EDITOR + "editor.scrollTo(null, 2500)", "#program-editor")
+    browser.script(EDITOR + "editor.scrollTo(2500)", "#program-editor")
     comes(browser, "the source is scrolled", SCROLLED, 2500)
     for name in ("board", "program"):
         show_text(browser, name)
@@ -301,8 +306,9 @@ def check_board(browser):
     browser.script(SET_CARET, BOARD, 0, 0)
     for text in ("[[rom]]\nchip = 0\nport = \"0000\"", "[[lamp]]\nline = \"rom0.0\""):
         browser.chord(CONTROL, " ")
-        browser.until("return document.querySelectorAll('.CodeMirror-hint').length", 5)
-        browser.script("[...document.querySelectorAll('.CodeMirror-hint')].find((each) => each.textContent.startsWith(arguments[0])).click()",
+        browser.until("return document.querySelectorAll('.cm-tooltip-autocomplete li').length", 5)
+        browser.script("[...document.querySelectorAll('.cm-tooltip-autocomplete li')].find((each) => each.textContent.startsWith(arguments[0]))"
+                       ".dispatchEvent(new MouseEvent('mousedown', { bubbles: true, cancelable: true }))",
                        text.split("\n")[0])
         verdict("an empty line becomes a part", browser.script(TEXT_OF_EDITOR, BOARD).endswith(text), True)
         browser.keys([ENTER])
@@ -310,6 +316,37 @@ def check_board(browser):
     put(browser, BOARD, "[[rom]]\nchip = 0\nport = 0000\n")
     comes(browser, "what is no TOML", FAULTS.format(BOARD), 'line 3: a number has no 0 before it; a text stands in quotes: "0000"')
     show_text(browser, "program")
+
+
+def compose(browser, *words, replacing=None):
+    """A word as the keyboard of a phone puts it in: as a composition that grows, in the place of what stands there where that is told."""
+    place = {"replacementStart": replacing[0], "replacementEnd": replacing[1]} if replacing else {}
+    for word in words:
+        browser.command("Input.imeSetComposition", text=word, selectionStart=len(word), selectionEnd=len(word), **place)
+        # Faults are marked meanwhile.
+        time.sleep(0.4)
+    browser.command("Input.insertText", text=words[-1])
+
+
+def check_phone(browser, page):
+    """By Chromium's driver: words that a phone's keyboard composes and puts right, while faults are marked; typing over lines."""
+    open_anew(browser, page)
+    choose_example(browser, "calculator")
+    show_text(browser, "program")
+    text = TEXT_OF_EDITOR.replace("arguments[0]", f"'{PROGRAM}'")
+    put(browser, PROGRAM, "\tLDM \n\tJUN nowhere\n")
+    browser.script(SET_CARET, PROGRAM, 0, 5)
+    compose(browser, "w", "wo", "wor", "word")
+    comes(browser, "a word that is composed while faults are marked is there", text, "\tLDM word\n\tJUN nowhere\n")
+    comes(browser, "with its fault", FAULTS.format(PROGRAM), re.compile("^line 1: .*word"))
+    put(browser, PROGRAM, "lable:\tNOP\n")
+    browser.script(SET_CARET, PROGRAM, 0, 5)
+    compose(browser, "label", replacing=(0, 5))
+    comes(browser, "a word that the keyboard puts right stands once", text, "label:\tNOP\n")
+    put(browser, PROGRAM, "one:\tNOP\ntwo:\tNOP\n\tNOP\n")
+    browser.script(f"{EDITOR}editor.focus(); editor.setSelection({{ line: 0, ch: 5 }}, {{ line: 1, ch: 8 }})", PROGRAM)
+    browser.command("Input.insertText", text="I")
+    comes(browser, "what is typed over lines takes their place", text, "one:\tI\n\tNOP\n")
 
 
 def check_editor(browser, page, _folder, _mcs4):

@@ -100,7 +100,7 @@ def check_left(browser):
     line = browser.script("return Number(document.querySelector('#never-run button').textContent)")
     browser.click("#never-run button")
     verdict("a line that was never run is shown", browser.script("""
-const editor = document.querySelector('#program-editor .CodeMirror').CodeMirror;
+const editor = document.querySelector('#program-editor .cm-editor').lineEditor;
 return [isShown(editor.getWrapperElement()), editor.getCursor('from').line + 1]"""), [True, line])
     show_text(browser, "properties")
 
@@ -147,7 +147,7 @@ def check_stopped(browser):
     comes(browser, "it stops", BUTTON, "Explore", 5)
     verdict("at once", time.monotonic() - begun < 3, True)
     verdict("and says so", browser.script(TOLD), re.compile("^Stopped. "))
-    browser.script("document.querySelector('#properties-editor .CodeMirror').CodeMirror.focus()")
+    browser.script("document.querySelector('#properties-editor .cm-editor').lineEditor.focus()")
     browser.chord(CONTROL, ENTER)
     comes(browser, "Ctrl and Enter begins it", BUTTON, "Stop")
     comes(browser, "and it looks", FIGURES, re.compile("^[1-9][0-9,]* steps"))

@@ -15,7 +15,7 @@ TITLE = "return document.getElementById('tour-title').textContent"
 ROWS = "return document.querySelectorAll('#help-sections tbody tr').length"
 SHOW_IN_BOARD = "#chosen [aria-label='Show in Board']"
 HIGH = "return [...document.querySelectorAll('#wiring-picture .high')].length"
-SELECTED = "return document.querySelector('#board-editor .CodeMirror').CodeMirror.getSelection()"
+SELECTED = "return document.querySelector('#board-editor .cm-editor').lineEditor.getSelection()"
 
 
 def check_help(browser):

@@ -448,7 +448,7 @@ def check_forced_colours(browser):
 
 PRINTED = """
 return [...document.querySelectorAll("#bench *")].filter((each) => isShown(each) && each.matches("button:not(.fold), select, #log, "
-  + "textarea, .CodeMirror")).length"""
+  + "textarea, .cm-editor")).length"""
 
 
 def check_print(browser):

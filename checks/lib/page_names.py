@@ -26,11 +26,7 @@ const rows = [...document.querySelectorAll("#lines-of-program button[aria-presse
 return [marks.join(), rows.map((row) => row.querySelector("i").textContent).join()]"""
 LABELS = "return [...document.querySelectorAll('#lines-of-program .labels')].map((label) => label.textContent).join('')"
 MARGIN = """
-const lines = [];
-document.querySelector("#program-editor .CodeMirror").CodeMirror.eachLine((line) => {
-  if (line.gutterMarkers && line.gutterMarkers.breakpoints) lines.push(line.lineNo() + 1);
-});
-return lines.join(" ")"""
+return document.querySelector("#program-editor .cm-editor").lineEditor.marksIn("breakpoints").map((line) => line + 1).join(" ")"""
 
 # Steps so many times; after each step the counter, and the source line that is marked and seen, with its number in the margin.
 STEP_THROUGH = """
@@ -41,12 +37,12 @@ const textOf = (line) => {
   return copy.textContent;
 };
 const shown = () => document.querySelector("#log").textContent;
-const marked = () => [...document.querySelectorAll("#program-editor .CodeMirror-code .next")].map((line) => {
+const marked = () => [...document.querySelectorAll("#program-editor .cm-line.next")].map((line) => {
   const seen = line.getBoundingClientRect();
-  const box = document.querySelector("#program-editor .CodeMirror-scroll").getBoundingClientRect();
+  const box = document.querySelector("#program-editor .cm-scroller").getBoundingClientRect();
   const isSeen = seen.top >= box.top - 1 && seen.bottom <= box.bottom + 1;
-  const number = line.querySelector(".CodeMirror-linenumber").textContent;
-  return isSeen ? `${number} ${textOf(line.querySelector(".CodeMirror-line"))}` : "not seen";
+  const number = document.querySelector("#program-editor .cm-lineNumbers .at-next").textContent;
+  return isSeen ? `${number} ${textOf(line)}` : "not seen";
 });
 const frame = () => new Promise((done) => setTimeout(done, 5));
 return (async () => {
@@ -64,9 +60,10 @@ return (async () => {
 
 # The number of a line is brought into view.
 SHOW_MARGIN = """
-const editor = document.querySelector("#program-editor .CodeMirror").CodeMirror;
+const editor = document.querySelector("#program-editor .cm-editor").lineEditor;
 editor.scrollIntoView({ line: arguments[0] - 1, ch: 0 }, 60);
-const numbers = [...document.querySelectorAll("#program-editor .CodeMirror-linenumber")];
+editor.view.measure();
+const numbers = [...document.querySelectorAll("#program-editor .cm-lineNumbers .cm-gutterElement")];
 const node = numbers.find((each) => each.textContent === String(arguments[0]));
 node.scrollIntoView({ block: "center" });
 """
@@ -78,12 +75,13 @@ for (const kind of ["mousedown", "mouseup", "click"]) node.dispatchEvent(new Mou
 
 # Where a word of a line stands on the screen, once that line is in view.
 WORD_PLACE = """
-const editor = document.querySelector("#program-editor .CodeMirror").CodeMirror;
+const editor = document.querySelector("#program-editor .cm-editor").lineEditor;
 const [line, word] = arguments;
 editor.scrollIntoView({ line: line - 1, ch: 0 }, 60);
+editor.view.measure();
 editor.getWrapperElement().scrollIntoView({ block: "center" });
 const at = editor.getLine(line - 1).indexOf(word);
-const { left, top, bottom } = editor.charCoords({ line: line - 1, ch: at + 1 }, "window");
+const { left, top, bottom } = editor.view.coordsAtPos(editor.offset({ line: line - 1, ch: at + 1 }));
 return [left, (top + bottom) / 2]"""
 MEANING = "return document.querySelector('#program-editor .meaning').textContent"
 

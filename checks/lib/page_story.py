@@ -17,7 +17,7 @@ LAMPS = "return [...document.querySelectorAll('.bulb')].map((each) => (each.clas
 KEYS_DOWN = "return [...document.querySelectorAll(\"#keys [aria-pressed='true']\")].map((each) => each.textContent).join(' ')"
 OFFERED = "return document.getElementById('board-offer').checkVisibility()"
 OPEN = "return document.getElementById('sessions').open"
-IN_SOURCE = "e.closest('#program-editor .CodeMirror') !== null"
+IN_SOURCE = "e.closest('#program-editor .cm-editor') !== null"
 REGISTERS = "return document.getElementById('registers').textContent"
 # It shows on the lamps which keys are down; its comment is what a source of the ROM would lack.
 TYPED = ["; my first program", "LDM 3", "WRR", "read: RDR", "WMQ", "JUN read"]

@@ -11,7 +11,7 @@ STRIP = """
 const lines = [...document.querySelectorAll("#paper div")].map((line) => line.textContent);
 return document.getElementById("strip").hidden ? "-" : lines.join(" ")"""
 HEIGHT = "return document.getElementById('strip').offsetHeight"
-BOARD_TEXT = "return document.querySelector('#board-editor .CodeMirror').CodeMirror.getValue()"
+BOARD_TEXT = "return document.querySelector('#board-editor .cm-editor').lineEditor.getValue()"
 FAULTS = "return [...document.querySelectorAll('#face-faults li')].map((each) => each.textContent).join(' ')"
 AT_END = "const paper = document.getElementById('paper'); return paper.scrollHeight - paper.scrollTop - paper.clientHeight < 4"
 BOARD = """# printer rom0.3: ram0.0 a CE b_c

@@ -19,7 +19,7 @@ LABELS = """return [...document.querySelectorAll('#profile-labels tr')]
   .map((row) => [...row.cells].map((cell) => cell.textContent).join(' ').trim())"""
 MARK = "return document.querySelector('#tests-tab .mark').textContent"
 FAULTS = "return [...document.querySelectorAll('#tests-editor .faults-told li')].map((each) => each.textContent)"
-SELECTED = "return document.querySelector('#tests-editor .CodeMirror').CodeMirror.getSelection()"
+SELECTED = "return document.querySelector('#tests-editor .cm-editor').lineEditor.getSelection()"
 
 
 def run_tests(browser):

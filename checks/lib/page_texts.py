@@ -12,8 +12,8 @@ from verdicts import comes, verdict
 
 TOP = pathlib.Path(__file__).resolve().parent.parent.parent
 NAME = "return document.getElementById('name').value"
-TEXTS = "return ['board', 'program'].map((name) => document.querySelector(`#${name}-editor .CodeMirror`).CodeMirror.getValue())"
-PROGRAM_TEXT = "return document.querySelector('#program-editor .CodeMirror').CodeMirror.getValue()"
+TEXTS = "return ['board', 'program'].map((name) => document.querySelector(`#${name}-editor .cm-editor`).lineEditor.getValue())"
+PROGRAM_TEXT = "return document.querySelector('#program-editor .cm-editor').lineEditor.getValue()"
 LINES = "return document.getElementById('lines').value"
 ASKED = "return document.getElementById('ask').open ? document.getElementById('ask-title').textContent : ''"
 KEPT = "return document.querySelectorAll('#kept li').length"

@@ -141,8 +141,8 @@ def check_run_to_source(browser):
     """To the line of the source that the caret is in, by Control and F10; and to a change of a lamp that is named."""
     at_rest(browser, "three lamps")
     browser.script("""
-const editor = document.querySelector("#program-editor .CodeMirror").CodeMirror;
-editor.setCursor(editor.getValue().split("\\n").findIndex((line) => line.startsWith("turn:")), 0);
+const editor = document.querySelector("#program-editor .cm-editor").lineEditor;
+editor.setCursor({ line: editor.getValue().split("\\n").findIndex((line) => line.startsWith("turn:")), ch: 0 });
 editor.getInputField().dispatchEvent(new KeyboardEvent("keydown", { key: "F10", ctrlKey: true, bubbles: true, cancelable: true }))""")
     comes(browser, "Control and F10 in the source run to the label turn", STATUS, re.compile("^Stopped at 016, as wanted, after 11 cycles, "))
     lines_answered(browser, "reset")

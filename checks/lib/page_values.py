@@ -29,9 +29,9 @@ sum:    RDM
 LINES = PROGRAM.split("\n")
 TIP = "const tip = document.querySelector('.value-tip:not(#change-tip)'); return tip.hidden ? '' : tip.textContent"
 CARET = """
-const editor = document.querySelector("#program-editor .CodeMirror").CodeMirror;
+const editor = document.querySelector("#program-editor .cm-editor").lineEditor;
 editor.focus();
-editor.setCursor(arguments[0] - 1, editor.getLine(arguments[0] - 1).indexOf(arguments[1]))"""
+editor.setCursor({ line: arguments[0] - 1, ch: editor.getLine(arguments[0] - 1).indexOf(arguments[1]) })"""
 NEXT = "return document.querySelector('#program-editor .next').textContent"
 # What comes next after each step from ADD on, by hand.
 STEPS = ("BBL", "JUN turn", "turn:", "SRC", "LDM", "WRM", "INC", "JMS", "JUN turn")

@@ -13,7 +13,7 @@ import * as say from "../words/debug.js";
  *   Breakpoint
  * @typedef {Omit<Breakpoint, "id" | "hits">} KeptBreakpoint as a session and a project keep it
  *
- * An edit of the text: of its lines (from 0) those from one to another one were replaced by so many; as CodeMirror tells it.
+ * An edit of the text: of its lines (from 0) those from one to another one were replaced by so many.
  * @typedef {{ from: { line: number, ch: number }, to: { line: number, ch: number }, text: string[], removed?: string[],
  *   origin?: string }} Edit
  */

@@ -4,7 +4,6 @@ import { countOfFaults } from "../bench/words.js";
 import { button, field, onClick } from "../ui/dom.js";
 import { BesideText } from "../text/beside_text.js";
 import { completeProperty, firstProperties, helpForProperty, propertyForms } from "../text/property_words.js";
-import { definePropertiesMode } from "../text/test_mode.js";
 import { wordsOfFaults } from "../words/results.js";
 import { ExploreView } from "./explore_view.js";
 import { markOfReport, wordsOfEnd, wordsSoFar } from "../words/explored.js";
@@ -44,7 +43,6 @@ export class ExploreTab {
    */
   constructor(manual, calls) {
     this.calls = calls;
-    definePropertiesMode();
     this.beside = new BesideText({
       name: "properties",
       firstButton: "first-properties",

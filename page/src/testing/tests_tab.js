@@ -4,7 +4,6 @@ import { Cancelled } from "../bench/faults.js";
 import { countOfFaults } from "../bench/words.js";
 import { button, onClick } from "../ui/dom.js";
 import { BesideText } from "../text/beside_text.js";
-import { defineTestMode } from "../text/test_mode.js";
 import { completeTest, helpForTest, testForms } from "../text/test_words.js";
 import { markOfOutcomes, wordsOfFaults, wordsOfOutcomes } from "../words/results.js";
 import { TestsView } from "./tests_view.js";
@@ -33,7 +32,6 @@ export class TestsTab {
    */
   constructor(manual, calls) {
     this.calls = calls;
-    defineTestMode();
     this.beside = new BesideText({
       name: "tests",
       firstButton: "first-test",

@@ -6,6 +6,7 @@ import { button, onClick } from "../ui/dom.js";
 import { EditorView } from "./editor_view.js";
 import { PARTS } from "./folding.js";
 import { LiveFaults } from "./live_faults.js";
+import { COLOURS } from "./test_colours.js";
 
 /**
  * @typedef {import("../testing/prepared.js").TextFault} TextFault
@@ -20,7 +21,7 @@ import { LiveFaults } from "./live_faults.js";
  */
 
 /**
- * What kind of text it is: its name, which its editor and its mode have too; the button that gives a text to begin with, and that text;
+ * What kind of text it is: its name, which its editor has too; the button that gives a text to begin with, and that text;
  * the forms that its lines have; what a word of it means, and what it can become.
  * @template Forms
  * @typedef {{ name: "tests" | "properties", firstButton: string, firstText: (names: Names) => string, forms: Forms,
@@ -43,8 +44,8 @@ export class BesideText {
     this.own = own;
     this.editor = new EditorView(`${kind.name}-editor`, {
       mark: "#",
-      mode: kind.name,
-      gutters: ["CodeMirror-linenumbers"],
+      colours: COLOURS[kind.name],
+      gutters: ["numbers"],
       folds: PARTS.tests,
       isUnsent: true,
       wordsAt: (lines, line, at) => kind.wordsAt(lines, line, at, kind.forms),

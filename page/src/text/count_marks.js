@@ -3,8 +3,7 @@
 import * as say from "../words/text.js";
 
 /**
- * @typedef {import("codemirror").Editor} Editor
- * @typedef {import("codemirror").LineHandle} LineHandle
+ * @typedef {import("./line_editor.js").LineEditor} LineEditor
  * @typedef {import("../testing/coverage.js").Covered} Covered
  */
 
@@ -33,16 +32,14 @@ export function wordsOfCount({ count, isJump, taken }) {
 
 export class CountMarks {
   /**
-   * @param {Editor} editor
+   * @param {LineEditor} editor
    * @param {import("./line_marks.js").LineMarks} marks
    */
   constructor(editor, marks) {
     this.editor = editor;
     this.marks = marks;
-    /** @type {LineHandle[]} the lines that were never run, or whose jump went one way alone */
-    this.lacking = [];
     this.isShown = false;
-    editor.on("changes", () => this.clear());
+    editor.onEdit(() => this.clear());
   }
 
   /** @param {Covered[]} covered lines */
@@ -51,15 +48,13 @@ export class CountMarks {
     const lines = new Map(covered.map((each) => [each.line, each]));
     const { editor } = this;
     this.isShown = true;
-    editor.operation(() => {
-      const longest = Math.max(...covered.map((each) => textOfCount(each).length), 1);
-      editor.getWrapperElement().classList.add("counted");
-      editor.getWrapperElement().style.setProperty("--counts-width", `${longest + 1}ch`);
-      this.marks.showAt("counts", (line) => textAt(lines.get(line), textOfCount), (line) => textAt(lines.get(line), wordsOfCount));
-      const lacking = covered.filter(({ count, isJump, taken }) => count === 0 || (isJump && (taken === 0 || taken === count)));
-      this.lacking = lacking.map(({ line }) => editor.getLineHandle(line - 1)).filter(Boolean);
-      for (const handle of this.lacking) editor.addLineClass(handle, "gutter", "lacking");
-    });
+    const longest = Math.max(...covered.map((each) => textOfCount(each).length), 1);
+    editor.place.classList.add("counted");
+    editor.place.style.setProperty("--counts-width", `${longest + 1}ch`);
+    this.marks.showAt("counts", (line) => textAt(lines.get(line), textOfCount), (line) => textAt(lines.get(line), wordsOfCount));
+    // The lines that were never run, or whose jump went one way alone.
+    const lacking = covered.filter(({ count, isJump, taken }) => count === 0 || (isJump && (taken === 0 || taken === count)));
+    editor.showLook("lacking", lacking.map(({ line }) => line - 1).filter((line) => line <= editor.lastLine()));
     editor.refresh();
   }
 
@@ -67,12 +62,9 @@ export class CountMarks {
     if (!this.isShown) return;
     const { editor } = this;
     this.isShown = false;
-    editor.operation(() => {
-      editor.getWrapperElement().classList.remove("counted");
-      this.marks.showAt("counts", () => "");
-      for (const handle of this.lacking) editor.removeLineClass(handle, "gutter", "lacking");
-    });
-    this.lacking = [];
+    editor.place.classList.remove("counted");
+    this.marks.showAt("counts", () => "");
+    editor.showLook("lacking", []);
     editor.refresh();
   }
 }

@@ -18,17 +18,19 @@ import * as say from "../words/text.js";
  * @typedef {import("./completion.js").Completion} Completion
  * @typedef {import("../debug/value_words.js").Piece} Piece
  * @typedef {import("./text_fault.js").Fault} Fault
- * @typedef {import("codemirror").Position} Position
+ * @typedef {import("./line_editor.js").Position} Position
+ * @typedef {import("../debug/breakpoints.js").Edit} Edit
  *
  * What an editor calls: its text was edited; it is sent; a breakpoint is wanted at a line, or is not wanted any more.
- * @typedef {import("./text_editor.js").Edit} Edit
  * @typedef {{ edited: (edits: Edit[]) => void, send: () => void, toggleBreakpoint: (line: number) => void,
  *   editBreakpoint?: (line: number) => void }} EditorCalls
  *
- * What kind of text it is: what its comments begin with, its mode, its gutters, what folds in it; whether a word (in upper case) is an
+ * What kind of text it is: what its comments begin with, its colours, its gutters, the blanks that a new line begins with, where it is not
+ * those of the line before, what folds in it; whether a word (in upper case) is an
  * instruction, where the text has names; whether it is never sent, and so measured as it stands; what is said of a word, by its line
  * (from 0) and its place in that, what it stands for now, and how one of these values can be edited; and what a word can become.
- * @typedef {{ mark: import("./text_fault.js").CommentMark, mode: string, gutters: string[],
+ * @typedef {{ mark: import("./text_fault.js").CommentMark, colours: import("./line_colours.js").Colours, gutters: string[],
+ *   indent?: string,
  *   folds?: import("./folding.js").Parts, isInstruction?: (word: string) => boolean,
  *   isUnsent?: boolean,
  *   wordsAt: (lines: string[], line: number, at: number) => string,
@@ -57,8 +59,8 @@ export class EditorView {
     paper.append(place, list, element("div", { className: "strip" }, this.meaning.node, this.counter.node));
     this.told = new Cell(below(root, ".told", HTMLElement));
     const label = below(root, "h2", HTMLElement).textContent || "";
-    const { mode, gutters, folds, isInstruction = () => false } = language;
-    this.editor = new TextEditor({ place, label, mode, gutters, folds, keys: this.keys(), calls: this.textCalls() });
+    const { colours, gutters, indent, folds, isInstruction = () => false } = language;
+    this.editor = new TextEditor({ place, label, colours, gutters, indent, folds, keys: this.keys(), calls: this.textCalls() });
     const { editor } = this.editor;
     this.marks = new LineMarks(editor);
     this.counts = new CountMarks(editor, this.marks);
@@ -70,7 +72,7 @@ export class EditorView {
     this.resting = 0;
     this.counting = 0;
     this.listenToPointer(editor.getWrapperElement());
-    editor.on("scroll", () => this.meaning.hideTip());
+    editor.onScroll(() => this.meaning.hideTip());
     onClick(below(root, ".send", HTMLButtonElement), () => calls.send());
   }
 
@@ -86,7 +88,7 @@ export class EditorView {
       ...withControl("/", () => this.editor.comment(this.language.mark)),
       ...(this.language.isInstruction ? this.keysOfNames() : {}),
       ...(this.language.folds ? keysOfFolding(this.language.folds) : {}),
-      "Ctrl-Space": () => this.complete(),
+      "Ctrl-Space": () => this.editor.editor.complete(),
       "F9": (editor) => this.calls.toggleBreakpoint(editor.getCursor().line + 1),
       "Shift-F9": (editor) => this.askedFor(editor.getCursor().line + 1),
     };
@@ -106,6 +108,7 @@ export class EditorView {
       askedGutter: (line, event) => this.askedFor(line, event),
       clickedName: () => this.language.isInstruction && this.names.define(),
       refused: (size) => this.told.set(say.notPutIn(size.toLocaleString("en"), LONGEST_KEPT.toLocaleString("en"))),
+      complete: ({ line, ch }) => this.language.complete(this.lines, line, ch),
     };
   }
 
@@ -140,7 +143,7 @@ export class EditorView {
    * @param {number} top
    */
   pointedAt(left, top) {
-    const place = this.editor.editor.coordsChar({ left, top }, "window");
+    const place = this.editor.editor.placeAt({ left, top });
     const words = this.wordsAt(place);
     const values = this.valuesAt(place);
     if (words || values.length > 0) this.meaning.set(values, words);
@@ -176,22 +179,6 @@ export class EditorView {
   moved() {
     clearTimeout(this.resting);
     this.resting = window.setTimeout(() => this.tellCaret(), REST_TIME);
-  }
-
-  complete() {
-    const { language } = this;
-    this.editor.editor.showHint({
-      completeSingle: false,
-      hint: () => {
-        const { line, ch } = this.editor.editor.getCursor();
-        const { from, to, list } = language.complete(this.lines, line, ch);
-        const shown = list.map(({ text, what }) => {
-          const [first] = text.split("\n");
-          return { text, displayText: `${first}${what && !what.startsWith(" ") ? "   " : ""}${what}` };
-        });
-        return { from: { line, ch: from }, to: { line, ch: to }, list: shown };
-      },
-    });
   }
 
   get text() {

@@ -4,7 +4,8 @@ import { readBoard, refusalOf } from "../bench/answers.js";
 import { counted } from "../bench/numbers.js";
 import { AllFaultsOfTexts, faultsOfFace, refusalOfText } from "./all_faults.js";
 import { programTexts, wordsOfAssembled } from "./assembling.js";
-import { defineAssemblyMode } from "./assembly_mode.js";
+import { assemblyColours } from "./assembly_colours.js";
+import { boardColours } from "./board_colours.js";
 import { completeBoard } from "./board_completion.js";
 import { completeProgram } from "./completion.js";
 import { block, button, onClick } from "../ui/dom.js";
@@ -53,7 +54,6 @@ export class Editors {
     this.calls = calls;
     this.instructions = instructionsOf(manual);
     this.tables = boardTables(manual);
-    defineAssemblyMode(new Set(this.instructions.keys()));
     this.program = this.makeProgram();
     this.board = this.makeBoard();
     const all = this.allFaults(words);
@@ -78,8 +78,10 @@ export class Editors {
   makeProgram() {
     return new EditorView("program-editor", {
       mark: ";",
-      mode: "assembly",
-      gutters: ["breakpoints", "CodeMirror-linenumbers", "addresses", "counts"],
+      colours: assemblyColours(new Set(this.instructions.keys())),
+      gutters: ["breakpoints", "numbers", "addresses", "counts"],
+      // A line begins as a statement does.
+      indent: "\t",
       folds: PARTS.program,
       isInstruction: (word) => this.instructions.has(word),
       wordsAt: (lines, line, at) => helpForProgram(lines, line, at, this.instructions, this.calls.meaningOf),
@@ -100,8 +102,8 @@ export class Editors {
   makeBoard() {
     return new EditorView("board-editor", {
       mark: "#",
-      mode: "toml",
-      gutters: ["CodeMirror-linenumbers"],
+      colours: boardColours,
+      gutters: ["numbers"],
       folds: PARTS.board,
       wordsAt: (lines, line, at) => helpForBoard(lines, line, at, this.tables),
       complete: (lines, line, at) => completeBoard(lines, line, at, this.tables),

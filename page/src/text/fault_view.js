@@ -1,17 +1,17 @@
 // The faults of a text: each one in the margin of its line, its word underlined, and all of them in a list below the text.
 
 import { element, onClick } from "../ui/dom.js";
+import { underlined } from "./line_layers.js";
 
 /**
- * @typedef {import("codemirror").Editor} Editor
- * @typedef {import("codemirror").TextMarker} TextMarker
+ * @typedef {import("./line_editor.js").LineEditor} LineEditor
  * @typedef {import("./line_marks.js").LineMarks} LineMarks
  * @typedef {import("./text_fault.js").Fault} Fault
  */
 
 export class FaultView {
   /**
-   * @param {Editor} editor
+   * @param {LineEditor} editor
    * @param {LineMarks} marks
    * @param {HTMLElement} list
    * @param {(fault: Fault) => void} goTo a user wants to go to a fault
@@ -23,8 +23,6 @@ export class FaultView {
     this.goTo = goTo;
     /** @type {Fault[]} */
     this.faults = [];
-    /** @type {TextMarker[]} */
-    this.underlined = [];
     list.hidden = true;
   }
 
@@ -38,26 +36,23 @@ export class FaultView {
     /** @type {Map<number, string>} */
     const words = new Map();
     for (const fault of faults) words.set(fault.line, [words.get(fault.line), fault.words].filter(Boolean).join("; "));
-    this.editor.operation(() => {
-      this.marks.showAt("faults", (line) => (words.has(line) ? "!" : ""), (line) => words.get(line) || "");
-      for (const marker of this.underlined) marker.clear();
-      this.underlined = faults.map((fault) => this.underline(fault));
-    });
+    this.marks.showAt("faults", (line) => (words.has(line) ? "!" : ""), (line) => words.get(line) || "");
+    this.editor.showFaults(faults.flatMap((fault) => this.underline(fault)));
     this.list.replaceChildren(...faults.map((fault) => this.entry(fault)), ...(more ? [element("li", {}, more)] : []));
     this.list.hidden = faults.length === 0;
   }
 
   /**
+   * What is underlined of a fault; nothing in an empty line.
    * @param {Fault} fault
-   * @returns {TextMarker}
    */
   underline({ line, from, to, words }) {
     const length = (this.editor.getLine(line - 1) || "").length;
     // A word that is missing has no place of its own: the character before it has.
     const start = to > from ? from : Math.max(0, Math.min(from, length) - 1);
     const end = Math.max(to, start + 1);
-    const look = { className: "fault", attributes: { title: words } };
-    return this.editor.markText({ line: line - 1, ch: start }, { line: line - 1, ch: end }, look);
+    const [place, behind] = [start, end].map((ch) => this.editor.offset({ line: line - 1, ch }));
+    return place < behind ? [underlined("fault", words).range(place, behind)] : [];
   }
 
   /** @param {Fault} fault */
@@ -69,7 +64,7 @@ export class FaultView {
 
   /**
    * What is wrong at a place of the text; "" where nothing is.
-   * @param {import("codemirror").Position} place
+   * @param {import("./line_editor.js").Position} place
    */
   wordsAt({ line, ch }) {
     const found = this.faults.find((fault) => fault.line === line + 1 && ch >= fault.from && ch <= Math.max(fault.to, fault.from + 1));

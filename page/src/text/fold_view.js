@@ -2,51 +2,53 @@
 
 import { counted } from "../bench/numbers.js";
 import { element } from "../ui/dom.js";
+import { codeFolding, foldAll, foldCode, foldGutter, foldService, foldedRanges, unfoldAll, unfoldEffect } from "@codemirror/language";
 import { headOf, lastFolded } from "./folding.js";
 import * as say from "../words/text.js";
 
 /**
- * @typedef {import("codemirror").Editor} Editor
- * @typedef {import("codemirror").KeyMap} KeyMap
- * @typedef {import("codemirror/addon/fold/foldcode")} FoldTypes the types of what is used here beside the editor itself
- * @typedef {import("codemirror/addon/fold/foldgutter")} GutterTypes
+ * @typedef {import("./line_editor.js").LineEditor} LineEditor
+ * @typedef {import("./line_editor.js").KeyMap} KeyMap
  * @typedef {import("./folding.js").Parts} Parts
  */
 
-export const FOLD_GUTTER = "CodeMirror-foldgutter";
-
 /**
- * The lines of an editor, as folding.js wants them.
- * @param {Editor} editor
+ * The lines of a text, as folding.js wants them.
+ * @param {import("@codemirror/state").Text} doc
  * @returns {import("./folding.js").LineAt}
  */
-function linesOf(editor) {
-  return (line) => (line <= editor.lastLine() ? editor.getLine(line) : undefined);
+function linesOf(doc) {
+  return (line) => (line < doc.lines ? doc.line(line + 1).text : undefined);
 }
 
 /**
  * What stands in the place of lines that are folded away.
  * @param {number} count
+ * @param {(event: Event) => void} unfoldIt
  */
-function makeWidget(count) {
-  return element("span", { className: "folded-lines", title: say.UNFOLDS }, `… ${counted(count, "line")}`);
+function makeWidget(count, unfoldIt) {
+  const node = element("span", { className: "folded-lines", title: say.UNFOLDS }, `… ${counted(count, "line")}`);
+  node.addEventListener("click", unfoldIt);
+  return node;
 }
 
 /**
  * Lets parts of an editor's text fold.
- * @param {Editor} editor
  * @param {Parts} parts
  */
-export function offerFolding(editor, parts) {
-  editor.setOption("foldOptions", {
-    rangeFinder: (some, { line }) => {
-      const last = lastFolded(linesOf(some), line, parts);
-      if (last === line) return undefined;
-      return { from: { line, ch: some.getLine(line).length }, to: { line: last, ch: some.getLine(last).length } };
-    },
-    widget: (from, to) => makeWidget(to.line - from.line),
-  });
-  editor.setOption("foldGutter", true);
+export function folding(parts) {
+  return [
+    foldService.of(({ doc }, from) => {
+      const { number, to } = doc.lineAt(from);
+      const last = lastFolded(linesOf(doc), number - 1, parts) + 1;
+      return last === number ? null : { from: to, to: doc.line(last).to };
+    }),
+    codeFolding({
+      preparePlaceholder: ({ doc }, { from, to }) => doc.lineAt(to).number - doc.lineAt(from).number,
+      placeholderDOM: (_, unfoldIt, count) => makeWidget(count, unfoldIt),
+    }),
+    foldGutter({ markerDOM: (isOpen) => element("span", { className: isOpen ? "fold-open" : "fold-closed" }) }),
+  ];
 }
 
 /**
@@ -56,30 +58,36 @@ export function offerFolding(editor, parts) {
 export function keysOfFolding(parts) {
   return {
     "Shift-Ctrl-[": (editor) => {
-      const head = headOf(linesOf(editor), editor.getCursor().line, parts);
+      const head = headOf(linesOf(editor.doc), editor.getCursor().line, parts);
       if (head < 0) return;
-      editor.setCursor({ line: head, ch: editor.getLine(head).length });
-      editor.foldCode(head, undefined, "fold");
+      editor.setCursor({ line: head, ch: Infinity });
+      foldCode(editor.view);
     },
     "Shift-Ctrl-]": (editor) => unfold(editor, editor.getCursor().line),
-    "Shift-Ctrl-Alt-[": (editor) => {
-      editor.setCursor({ line: editor.getCursor().line, ch: 0 });
-      editor.execCommand("foldAll");
-    },
-    "Shift-Ctrl-Alt-]": (editor) => editor.execCommand("unfoldAll"),
+    "Shift-Ctrl-Alt-[": (editor) => foldAllOf(editor),
+    "Shift-Ctrl-Alt-]": (editor) => void unfoldAll(editor.view),
   };
 }
 
 /**
+ * All parts fold; the caret is at the begin of its line then.
+ * @param {LineEditor} editor
+ */
+function foldAllOf(editor) {
+  editor.setCursor({ line: editor.getCursor().line, ch: 0 });
+  foldAll(editor.view);
+}
+
+/**
  * A line is to be seen.
- * @param {Editor} editor
+ * @param {LineEditor} editor
  * @param {number} line from 0
  */
-export function unfold(editor, line) {
-  const text = editor.getLine(line);
-  if (text === undefined) return;
-  for (const ch of [0, text.length]) {
-    if (!editor.isFolded({ line, ch })) continue;
-    for (const mark of editor.findMarksAt({ line, ch })) if (mark.replacedWith) mark.clear();
-  }
+export function unfold({ view, doc }, line) {
+  if (line < 0 || line >= doc.lines) return;
+  const place = doc.line(line + 1);
+  /** @type {import("@codemirror/state").StateEffect<any>[]} */
+  const effects = [];
+  foldedRanges(view.state).between(place.from, place.to, (from, to) => void effects.push(unfoldEffect.of({ from, to })));
+  if (effects.length > 0) view.dispatch({ effects });
 }

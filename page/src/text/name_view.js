@@ -1,7 +1,6 @@
 // Names in a text: to where one is defined, all places of it, another name in all of them; and a line by its number.
 
 import { counted } from "../bench/numbers.js";
-import CodeMirror from "codemirror";
 import { element, onClick } from "../ui/dom.js";
 import { FieldBar } from "./field_bar.js";
 import { definitionOf, faultOfRenaming, nameAt, referencesOf } from "./references.js";
@@ -45,8 +44,8 @@ export class NameView {
   show({ line, from, to }) {
     const { editor } = this.text;
     this.text.goTo({ line: line - 1, ch: from });
-    editor.setSelection(CodeMirror.Pos(line - 1, from), CodeMirror.Pos(line - 1, to));
-    editor.scrollIntoView({ from: CodeMirror.Pos(line - 1, from), to: CodeMirror.Pos(line - 1, to) }, 60);
+    editor.setSelection({ line: line - 1, ch: from }, { line: line - 1, ch: to });
+    editor.scrollIntoView({ line: line - 1, ch: to }, 60);
   }
 
   /** To where the name at the caret is defined. */
@@ -100,11 +99,8 @@ export class NameView {
     const fault = faultOfRenaming(lines, name, wanted, calls.isInstruction);
     if (fault) return fault;
     const places = referencesOf(lines, name);
-    text.editor.operation(() => {
-      for (const { line, from, to } of [...places].reverse()) {
-        text.editor.replaceRange(wanted, CodeMirror.Pos(line - 1, from), CodeMirror.Pos(line - 1, to), "rename");
-      }
-    });
+    text.edit([...places].reverse().map(({ line, from, to }) => (
+      { from: text.editor.offset({ line: line - 1, ch: from }), to: text.editor.offset({ line: line - 1, ch: to }), insert: wanted })));
     calls.tell(say.renamed(name, wanted, counted(places.length, "place")));
     return "";
   }

@@ -1,17 +1,19 @@
 // The search in a text: a bar above it, the next and the one before, and how many there are; and another word in their place.
 
-import CodeMirror from "codemirror";
 import { Cell, element, onClick } from "../ui/dom.js";
 import * as say from "../words/text.js";
 
-/** @typedef {import("codemirror").Editor} Editor */
+/**
+ * @typedef {import("./line_editor.js").LineEditor} LineEditor
+ * @typedef {{ from: number, to: number }} Place in the text
+ */
 
 /** More than so many are not counted. */
 const MOST_COUNTED = 1000;
 
 export class SearchBar {
   /**
-   * @param {Editor} editor
+   * @param {LineEditor} editor
    * @param {HTMLElement} place takes the bar, before all else
    * @param {string} label of the text
    */
@@ -37,7 +39,7 @@ export class SearchBar {
     onClick(before, () => this.find(true));
     onClick(next, () => this.find(false));
     onClick(close, () => this.close());
-    this.field.addEventListener("input", () => this.find(false, this.editor.getCursor("from")));
+    this.field.addEventListener("input", () => this.find(false, this.editor.selected.from));
     this.field.addEventListener("keydown", (event) => this.typed(event, (isBack) => this.find(isBack)));
   }
 
@@ -76,7 +78,7 @@ export class SearchBar {
     const { editor } = this;
     const wanted = this.field.value;
     const isChosen = wanted !== "" && editor.getSelection().toLowerCase() === wanted.toLowerCase();
-    if (isChosen) editor.replaceSelection(this.other.value, "end");
+    if (isChosen) editor.replaceSelection(this.other.value);
     this.find(false);
   }
 
@@ -84,55 +86,39 @@ export class SearchBar {
   replaceAll() {
     const wanted = this.field.value;
     if (wanted === "") return;
-    const cursor = this.cursorAt(wanted, CodeMirror.Pos(this.editor.firstLine(), 0));
-    let count = 0;
-    this.editor.operation(() => {
-      while (cursor.findNext()) {
-        cursor.replace(this.other.value, "replace");
-        count += 1;
-      }
-    });
+    const places = this.placesOf(wanted);
+    const count = places.length;
+    if (count > 0) this.editor.edit([...places].reverse().map((place) => ({ ...place, insert: this.other.value })));
     this.told.set(count === 0 ? say.NOT_FOUND : say.replaced(count.toLocaleString("en")));
   }
 
   /**
    * Selects the next place, whatever its case, or the one before; after the last one comes the first one.
    * @param {boolean} isBack
-   * @param {import("codemirror").Position} from
+   * @param {number} from
    */
-  find(isBack, from = this.editor.getCursor(isBack ? "from" : "to")) {
+  find(isBack, from = this.editor.selected[isBack ? "from" : "to"]) {
     const wanted = this.field.value;
     if (wanted === "") {
       this.told.set("");
       return;
     }
     const { editor } = this;
-    const edge = isBack ? CodeMirror.Pos(editor.lastLine()) : CodeMirror.Pos(editor.firstLine(), 0);
-    const found = [from, edge].map((place) => this.cursorAt(wanted, place)).find((cursor) => cursor.find(isBack));
-    this.told.set(found ? this.count(wanted) : say.NOT_FOUND);
+    const places = this.placesOf(wanted);
+    const before = places.filter((place) => place.to <= from).pop();
+    const found = (isBack ? before : places.find((place) => place.from >= from)) || places[isBack ? places.length - 1 : 0];
+    this.told.set(found ? say.foundOf(places.indexOf(found) + 1, Math.min(MOST_COUNTED, places.length)) : say.NOT_FOUND);
     if (!found) return;
-    editor.setSelection(found.from(), found.to());
-    editor.scrollIntoView({ from: found.from(), to: found.to() }, 60);
+    editor.setSelection(editor.position(found.from), editor.position(found.to));
+    editor.scrollIntoView(editor.position(found.to), 60);
   }
 
   /**
+   * All places of a text, whatever its case, none of which meets another one.
    * @param {string} wanted
-   * @param {import("codemirror").Position} place
    */
-  cursorAt(wanted, place) {
-    return this.editor.getSearchCursor(wanted, place, true);
-  }
-
-  /** @param {string} wanted */
-  count(wanted) {
-    const cursor = this.cursorAt(wanted, CodeMirror.Pos(0, 0));
-    const here = this.editor.getCursor("from");
-    let count = 0;
-    let at = 0;
-    while (count < MOST_COUNTED && cursor.findNext()) {
-      count += 1;
-      if (CodeMirror.cmpPos(cursor.from(), here) <= 0) at = count;
-    }
-    return say.foundOf(Math.max(1, at), count);
+  placesOf(wanted) {
+    const pattern = new RegExp(wanted.replace(/[.*+?^${}()|[\]\\]/g, "\\$&"), "giu");
+    return [...this.editor.getValue().matchAll(pattern)].map(({ 0: text, index = 0 }) => ({ from: index, to: index + text.length }));
   }
 }

@@ -1,154 +1,144 @@
-// An editor of a text: CodeMirror with what the page's two texts have in common. A text that is opened has a document of its own, with its
-// own undo history; the documents of the sessions are kept as long as the page lives.
+// An editor of a text, with what the page's texts have in common. A text that is opened has a state of its own, with its own undo history;
+// the states of the sessions are kept as long as the page lives.
 
-import CodeMirror from "codemirror";
+import { EditorView } from "@codemirror/view";
 import { upTo } from "../bench/numbers.js";
-import { FOLD_GUTTER, offerFolding, unfold } from "./fold_view.js";
+import { folding, unfold } from "./fold_view.js";
+import { LineEditor } from "./line_editor.js";
 import { LONGEST_KEPT, commented } from "./text_fault.js";
 import * as say from "../words/text.js";
 
 /**
- * @typedef {import("codemirror").Editor} Editor
- * @typedef {import("codemirror").Doc} Doc
- * @typedef {import("codemirror").KeyMap} KeyMap
- * @typedef {import("codemirror").Position} Position
- * @typedef {import("codemirror/addon/hint/show-hint")} HintTypes the types of what the page uses beside the editor itself
- * @typedef {import("codemirror/addon/search/searchcursor")} SearchTypes
- * @typedef {import("codemirror").EditorChangeCancellable} Change
+ * @typedef {import("./line_editor.js").KeyMap} KeyMap
+ * @typedef {import("./line_editor.js").Position} Position
  * @typedef {import("../debug/breakpoints.js").Edit} Edit
  *
  * What it calls: the text was edited; the caret was moved; a gutter was clicked at a line, or by the second button; a place was clicked
- * with Control, and the caret is there; a text was not taken, since it is too long.
+ * with Control, and the caret is there; a text was not taken, since it is too long; what the word at a place can become.
  * @typedef {{ edited: (edits: Edit[]) => void, moved: () => void, clickedGutter: (line: number) => void,
  *   askedGutter: (line: number, event: Event) => void, clickedName: () => void,
- *   refused: (size: number) => void }} TextCalls
+ *   refused: (size: number) => void, complete: (place: Position) => import("./completion.js").Completion }} TextCalls
  *
- * What an editor is made of: its place, its name for those who do not see it, the mode of its text, the gutters beside the faults, what
- * folds in it, and its own keys.
- * @typedef {{ place: HTMLElement, label: string, mode: string, gutters: string[], folds?: import("./folding.js").Parts, keys: KeyMap,
- *   calls: TextCalls }} TextParts
+ * What an editor is made of: its place, its name for those who do not see it, the colours of its lines, the gutters beside the faults, the
+ * blanks that a new line begins with, what folds in it, and its own keys.
+ * @typedef {{ place: HTMLElement, label: string, colours: import("./line_colours.js").Colours, gutters: string[], indent?: string,
+ *   folds?: import("./folding.js").Parts, keys: KeyMap, calls: TextCalls }} TextParts
+ *
+ * A text that is not shown, and how far it was scrolled.
+ * @typedef {{ state: import("@codemirror/state").EditorState, top: number }} KeptText
  */
 
-/** How many documents are kept. */
-const MOST_DOCUMENTS = 30;
-const INDENT = 8;
+/** How many texts are kept. */
+const MOST_KEPT = 30;
 /** They do nothing alone. */
 const OTHER_KEYS = ["Shift", "Control", "Alt", "Meta"];
-/** What comes in by one act of these has to have room. */
-const AT_ONCE = /^(paste|drop)/;
 
 export class TextEditor {
   /** @param {TextParts} parts */
   constructor(parts) {
-    this.mode = parts.mode;
     this.calls = parts.calls;
     /** @type {(line: number) => void} the caret has come to a line */
     this.caret = () => {};
-    /** Whether Tab leaves the editor: after Escape, and where Tab has come to it. */
-    /** @type {number | null} how far it was scrolled where it is hidden, and the line that is to be in view then, 0 for none */
-    this.hiddenAt = null;
+    /** How far it is scrolled. */
+    this.top = 0;
+    /** @type {number | null} how far it has to be once it can be measured, and the line that is to be in view then, 0 for none */
+    this.due = null;
     this.awaited = 0;
+    /** Whether Tab leaves the editor: after Escape, and where Tab has come to it. */
     this.tabLeaves = true;
-    /** @type {Map<string, Doc>} the documents by the names that they were opened by */
-    this.documents = new Map();
+    /** @type {Map<string, KeptText>} by the names that they were opened by */
+    this.kept = new Map();
     this.name = "";
     /** @type {string | null} the text, where it was read since the last edit */
     this.value = null;
-    /** @type {Editor} */
-    this.editor = CodeMirror(parts.place, {
-      mode: parts.mode,
-      inputStyle: "contenteditable",
-      screenReaderLabel: parts.label,
-      lineNumbers: true,
-      gutters: ["faults", ...parts.gutters, ...(parts.folds ? [FOLD_GUTTER] : [])],
-      indentUnit: INDENT,
-      tabSize: INDENT,
-      indentWithTabs: true,
-      undoDepth: 1000,
-      // A click with Control is to a name, and makes no second caret.
-      configureMouse: () => ({ addNew: false }),
-      extraKeys: { "Shift-Tab": "indentLess", ...parts.keys },
+    const { place, label, colours, gutters, indent, folds, keys } = parts;
+    /** @type {LineEditor} */
+    this.editor = new LineEditor({ place, label, description: say.TAB_INDENTS, colours, indent, keys, gutters: ["faults", ...gutters],
+      more: [...(folds ? [folding(folds)] : []), this.handlers()], calls: this.editorCalls() });
+    this.editor.onScroll(() => {
+      if (this.due === null && place.offsetHeight > 0) this.top = this.editor.getScrollInfo().top;
     });
-    if (parts.folds) offerFolding(this.editor, parts.folds);
-    this.nameInput();
-    this.listen();
+    // It cannot be measured while it is hidden.
+    new ResizeObserver(() => this.resized()).observe(place);
   }
 
-  /** What a screen reader is told beside the label. */
-  nameInput() {
-    const input = this.editor.getInputField();
-    input.setAttribute("role", "textbox");
-    input.setAttribute("aria-multiline", "true");
-    input.setAttribute("aria-description", say.TAB_INDENTS);
+  /** @returns {import("./line_editor.js").EditorCalls} */
+  editorCalls() {
+    const { calls } = this;
+    return {
+      edited: (edits) => {
+        this.value = null;
+        calls.edited(edits);
+      },
+      moved: () => {
+        calls.moved();
+        this.caret(this.editor.getCursor().line + 1);
+      },
+      clickedGutter: (line) => calls.clickedGutter(line + 1),
+      askedGutter: (line, event) => calls.askedGutter(line + 1, event),
+      takes: (size) => {
+        if (size > LONGEST_KEPT) calls.refused(size);
+        return size <= LONGEST_KEPT;
+      },
+      complete: calls.complete,
+    };
   }
 
-  listen() {
-    const { editor, calls } = this;
-    editor.on("changes", (_, edits) => {
-      this.value = null;
-      calls.edited(edits);
+  /** @returns {import("@codemirror/state").Extension} */
+  handlers() {
+    return EditorView.domEventHandlers({
+      blur: () => {
+        this.tabLeaves = true;
+      },
+      mousedown: ({ ctrlKey, metaKey, button }) => {
+        this.tabLeaves = false;
+        if ((ctrlKey || metaKey) && button === 0) setTimeout(this.calls.clickedName);
+      },
+      keydown: (event) => this.typed(event),
+      // A file that is dropped is the page's.
+      drop: ({ dataTransfer }) => dataTransfer !== null && dataTransfer.files.length > 0,
     });
-    editor.on("cursorActivity", () => {
-      calls.moved();
-      this.caret(editor.getCursor().line + 1);
-    });
-    editor.on("blur", () => {
-      this.tabLeaves = true;
-    });
-    editor.on("mousedown", (_, event) => {
-      this.tabLeaves = false;
-      if ((event.ctrlKey || event.metaKey) && event.button === 0) setTimeout(calls.clickedName);
-    });
-    editor.on("keydown", (_, event) => this.typed(event));
-    editor.on("gutterClick", (_, line, gutter) => gutter !== FOLD_GUTTER && calls.clickedGutter(line + 1));
-    editor.on("gutterContextMenu", (_, line, gutter, event) => calls.askedGutter(line + 1, event));
-    // A file that is dropped is the page's.
-    editor.on("drop", (_, /** @type {DragEvent & { codemirrorIgnore?: boolean }} */ event) => {
-      event.codemirrorIgnore = event.dataTransfer !== null && event.dataTransfer.files.length > 0;
-    });
-    editor.on("beforeChange", (_, change) => this.judge(change));
-    // It cannot be measured while it is hidden; and an observer must not change sizes itself.
-    new ResizeObserver(() => this.resized()).observe(editor.getWrapperElement());
   }
 
-  /** What was hidden comes back as it was: a browser scrolls it elsewhere before it can be measured. */
+  get place() {
+    return this.editor.place;
+  }
+
+  /** What was hidden comes back as it was: a browser may scroll it elsewhere before it can be measured. */
   resized() {
-    const { editor } = this;
-    if (editor.getWrapperElement().offsetHeight === 0) {
-      this.hiddenAt = /** @type {{ scrollTop: number }} */ (/** @type {unknown} */ (editor.getDoc())).scrollTop;
-      return;
-    }
-    requestAnimationFrame(() => {
-      editor.refresh();
-      if (this.hiddenAt === null) return;
-      editor.scrollTo(null, this.hiddenAt);
-      this.hiddenAt = null;
-      if (this.awaited > 0) this.reveal(this.awaited);
-      this.awaited = 0;
-    });
+    if (this.place.offsetHeight === 0) this.scrollSoon(this.due === null ? this.top : this.due);
+    else if (this.due === null) this.editor.refresh();
+    else this.editor.whenMeasured(() => this.scroll());
   }
 
   /**
-   * Tab indents once something was typed or clicked here; after Escape, and where Tab has come here, it goes on as everywhere.
-   * @param {KeyboardEvent & { codemirrorIgnore?: boolean }} event
+   * It is scrolled so far, once it can be measured.
+   * @param {number} top
    */
-  typed(event) {
-    if (event.key === "Escape") this.tabLeaves = true;
-    else if (event.key === "Tab") event.codemirrorIgnore = this.tabLeaves;
-    else if (!OTHER_KEYS.includes(event.key)) this.tabLeaves = false;
+  scrollSoon(top) {
+    this.due = top;
+    if (this.place.offsetHeight > 0) this.editor.whenMeasured(() => this.scroll());
+  }
+
+  /** What waited for the text to be measured is done. */
+  scroll() {
+    if (this.due === null || this.place.offsetHeight === 0) return;
+    this.editor.scrollTo(this.due);
+    this.due = null;
+    if (this.awaited > 0) this.reveal(this.awaited);
+    this.awaited = 0;
   }
 
   /**
-   * What is pasted or dropped, and is more than a text can have, is not taken.
-   * @param {Change} change
+   * Tab indents once something was typed or clicked here; after Escape, and where Tab has come here, it goes on as everywhere. Gives
+   * whether that was all of the key.
+   * @param {KeyboardEvent} event
    */
-  judge(change) {
-    if (!change.origin || !AT_ONCE.test(change.origin)) return;
-    const gone = this.editor.getRange(change.from, change.to).length;
-    const size = this.text.length - gone + change.text.join("\n").length;
-    if (size <= LONGEST_KEPT) return;
-    change.cancel();
-    this.calls.refused(size);
+  typed({ key, shiftKey, ctrlKey, altKey, metaKey }) {
+    if (key === "Tab") return !this.tabLeaves && !ctrlKey && !altKey && !metaKey && this.editor.indent(shiftKey);
+    if (key === "Escape") this.tabLeaves = true;
+    else if (!OTHER_KEYS.includes(key)) this.tabLeaves = false;
+    return false;
   }
 
   get text() {
@@ -157,18 +147,23 @@ export class TextEditor {
   }
 
   /**
-   * Shows the text of a session: in the document that it had, where the text is still the one in it.
+   * Shows the text of a session: in the state that it had, where the text is still the one in it.
    * @param {string} name of the session
    * @param {string} text
    */
   open(name, text) {
-    if (this.name) this.documents.set(this.name, this.editor.getDoc());
-    const kept = this.documents.get(name);
+    const { editor, kept, name: before } = this;
+    const top = this.due === null ? this.top : this.due;
+    const old = kept.get(name);
+    kept.delete(name);
+    const isSame = old !== undefined && old.state.doc.toString() === text;
+    const state = editor.swap(isSame ? old.state : editor.stateOf(text));
+    if (before) kept.set(before, { state, top });
+    this.awaited = 0;
+    this.scrollSoon(isSame ? old.top : 0);
     this.name = name;
     this.value = null;
-    this.editor.swapDoc(kept && kept.getValue() === text ? kept : CodeMirror.Doc(text, this.mode));
-    this.documents.delete(name);
-    for (const old of [...this.documents.keys()].slice(0, -MOST_DOCUMENTS)) this.documents.delete(old);
+    for (const oldest of [...kept.keys()].slice(0, -MOST_KEPT)) kept.delete(oldest);
   }
 
   /**
@@ -178,10 +173,10 @@ export class TextEditor {
   comment(mark) {
     const { editor } = this;
     const [first, last] = [editor.getCursor("from").line, editor.getCursor("to").line];
-    const lines = upTo(last - first + 1).map((at) => editor.getLine(first + at));
-    const end = { line: last, ch: editor.getLine(last).length };
-    editor.replaceRange(commented(lines, mark).join("\n"), { line: first, ch: 0 }, end, "comment");
-    editor.setSelection({ line: first, ch: 0 }, { line: last, ch: editor.getLine(last).length });
+    const lines = upTo(last - first + 1).map((at) => editor.getLine(first + at) || "");
+    const end = { line: last, ch: (editor.getLine(last) || "").length };
+    editor.replaceRange(commented(lines, mark).join("\n"), { line: first, ch: 0 }, end);
+    editor.setSelection({ line: first, ch: 0 }, { line: last, ch: Infinity });
   }
 
   /**
@@ -189,8 +184,7 @@ export class TextEditor {
    * @param {string} text
    */
   replaceText(text) {
-    const last = this.editor.lastLine();
-    this.editor.replaceRange(text, { line: 0, ch: 0 }, { line: last, ch: this.editor.getLine(last).length }, "replace");
+    this.editor.setValue(text);
   }
 
   /**
@@ -198,10 +192,7 @@ export class TextEditor {
    * @param {import("../drawing/text_edits.js").TextEdit[]} edits
    */
   edit(edits) {
-    const { editor } = this;
-    editor.operation(() => {
-      for (const { from, to, insert } of edits) editor.replaceRange(insert, editor.posFromIndex(from), editor.posFromIndex(to), "draw");
-    });
+    this.editor.edit(edits);
   }
 
   /**
@@ -209,9 +200,7 @@ export class TextEditor {
    * @param {"undo" | "redo"} which
    */
   step(which) {
-    if (this.editor.historySize()[which] === 0) return false;
-    this.editor[which]();
-    return true;
+    return this.editor.step(which);
   }
 
   /**
@@ -230,16 +219,16 @@ export class TextEditor {
    */
   reveal(line) {
     const { editor } = this;
-    if (this.hiddenAt !== null) {
+    if (this.due !== null) {
       this.awaited = line;
       return;
     }
     unfold(editor, line - 1);
     const { top, clientHeight } = editor.getScrollInfo();
-    const from = editor.heightAtLine(line - 1, "local");
-    const room = editor.defaultTextHeight() * 2;
-    if (from - room < top) editor.scrollTo(null, Math.max(0, from - room));
-    else if (from + 2 * room > top + clientHeight) editor.scrollTo(null, from + 2 * room - clientHeight);
+    const from = editor.heightAtLine(line - 1);
+    const room = editor.view.defaultLineHeight * 2;
+    if (from - room < top) editor.scrollTo(Math.max(0, from - room));
+    else if (from + 2 * room > top + clientHeight) editor.scrollTo(from + 2 * room - clientHeight);
   }
 
   /**

@@ -4,7 +4,7 @@ import { block, button, field, onClick } from "../ui/dom.js";
 
 /**
  * @typedef {import("../ui/choices.js").Choices} Choices
- * @typedef {import("codemirror").Editor} Editor
+ * @typedef {import("./line_editor.js").LineEditor} LineEditor
  */
 
 /** In pixels. */
@@ -15,7 +15,7 @@ const MOST = 28;
 export class TextLooks {
   /**
    * @param {Choices} choices
-   * @param {Editor[]} editors
+   * @param {LineEditor[]} editors
    */
   constructor(choices, editors) {
     this.choices = choices;
@@ -59,7 +59,7 @@ export class TextLooks {
     button("text-large").setAttribute("aria-pressed", String(this.isFilled));
     const wraps = this.choices.get("wrap") === "on";
     for (const editor of this.editors) {
-      if (editor.getOption("lineWrapping") !== wraps) editor.setOption("lineWrapping", wraps);
+      editor.wrap(wraps);
       editor.refresh();
     }
   }

@@ -1,0 +1,12 @@
+export { EditorStateConfig, EditorState } from "./state";
+export { StateCommand } from "./extension";
+export { Facet, StateField, Extension, Prec, Compartment } from "./facet";
+export { EditorSelection, SelectionRange } from "./selection";
+export { Transaction, TransactionSpec, Annotation, AnnotationType, StateEffect, StateEffectType } from "./transaction";
+export { combineConfig } from "./config";
+export { ChangeSpec, ChangeSet, ChangeDesc, MapMode } from "./change";
+export { CharCategory } from "./charcategory";
+export { RangeValue, Range, RangeSet, RangeCursor, RangeSetBuilder, RangeComparator, SpanIterator } from "./rangeset";
+export { findClusterBreak, codePointAt, fromCodePoint, codePointSize } from "./char";
+export { countColumn, findColumn } from "./column";
+export { Line, TextIterator, Text } from "./text";

@@ -1,0 +1,53 @@
+// Colours of a text, each line by itself, for the lines that are shown.
+
+import { Decoration, ViewPlugin } from "@codemirror/view";
+
+/**
+ * @typedef {import("@codemirror/view").EditorView} View
+ *
+ * Words of a line that have a colour, in their order: the name of the colour in the style sheet.
+ * @typedef {{ from: number, to: number, style: string }} Coloured
+ * @typedef {(line: string) => Coloured[]} Colours
+ */
+
+/** @type {Map<string, Decoration>} */
+const made = new Map();
+
+/** @param {string} style */
+function markOf(style) {
+  const mark = made.get(style) || Decoration.mark({ class: `cm-${style}` });
+  made.set(style, mark);
+  return mark;
+}
+
+/**
+ * @param {View} view
+ * @param {Colours} colours
+ */
+function colour({ state: { doc }, visibleRanges }, colours) {
+  /** @type {import("@codemirror/state").Range<Decoration>[]} */
+  const ranges = [];
+  for (const { from, to } of visibleRanges) {
+    for (let at = from; at <= to;) {
+      const line = doc.lineAt(at);
+      for (const word of colours(line.text)) {
+        if (word.to > word.from) ranges.push(markOf(word.style).range(line.from + word.from, line.from + word.to));
+      }
+      at = line.to + 1;
+    }
+  }
+  return Decoration.set(ranges, true);
+}
+
+/**
+ * What colours the lines of an editor.
+ * @param {Colours} colours
+ */
+export function lineColours(colours) {
+  return ViewPlugin.define((view) => ({
+    decorations: colour(view, colours),
+    update(/** @type {import("@codemirror/view").ViewUpdate} */ update) {
+      if (update.docChanged || update.viewportChanged) this.decorations = colour(update.view, colours);
+    },
+  }), { decorations: (plugin) => plugin.decorations });
+}
