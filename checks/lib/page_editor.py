@@ -217,6 +217,21 @@ def check_hidden(browser):
     verdict("a text that was hidden comes back where it was", browser.script(SCROLLED), 2500)
 
 
+def check_opened(browser, page):
+    """A text that is opened begins at its first line, wherever the one before was scrolled, and what is in view has its colours."""
+    open_anew(browser, page)
+    choose_example(browser, "calculator")
+    show_text(browser, "program")
+    browser.script(EDITOR + "editor.scrollTo(4000)", PROGRAM)
+    comes(browser, "a text that is scrolled", SCROLLED, 4000)
+    choose_example(browser, "calculator")
+    time.sleep(0.5)
+    verdict("a text that is opened begins at its first line", browser.script(SCROLLED), 0)
+    coloured = """const lines = [...document.querySelectorAll('#program-editor .cm-line')].filter((line) => line.textContent.trim() !== "");
+return lines.length > 20 && lines.every((line) => line.querySelector('span') !== null)"""
+    verdict("and its words have their colours", browser.script(coloured), True)
+
+
 def check_limits(browser):
     """The longest text: typing stays quick; more is refused in words."""
     put(browser, PROGRAM, LONGEST)
@@ -350,6 +365,7 @@ def check_phone(browser, page):
 
 
 def check_editor(browser, page, _folder, _mcs4):
+    check_opened(browser, page)
     open_anew(browser, page)
     browser.script("for (const each of document.querySelectorAll('#notice .dismiss')) each.click()")
     choose_example(browser, "calculator")

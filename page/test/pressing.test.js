@@ -77,6 +77,14 @@ for (const isRunning of [true, false]) {
   });
 }
 
+test("a click that comes of a tap presses nothing more", () => {
+  const { done, buttons } = bench(true);
+  buttons[0].fire("pointerdown");
+  buttons[0].fire("pointerup");
+  buttons[0].fire("click", { detail: 0 });
+  assert.deepEqual(done, ["press 0 0", "release 0 0"]);
+});
+
 test("a tap presses and lets go", () => {
   const { done, buttons } = bench(true);
   buttons[0].fire("pointerdown");

@@ -17,6 +17,8 @@
 
 /** A finger on the glass presses after so many milliseconds, or when it goes: one that swipes over the page has been told by then. */
 const SWIPE_TIME = 60;
+/** A click that comes so many milliseconds after a finger went is the finger's own, whatever it says of itself. */
+const TAP_TIME = 500;
 
 export class Pressing {
   /** @param {PressingCalls} calls */
@@ -41,6 +43,7 @@ export class Pressing {
    */
   listen(button, key) {
     const { place } = key;
+    let lifted = -Infinity;
     button.addEventListener("pointerdown", (event) => {
       if (event.button !== 0) return;
       event.preventDefault();
@@ -49,6 +52,7 @@ export class Pressing {
       else this.down(key, event.shiftKey);
     });
     button.addEventListener("pointerup", (event) => {
+      lifted = event.timeStamp;
       // A tap was shorter than the time that tells it from a swipe.
       if (this.lift(event.pointerId)) this.down(key, false);
       this.up(place);
@@ -62,7 +66,8 @@ export class Pressing {
     button.addEventListener("keyup", (event) => this.activate(event, () => this.up(place)));
     // A click that is neither, as a screen reader makes it, is a short press.
     button.addEventListener("click", (event) => {
-      if (event.detail !== 0 || (event instanceof PointerEvent && event.pointerId > 0)) return;
+      if (event.detail !== 0 || event.timeStamp - lifted < TAP_TIME) return;
+      if (event instanceof PointerEvent && event.pointerId > 0) return;
       this.down(key, false);
       this.up(place);
     });

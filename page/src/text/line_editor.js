@@ -429,9 +429,9 @@ export class LineEditor {
     this.view.requestMeasure();
   }
 
-  /** @param {() => void} act is done once the text that is shown has been measured */
+  /** @param {() => void} act is done once the text that is shown has been measured, and nothing keeps its place in view any more */
   whenMeasured(act) {
-    this.view.requestMeasure({ read: () => null, write: act });
+    this.view.requestMeasure({ read: () => null, write: () => queueMicrotask(act) });
   }
 
   /**
@@ -440,6 +440,8 @@ export class LineEditor {
    */
   swap(state) {
     const before = this.state;
+    // It would be kept at the line that stands there, as heights are measured.
+    this.scrollTo(0);
     this.view.setState(state);
     this.view.dispatch({ effects: this.wrapping.reconfigure(this.wraps ? EditorView.lineWrapping : []) });
     return before;
