@@ -400,6 +400,7 @@ def take_picture(browser, page, path):
     browser.go(page.as_uri())
     until_ready(browser)
     choose_example(browser, "calculator")
+    show_text(browser, "program")
     browser.command("Emulation.setDeviceMetricsOverride", width=1280, height=800, deviceScaleFactor=1, mobile=False)
     for legend in "22/7=":
         browser.fingers([key(legend)], 60)

@@ -8,7 +8,7 @@ use Rattle.mcs_model.specs.declared.command.Command.{Command}
 use Rattle.mcs_session.specs.Log.{LogHolds, log_after, ticks_of}
 
 -- the moments at which these commands, recorded in turn from that clock and that log on, are
--- acknowledged: each four ticks after the one before, or eight where its record had no room
+-- acknowledged: each four ticks after the one before, or eight where the log had no room for it
 abbrev pub moments_of : ℕ → List Command → List Command → List ℕ
 moments_of clock log [] = []
 moments_of clock log (c ∷ cs) =
@@ -19,9 +19,9 @@ abbrev pub last_moment : ℕ → List ℕ → ℕ
 last_moment clock [] = clock
 last_moment clock (m ∷ ms) = last_moment m ms
 
--- The moments of these commands, recorded in turn between these two states of a disk: what the log
--- held at the start determines them all, and the last is not after the end. That each command is
--- kept from its moment on says `KeepsCommands`.
+-- The moments of these commands, if they were recorded in turn between these two states of a disk:
+-- what the log held at the start determines them all, and the last is not after the end. That each
+-- command is kept from its moment on says `KeepsCommands`.
 pub record Acknowledgements (old new : DiskState) (commands : List Command) : Type 0 where
   pub log : List Command
   pub held : LogHolds (bytes_of old) log

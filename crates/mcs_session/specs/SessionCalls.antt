@@ -29,7 +29,8 @@ pub record MigratesSession (old new : DiskState) (s : BenchState) : Type 0 where
   pub rests : StandsFor (bytes_of old) s → AddsNoImage old new
   pub migrated : StandsForLifted (bytes_of old) s → HoldsState (bytes_of new) s
 
--- a file of version 1 stood for a state, and the disk failed as it was replaced
+-- a file of version 1 stood for a state, and whatever a power cut since leaves is an image from
+-- before, or stands for that state (`RefusalLeaves`: the device failed as the file was replaced)
 pub record FailsMigrating (old new : DiskState) : Type 0 where
   pub state : BenchState
   pub stands : StandsForLifted (bytes_of old) state

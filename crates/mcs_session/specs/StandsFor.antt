@@ -1,7 +1,7 @@
 -- What a session file stands for. What one of version 1 stands for is said by the definitions of
 -- version 1 and carried over (`StandsForLifted` in Version1). Where a definition here takes a
--- version, a snapshot and records of version 1 are read as carried over, and the commands are those
--- of version 2 from there on.
+-- version: in version 1 the snapshot is read as carried over, the records are commands that version
+-- 1 has, and from there on they are refused and done as in version 2.
 use Rattle.std.specs.Prelude.{◌≡◌, ◌⊎◌, ◌≤◌, ℕ, List, [], ◌∷◌, None}
 use Rattle.mcs_codec.specs.Codec.{SpellsBy, SpellsState, SpellsStateBy}
 use Rattle.mcs_codec.specs.declared.versions.Version.{Version}
