@@ -13,7 +13,7 @@ apart() {
 # Each tool of users is a command, and each command that is there has its help, which names it and its exit status, and fits.
 for each in tools/[a-z]*; do
     each=${each#tools/}
-    case $each in aarch64 | build | lib | package | ship | speed | texts) continue ;; esac
+    case $each in aarch64 | build | lib | package | ship | speed) continue ;; esac
     verdict "$(grep -c "^$each	" tools/lib/commands.txt)" 1 "$each in tools/lib/commands.txt"
     verdict "$(apart ./mcs4 help "$each" | sed 's/^[0-9]*/some/')" "some 0 0" "mcs4 help $each"
     verdict "$(head -n 1 "$folder/output" | cut -d ' ' -f 1-3); $(grep -c '^Status' "$folder/output")" "usage: mcs4 $each; 1" "what mcs4 help $each tells"
