@@ -41,7 +41,7 @@ def editor():
     """The folder of CodeMirror's modules, each file of which is the one that it has to be."""
     other = [name for name, told in sums().items() if hashlib.sha256((EDITOR / name).read_bytes()).hexdigest() != told]
     if other:
-        raise MissingPart(f"page/codemirror/{other[0]} is not the file that SUMS tells; page/codemirror/fetch brings it")
+        raise MissingPart(f"page/codemirror/{other[0]} is not the one of SUMS; page/codemirror/fetch brings it")
     return EDITOR
 
 

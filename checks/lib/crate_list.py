@@ -23,7 +23,7 @@ def first_sentence(crate):
 def crates_by_heading():
     """The headings of crates.txt, each with its crates."""
     headings = {}
-    # The first two lines say how crates.txt is read.
+    # `lines_of` of tools/lib/sums.sh reads the same file, and leaves the headings out. The first two lines say how it is read.
     for line in (TOP / "crates.txt").read_text().splitlines()[2:]:
         if line.startswith("# "):
             crates = headings.setdefault(line[2:], [])

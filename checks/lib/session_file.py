@@ -6,6 +6,7 @@ rest of a snapshot area, which nobody reads.
 
 import copy
 import dataclasses
+import json
 
 NAME = b"MCS4BEN1"
 SIZE = 163_856
@@ -27,8 +28,18 @@ def rom_line(chip, line):
     return bytes([0, chip, line, 0])
 
 
+def ram_line(bank, chip, line):
+    return bytes([1, bank, chip, line])
+
+
 def chain_line(chain, bit):
     return bytes([2, chain, bit, 0])
+
+
+def name_of(line):
+    """The name that a line has in texts."""
+    kind, *numbers = line
+    return ("rom{}.{}", "ram{}.{}.{}", "chain{}.{}")[kind].format(*numbers)
 
 
 @dataclasses.dataclass
@@ -55,6 +66,25 @@ class Board:
 
     def count_of_keys(self):
         return self.keys[2] * len(self.keys[3]) if self.keys else 0
+
+    def tables(self):
+        """The tables of its text, each with the key that it stands below: ROMs and banks by rising number, chains, keys, lamps."""
+        found = [("rom", {"chip": chip, "port": self.roms[chip]}) for chip in sorted(self.roms)]
+        found += [("ram", {"bank": bank, "chips": self.banks[bank]}) for bank in sorted(self.banks)]
+        found += [("chain", {"clock": name_of(clock), "data": name_of(data), "chips": chips}) for clock, data, chips in self.chains]
+        if self.keys:
+            chain, first, rows, columns = self.keys
+            found.append(("keys", {"chain": chain, "first": first, "rows": rows, "columns": [name_of(line) for line in columns]}))
+        return found + [("lamp", {"line": name_of(line)}) for line in self.lamps]
+
+    def text(self):
+        """Its text as `board` tells it, in the form of the board in the manual's first hour."""
+        lines = []
+        for below, table in self.tables():
+            lines.append(f"[{below}]" if below == "keys" else f"[[{below}]]")
+            # TOML in this form has numbers, texts and lists as JSON has them.
+            lines += [f"{key} = {json.dumps(value)}" for key, value in table.items()]
+        return "".join(f"{line}\n" for line in lines)
 
 
 @dataclasses.dataclass

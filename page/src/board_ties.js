@@ -60,12 +60,12 @@ export function pressingOf(page) {
   const { running } = page;
   return new Pressing({
     isRunning: () => running.clock.movesKeys,
-    isDown: (place) => running.willBeDown(place, page.lookView.front.isDown(place)),
-    press: (place) => running.queue("press", place),
-    release: (place) => running.queue("release", place),
-    change: (word, place) => {
-      running.queue("forget", place);
-      page.serving.act(`${lineOfChange({ word, place })}\n`);
+    isDown: (key) => running.willBeDown(key, page.lookView.front.isDown(key)),
+    press: (key) => running.queue("press", key),
+    release: (key) => running.queue("release", key),
+    change: (word, key) => {
+      running.queue("forget", key);
+      page.serving.act(`${lineOfChange({ word, key })}\n`);
     },
     meant: (event) => {
       if (event.ctrlKey || event.metaKey || event.altKey || !page.types || isDialogOpen()) return undefined;

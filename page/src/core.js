@@ -1,6 +1,6 @@
 // What those parts call of the others that let time run, serve lines, and keep the session: they get calls, and know no page.
 
-import { wordsOfPlace } from "./words/stops.js";
+import { wordsOfAddress } from "./words/stops.js";
 import { Serving } from "./lines/serving.js";
 import { Recovery } from "./recovery.js";
 import { CurrentSession } from "./session/current_session.js";
@@ -68,7 +68,7 @@ export function runningOf(page) {
       return registers !== null && registers.owed === "1";
     },
     cycles: () => page.cycles.cycles.total,
-    place: () => wordsOfPlace(page.lookView.counter, page.source.map),
+    place: () => wordsOfAddress(page.lookView.counter, page.source.map),
     breakpoint: (id) => page.breakpoints.keeper.list.get(id),
     wordsOfRefusal: (number) => page.words.ofRefusal(number),
     step: () => page.serving.act("step\n"),

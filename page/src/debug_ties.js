@@ -2,7 +2,7 @@
 
 import { Cancelled, WorkerDied } from "./bench/faults.js";
 import { hex } from "./bench/numbers.js";
-import { wordsOfLastChange, wordsOfPlace } from "./words/stops.js";
+import { wordsOfLastChange, wordsOfAddress } from "./words/stops.js";
 import { BreakpointsController } from "./machine/breakpoints_controller.js";
 import { HeatView } from "./machine/heat_view.js";
 import { LastChangeView } from "./machine/last_change_view.js";
@@ -163,7 +163,7 @@ export function watchedOf(page) {
 export function usualOf(page) {
   const { choices } = page.layout;
   return new UsualView({
-    placeOf: (address) => wordsOfPlace(hex(address, 3), page.source.map),
+    wordsOf: (address) => wordsOfAddress(hex(address, 3), page.source.map),
     goTo: (address) => page.lookView.goTo.show(address),
     stopAt: (kinds) => {
       page.bench.call("stopAtFaults", [kinds]).catch((fault) => page.recovery.failed(fault));

@@ -15,16 +15,16 @@ import { block, button, field } from "./ui/dom.js";
 const editor = globalThis.acquireVsCodeApi();
 let isRunning = false;
 
-/** @type {(place: string, isDown: boolean) => void} */
-const tell = (place, isDown) => editor.postMessage({ place, isDown });
+/** @type {(key: string, isDown: boolean) => void} */
+const tell = (key, isDown) => editor.postMessage({ place: key, isDown });
 
 /** @type {Pressing} */
 const pressing = new Pressing({
   isRunning: () => isRunning,
-  isDown: (place) => front.isDown(place),
-  press: (place) => tell(place, true),
-  release: (place) => tell(place, false),
-  change: (word, place) => tell(place, word === "press"),
+  isDown: (key) => front.isDown(key),
+  press: (key) => tell(key, true),
+  release: (key) => tell(key, false),
+  change: (word, key) => tell(key, word === "press"),
   meant: (event) => {
     if (event.ctrlKey || event.metaKey || event.altKey || !field("typing").checked || wantsKey(event.target, event.key)) return undefined;
     return keyOfKeyboard(front.keys, event.key);

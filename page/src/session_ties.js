@@ -111,10 +111,10 @@ function actsOf({ layout, lookView, pressing, running, source, travel }) {
       lookView.goTo.show(address);
     },
     isRunning: () => running.clock.movesKeys,
-    isDown: ({ place }) => running.willBeDown(place, lookView.front.isDown(place)),
-    press: (key) => {
-      pressing.down(key, false);
-      pressing.up(key.place);
+    isDown: ({ key }) => running.willBeDown(key, lookView.front.isDown(key)),
+    press: (boardKey) => {
+      pressing.down(boardKey, false);
+      pressing.up(boardKey.key);
     },
     showText,
     showPanel: (name) => block(name).scrollIntoView({ block: "nearest" }),

@@ -6,7 +6,7 @@ import { AskedKeys } from "../src/board/asked_keys.js";
 import { Pressing } from "../src/board/pressing.js";
 import { begin } from "./page_session.js";
 
-const KEY = { place: "0 0", isSwitch: false };
+const KEY = { key: "0 0", isSwitch: false };
 
 /** Fingers on a key while time runs: the worker has what is asked for once `arrive` is called, and tells it by `look`. */
 async function typing() {
@@ -16,11 +16,11 @@ async function typing() {
   let [isDown, onTheWay] = [false, []];
   const send = (word) => {
     words.push(word);
-    onTheWay.push([word, asked.send({ word, place: KEY.place })]);
+    onTheWay.push([word, asked.send({ word, key: KEY.key })]);
   };
   const pressing = new Pressing({
     isRunning: () => true,
-    isDown: (place) => asked.willBeDown(place, isDown),
+    isDown: (key) => asked.willBeDown(key, isDown),
     press: () => send("press"),
     release: () => send("release"),
     change: () => {},
@@ -28,7 +28,7 @@ async function typing() {
   });
   const arrive = () => {
     for (const [word, arrived] of onTheWay) {
-      asked.waiting = structuredClone(calls[word](KEY.place));
+      asked.waiting = structuredClone(calls[word](KEY.key));
       arrived();
     }
     onTheWay = [];
@@ -48,10 +48,10 @@ test("a key is typed again while its release waits for its time", async () => {
   const { pressing, words, look } = await typing();
   pressing.down(KEY, false);
   assert.equal(look(1500), true);
-  pressing.up(KEY.place);
+  pressing.up(KEY.key);
   assert.equal(look(1500), true);
   pressing.down(KEY, false);
-  pressing.up(KEY.place);
+  pressing.up(KEY.key);
   assert.deepEqual(words, ["press", "release", "press", "release"]);
   assert.deepEqual([look(1001), look(2000), look(4000)], [false, true, false]);
 });
@@ -60,7 +60,7 @@ test("a key is typed again while its release is on its way", async () => {
   const { pressing, words, look } = await typing();
   pressing.down(KEY, false);
   assert.equal(look(6000), true);
-  pressing.up(KEY.place);
+  pressing.up(KEY.key);
   pressing.down(KEY, false);
   assert.deepEqual(words, ["press", "release", "press"]);
 });
@@ -68,14 +68,14 @@ test("a key is typed again while its release is on its way", async () => {
 test("a key that stays down is let go by a press, also while that press waits", async () => {
   const { pressing, words, look } = await typing();
   pressing.down(KEY, true);
-  pressing.up(KEY.place);
+  pressing.up(KEY.key);
   pressing.down(KEY, false);
-  pressing.up(KEY.place);
+  pressing.up(KEY.key);
   assert.deepEqual(words, ["press", "release"]);
   assert.equal(look(1), true);
   assert.equal(look(4000), false);
   pressing.down(KEY, true);
-  pressing.up(KEY.place);
+  pressing.up(KEY.key);
   assert.equal(look(8000), true);
   pressing.down(KEY, false);
   assert.deepEqual(words, ["press", "release", "press", "release"]);
@@ -83,9 +83,9 @@ test("a key that stays down is let go by a press, also while that press waits", 
 
 test("what is forgotten of a key leaves it as the bench tells it", () => {
   const asked = new AskedKeys();
-  const arrived = asked.send({ word: "press", place: "0 0" });
+  const arrived = asked.send({ word: "press", key: "0 0" });
   assert.deepEqual([asked.willBeDown("0 0", false), asked.willBeDown("0 1", false)], [true, false]);
-  asked.send({ word: "forget", place: "0 0" });
+  asked.send({ word: "forget", key: "0 0" });
   assert.deepEqual([asked.willBeDown("0 0", false), asked.willBeDown("0 0", true)], [false, true]);
   arrived();
   assert.equal(asked.sent.length, 1);

@@ -6,7 +6,7 @@ import { readBoard } from "../src/bench/answers.js";
 import { readInputs } from "../src/bench/inputs.js";
 import { placeOf } from "../src/bench/places.js";
 import { SourceMap } from "../src/machine/source_map.js";
-import { wordsOfHalt, wordsOfMove, wordsOfPlace, wordsOfStop } from "../src/words/stops.js";
+import { wordsOfHalt, wordsOfMove, wordsOfAddress, wordsOfStop } from "../src/words/stops.js";
 
 test("cycles in words: 10.8 microseconds each", () => {
   assert.deepEqual([1, 926, 92593, 1000000].map(wordsOfCycles),
@@ -88,5 +88,5 @@ test("why time stopped, in words", () => {
     "Stopped at 016, after 4 cycles, 0.043 ms; the return from the subroutine was not reached.");
   assert.equal(wordsOfHalt(null, 4, "016"), "Stopped at 016.");
   const map = new SourceMap(["map lines 2 names 1", "line 1 000 2", "line 2 002 1", "name go 000"], "go: JUN go\nNOP\n");
-  assert.deepEqual(["000", "002", "003"].map((place) => wordsOfPlace(place, map)), ["000 (go, line 1)", "002 (go + 2, line 2)", "003"]);
+  assert.deepEqual(["000", "002", "003"].map((at) => wordsOfAddress(at, map)), ["000 (go, line 1)", "002 (go + 2, line 2)", "003"]);
 });

@@ -11,7 +11,7 @@ import { Drawing } from "../src/drawing/drawing.js";
 import { titleOf } from "../src/session/described.js";
 import { fieldsOf } from "../src/drawing/fields.js";
 import { lampLabels } from "../src/drawing/lamp_labels.js";
-import { PartPlaces } from "../src/drawing/part_places.js";
+import { MovedParts } from "../src/drawing/moved_parts.js";
 import { edited, inverseOf } from "../src/drawing/text_edits.js";
 import { Engine } from "../src/worker/engine.js";
 
@@ -204,30 +204,30 @@ test("each value that a field offers can be set, or is refused in words; each bu
 test("where chains were dragged to follows their numbers, and comes back with the text", async () => {
   const desk = await drawn(boardOf("calculator"));
   const { drawing } = desk;
-  const { places } = drawing;
+  const { movedParts: parts } = drawing;
   const begun = [["chain 0", { x: 1, y: 2 }], ["chain 1", { x: 3, y: 4 }], ["rom 0", { x: 5, y: 6 }]];
-  places.begin(begun);
+  parts.begin(begun);
   await drawing.act({ kind: "add", part: "lamp" });
-  assert.equal(places.takeNews(), false);
+  assert.equal(parts.takeNews(), false);
   await drawing.act({ kind: "delete", part: "chain 0" });
-  assert.deepEqual([Object.fromEntries(places.moved), places.takeNews()], [{ "chain 0": { x: 3, y: 4 }, "rom 0": { x: 5, y: 6 } }, true]);
+  assert.deepEqual([Object.fromEntries(parts.moved), parts.takeNews()], [{ "chain 0": { x: 3, y: 4 }, "rom 0": { x: 5, y: 6 } }, true]);
   await drawing.step("undo");
-  assert.deepEqual([Object.fromEntries(places.moved), places.takeNews(), places.takeNews()], [Object.fromEntries(begun), true, false]);
+  assert.deepEqual([Object.fromEntries(parts.moved), parts.takeNews(), parts.takeNews()], [Object.fromEntries(begun), true, false]);
   await drawing.step("undo");
-  assert.deepEqual([Object.fromEntries(places.moved), places.takeNews()], [Object.fromEntries(begun), false]);
+  assert.deepEqual([Object.fromEntries(parts.moved), parts.takeNews()], [Object.fromEntries(begun), false]);
 });
 
 test("of several chains that go, those between them keep their places", () => {
-  const places = new PartPlaces();
-  places.begin([0, 1, 2, 3].map((at) => [`chain ${at}`, { x: at, y: 0 }]));
-  places.note("before", "after", [2, 0]);
-  const chains = () => [...places.moved].sort().map(([part, { x }]) => `${part} ${x}`);
+  const parts = new MovedParts();
+  parts.begin([0, 1, 2, 3].map((at) => [`chain ${at}`, { x: at, y: 0 }]));
+  parts.note("before", "after", [2, 0]);
+  const chains = () => [...parts.moved].sort().map(([part, { x }]) => `${part} ${x}`);
   for (let times = 0; times < 2; times++) {
-    places.follow("before", "after");
+    parts.follow("before", "after");
     assert.deepEqual(chains(), ["chain 0 1", "chain 1 3"]);
-    places.follow("after", "before");
+    parts.follow("after", "before");
     assert.deepEqual(chains(), ["chain 0 0", "chain 1 1", "chain 2 2", "chain 3 3"]);
   }
-  places.follow("before", "another");
+  parts.follow("before", "another");
   assert.equal(chains().length, 4);
 });

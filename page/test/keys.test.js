@@ -8,13 +8,13 @@ const lines = (queue, cycles) => queue.plan(cycles).map((step) => step.line);
 
 test("legends come from the comments of a board's text", () => {
   const { keys } = new Face("# row 0: 7 8 _\n[keys]\n#row 1: a\n# row 2: WALK  x \n");
-  assert.deepEqual([...keys].map(([place, { text }]) => [place, text]),
+  assert.deepEqual([...keys].map(([key, { text }]) => [key, text]),
     [["0 0", "7"], ["0 1", "8"], ["0 2", ""], ["1 0", "a"], ["2 0", "WALK"], ["2 1", "x"]]);
 });
 
 test("keys have places, legends and letters that are their own", () => {
   const keys = keysOf({ rows: 2, columns: 2 }, new Face("# row 0: CE _\n# row 1: C x\n"));
-  assert.deepEqual(keys.map(({ place, legend, letter, isNamed }) => [place, legend, letter, isNamed]),
+  assert.deepEqual(keys.map(({ key, legend, letter, isNamed }) => [key, legend, letter, isNamed]),
     [["0 0", "CE", "c", true], ["0 1", "", "", false], ["1 0", "C", "C", true], ["1 1", "x", "x", true]]);
   assert.equal(new Set(keysOf({ rows: 10, columns: 8 }, new Face("")).map(({ letter }) => letter).filter(Boolean)).size, 36);
 });
@@ -27,14 +27,14 @@ test("keys of the keyboard: own letters, named keys, then the other case", () =>
 
 test("what is at TEST is the last key, with a letter of its own", () => {
   const keys = keysOf({ rows: 1, columns: 1 }, new Face("# row 0: w\n# test: button WALK_NOW\n"));
-  const wanted = { place: "test 0", legend: "WALK NOW", words: "button WALK NOW, at TEST", isNamed: true, isSwitch: false, letter: "a" };
+  const wanted = { key: "test 0", legend: "WALK NOW", words: "button WALK NOW, at TEST", isNamed: true, isSwitch: false, letter: "a" };
   assert.deepEqual(keys[1], wanted);
   const [only] = keysOf({ rows: 0, columns: 0 }, new Face("# test: switch R to 1"));
-  assert.deepEqual([only.place, only.isSwitch, only.letter], ["test 1", true, "R"]);
+  assert.deepEqual([only.key, only.isSwitch, only.letter], ["test 1", true, "R"]);
 });
 
 test("the lines of presses: keys by their places, TEST by its level", () => {
-  const lineOf = (word, place) => lineOfChange({ word, place });
+  const lineOf = (word, key) => lineOfChange({ word, key });
   assert.deepEqual([lineOf("press", "0 1"), lineOf("release", "0 1")], ["press 0 1", "release 0 1"]);
   assert.deepEqual([lineOf("press", "test 0"), lineOf("release", "test 0")], ["test 0", "test 1"]);
   assert.deepEqual([lineOf("press", "test 1"), lineOf("release", "test 1")], ["test 1", "test 0"]);

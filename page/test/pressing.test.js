@@ -20,22 +20,22 @@ class FakeButton extends EventTarget {
 function bench(isRunning) {
   const down = new Set();
   const done = [];
-  const note = (word, place) => {
-    done.push(`${word} ${place}`);
-    if (word === "press") down.add(place);
-    else down.delete(place);
+  const note = (word, key) => {
+    done.push(`${word} ${key}`);
+    if (word === "press") down.add(key);
+    else down.delete(key);
   };
   const pressing = new Pressing({
     isRunning: () => isRunning,
-    isDown: (place) => down.has(place),
-    press: (place) => note("press", place),
-    release: (place) => note("release", place),
+    isDown: (key) => down.has(key),
+    press: (key) => note("press", key),
+    release: (key) => note("release", key),
     change: note,
     meant: () => undefined,
   });
-  const buttons = ["0 0", "0 1"].map((place) => {
+  const buttons = ["0 0", "0 1"].map((key) => {
     const button = new FakeButton();
-    pressing.listen(button, { place });
+    pressing.listen(button, { key });
     return button;
   });
   return { done, down, buttons };

@@ -48,7 +48,7 @@ test("an act calls the page, and tells why it cannot", async () => {
   const note = (name) => (...words) => {
     done.push([name, ...words]);
   };
-  const key = { legend: "7", place: "0 0" };
+  const key = { legend: "7", key: "0 0" };
   let isDown = false;
   let isRunning = false;
   const calls = {

@@ -108,6 +108,36 @@ test("later a sample is looked at, and all again after a key", () => {
   assert.equal(debug.usual.mostOf([{ line: "run 8000000", change: null }]), 10000);
   debug.usual.left = 0;
   assert.equal(looked(), 2);
-  debug.usual.mostOf([{ line: "press 0 0", change: { place: "0 0", word: "press" } }, { line: "run 5", change: null }]);
+  debug.usual.mostOf([{ line: "press 0 0", change: { key: "0 0", word: "press" } }, { line: "run 5", change: null }]);
   assert.equal(looked(), 32);
+});
+
+test("where lamps wait for a key it is looked for once they are told, and told with the next frame", () => {
+  const program = "JMS a\nend: JUN end\na: FIM P0, 0x10\nSRC P0\nWRR\nBBL 0\n";
+  const [now, later] = [open(program), open(program)];
+  for (const each of [now, later]) each.session.queue.press("test 1");
+  const wanted = now.advance(1543).tally.usual;
+  assert.equal(wanted.length, 1);
+  const hurried = later.advance(1543, true);
+  assert.deepEqual([hurried.tally.usual, later.late], [[], []], "nothing is looked for before that");
+  later.lookBack();
+  later.lookBack();
+  assert.deepEqual(later.advance(1543, true).tally.usual, wanted);
+  later.lookBack();
+  assert.deepEqual(later.advance(1543).tally.usual, [], "it is told once");
+  now.advance(1543);
+  now.advance(1543);
+  assert.deepEqual(later.session.ask("state\n"), now.session.ask("state\n"), "and what is done is the same");
+});
+
+test("but at once where time stops in that frame, or is to stop at a fault", () => {
+  const program = "FIM P0, 0x10\nSRC P0\nWRR\nJUN on\non: NOP\nend: JUN end\n";
+  const broken = open(program);
+  broken.session.changeBreaks("break 7\n");
+  const frame = broken.advance(1543, true);
+  assert.deepEqual([frame.stop.why, frame.tally.usual.length], ["break", 1]);
+  const stops = open(program);
+  stops.usual.stops.add("lines");
+  const stopped = stops.advance(1543, true);
+  assert.deepEqual([stopped.stop.why, stopped.cycles, stopped.tally.usual.length], ["usual", 3, 1]);
 });

@@ -82,7 +82,7 @@ tell_refusal() {
     told=${told#line 1: }
     # A line alone is seen just above.
     if [ ${#script[@]} -eq 1 ]; then told=${told%%$'\n'*}; fi
-    case $number in 10) told="$told; help tells which there are" ;; esac
+    case $number in 10) told="$told; help shows which there are" ;; esac
     say "$told"
 }
 
@@ -106,7 +106,7 @@ take_answer() {
 receive
 printf '%s\n' "$answer"
 case $answer in session\ *) ;; *) finish ;; esac
-say "help tells the lines, quit leaves."
+say "help shows the lines, quit leaves."
 text=
 script=()
 HISTCONTROL=ignoredups

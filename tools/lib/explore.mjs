@@ -7,7 +7,7 @@ import { dirname, join } from "node:path";
 import { begun } from "../../page/src/explore/beginning.js";
 import { CampaignRun, patienceOf } from "../../page/src/explore/campaign_run.js";
 import { readCampaign } from "../../page/src/explore/campaign.js";
-import { isRight, joinReports, placeOf, stepsOf, tapOf, testsOfReport } from "../../page/src/explore/report.js";
+import { isRight, joinReports, lineOfProperty, stepsOf, tapOf, testsOfReport } from "../../page/src/explore/report.js";
 import { subjectOf } from "../../page/src/explore/subject.js";
 import { prepare } from "../../page/src/testing/prepared.js";
 import { Engine } from "../../page/src/worker/engine.js";
@@ -132,7 +132,7 @@ async function explore() {
 
 function tell(property, { steps }, names) {
   const { text, isGoal } = property;
-  process.stderr.write(`# ${placeOf(property, { names })}: ${text}: ${isGoal ? "reached" : "broken"} by ${stepsOf(steps)}\n`);
+  process.stderr.write(`# ${lineOfProperty(property, { names })}: ${text}: ${isGoal ? "reached" : "broken"} by ${stepsOf(steps)}\n`);
 }
 
 /** One search, in a process of its own. */

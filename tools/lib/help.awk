@@ -69,7 +69,7 @@ END {
     end_paragraph()
     if (verbatim && man) print ".fi"
     if (list) tell_commands()
-    if (man) print ".SH SEE ALSO\n" (name == "mcs4" ? "The manual, docs/MANUAL.md where Fethsaim stands, as \\fBmcs4 version\\fR tells." : ".BR mcs4 (1)")
+    if (man) print ".SH SEE ALSO\n" (name == "mcs4" ? "The manual, docs/MANUAL.md where Fethsaim stands, as \\fBmcs4 version\\fR shows." : ".BR mcs4 (1)")
 }
 
 # How the tools are called here.

@@ -68,7 +68,7 @@ function end_of_hex_record(    length_told, sum, i) {
     if (length(record) < 11 || length(record) % 2 == 0) return tell_line("cut off: a record has `:`, ten digits and two for each byte" hint())
     length_told = pair_at(2)
     if (length(record) != 11 + 2 * length_told) {
-        return tell_line("it tells of " length_told " bytes and has " (length(record) - 11) / 2 hint())
+        return tell_line("it says " length_told " bytes and has " (length(record) - 11) / 2 hint())
     }
     sum = 0
     for (i = 2; i < length(record) - 1; i += 2) sum += pair_at(i)
@@ -129,7 +129,7 @@ function end_of_srecord(    length_told, type, wide, at, sum, i) {
     if (ended) return tell_line("a record after the last one (S9)")
     if (record !~ /^S[0-9][0-9A-F]+$/ || length(record) < 10 || length(record) % 2) return tell_line("no record of Motorola: `S`, a digit, and two digits for each byte")
     length_told = pair_at(3)
-    if (length(record) != 4 + 2 * length_told) return tell_line("it tells of " length_told " bytes and has " (length(record) - 4) / 2)
+    if (length(record) != 4 + 2 * length_told) return tell_line("it says " length_told " bytes and has " (length(record) - 4) / 2)
     sum = 0
     for (i = 3; i < length(record) - 1; i += 2) sum += pair_at(i)
     sum = 255 - sum % 256

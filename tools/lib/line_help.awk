@@ -40,6 +40,6 @@ function wrap(text,    words, n, i, line) {
 }
 
 END {
-    if (wanted != "" && !found) print "there is no line " wanted "; help tells which there are"
-    if (wanted == "") print "help LINE tells more of one, as help press; quit, or Ctrl-D, leaves. Texts end with a line that is a dot alone."
+    if (wanted != "" && !found) print "there is no line " wanted "; help shows which there are"
+    if (wanted == "") print "help LINE shows more of one, as help press; quit, or Ctrl-D, leaves. Texts end with a line that is a dot alone."
 }

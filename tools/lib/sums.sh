@@ -38,6 +38,11 @@ lines_of() {
     ' < "$top/crates.txt"
 }
 
+# The names of the crates whose lines are on standard input.
+crates_of_lines() {
+    sed 's/[ :].*//'
+}
+
 # The crates of this repository that a crate uses.
 uses_of() {
     for name in $(lines_of "$1" | sed -n "s/^$1\( [^:]*\)\{0,1\}://p"); do
@@ -56,13 +61,10 @@ sums_of_files() {
 
 # The names of code, definitions and proofs (files, `f`, or folders, `d`) of the crates whose lines these are.
 names_of_crates() {
-    (cd "$top" && find crates -name out -prune -o -type "$2" -print) | lines=$1 awk -F / '
+    (cd "$top" && find crates -name out -prune -o -type "$2" -print) | crates=$(echo "$1" | crates_of_lines) awk -F / '
         BEGIN {
-            count = split(ENVIRON["lines"], lines, "\n")
-            for (i = 1; i <= count; i++) {
-                split(lines[i], head, /[ :]/)
-                taken[head[1]] = 1
-            }
+            count = split(ENVIRON["crates"], crates, "\n")
+            for (i = 1; i <= count; i++) taken[crates[i]] = 1
         }
         $2 in taken && $3 ~ /^(src|specs|proofs)$/
     '
@@ -103,7 +105,7 @@ names_of_start() {
         # shellcheck disable=SC2086
         printf '%s\n' crates.txt "${built#"$top/"}" "${built_from#"$top/"}" "${shipped#"$top/"}" "${static#"$top/"}" "${aarch64#"$top/"}" "${sums#"$top/"}" \
             tools/lib/sums.sh tools/lib/start.sh $made_for_aarch64 /lib64/ld-linux-x86-64.so.2
-        echo "$lines" | sed 's|[ :].*||; s|^|crates/|'
+        echo "$lines" | crates_of_lines | sed 's|^|crates/|'
         names_of_crates "$lines" d
         names_of_crates "$lines" f
     } | tr '\n' '\000'

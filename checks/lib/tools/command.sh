@@ -10,11 +10,11 @@ apart() {
     echo "$(wc -l < "$folder/output") $(wc -l < "$folder/errors") $status" | tr -s ' '
 }
 
-# Each tool of users is a command, and each command that is there has its help, which names it and its exit status, and fits.
-for each in tools/[a-z]*; do
-    each=${each#tools/}
-    case $each in aarch64 | build | lib | package | ship | speed) continue ;; esac
-    verdict "$(grep -c "^$each	" tools/lib/commands.txt)" 1 "$each in tools/lib/commands.txt"
+# Each tool that names itself for `help` is a command, but for tools/package, which makes what is installed and is not; and each command has its
+# help, which names it and its exit status, and fits. (Where the tools are installed, they stand here as links.)
+commands=$(sed -n 's/^\([a-z]*\)	.*/\1/p' tools/lib/commands.txt)
+verdict "$(printf '%s\n' "$commands" | LC_ALL=C sort)" "$(find -L tools -maxdepth 1 -type f ! -name package -exec sed -n 's/^tool=//p' {} + | LC_ALL=C sort)" "tools/lib/commands.txt"
+for each in $commands; do
     verdict "$(apart ./mcs4 help "$each" | sed 's/^[0-9]*/some/')" "some 0 0" "mcs4 help $each"
     verdict "$(head -n 1 "$folder/output" | cut -d ' ' -f 1-3); $(grep -c '^Status' "$folder/output")" "usage: mcs4 $each; 1" "what mcs4 help $each tells"
     verdict "$(sed 's/mcs4 \([a-z]\)/\1/g; s/  */ /g' "$folder/output" | tr '\n' ' ')" "$(outcome "tools/$each" --help | sed '$d; s/tools\///g; s/\.\/mcs4/mcs4/g; s/mcs4 \([a-z]\)/\1/g; s/  */ /g' | tr '\n' ' ')" "tools/$each --help"
@@ -40,8 +40,8 @@ usage: mcs4 new FILE
        mcs4 help [COMMAND]
        mcs4 version" "mcs4 without words"
 for word in frob build lib ../mcs4 "" Test speed; do
-    refuses 2 "mcs4: there is no command $word; mcs4 help tells which there are" ./mcs4 help "$word"
-    if [ -n "$word" ]; then refuses 2 "mcs4: there is no command $word; mcs4 help tells which there are" ./mcs4 "$word" x; fi
+    refuses 2 "mcs4: there is no command $word; mcs4 help shows which there are" ./mcs4 help "$word"
+    if [ -n "$word" ]; then refuses 2 "mcs4: there is no command $word; mcs4 help shows which there are" ./mcs4 "$word" x; fi
 done
 ln -s "$top/mcs4" "$folder/command"
 verdict "$(cd "$folder" && outcome ./command listing --names program.asm)" "$(outcome tools/listing --names "$folder/program.asm")" "a listing by mcs4, through a link"
@@ -51,7 +51,7 @@ verdict "$(outcome ./mcs4 test $lock/board.toml $lock/lock.asm $lock/lock.test)"
 # Each tool by a symbolic link, and by a link to a link in a folder that is a link.
 mkdir "$folder/links" "$folder/more"
 ln -s "$folder/more" "$folder/linked"
-for each in back cover cycles display explain import keys listing names panel profile project resume rom script test trace wave; do
+for each in $commands; do
     ln -s "$top/tools/$each" "$folder/more/$each"
     ln -s "../linked/$each" "$folder/links/$each"
     for name in "$folder/more/$each" "$folder/links/$each"; do

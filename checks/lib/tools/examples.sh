@@ -14,9 +14,12 @@ for script in examples/*.txt examples/*/*.txt; do
         rm -f "$folder/session.mcs"
     fi
 done
-for kind in txt answers; do
-    verdict "$(outcome cmp "examples/calculator/quotient.$kind" "crates/test_examples/data/quotient.$kind")" "status 0" \
-        "the calculator whose keys test_examples presses, which may hold no link (cp it)"
+for keyed in checks/lib/keyed/*.keys; do
+    awk -v script="$folder/script" -v answers="$folder/answers" -f checks/lib/keyed.awk "$calculator/board.toml" "$calculator/quotient.txt" \
+        "$calculator/quotient.answers" "$keyed"
+    "$mcs4" new "$folder/session.mcs" < "$folder/script" > "$folder/told"
+    verdict "$(outcome cmp "$folder/told" "$folder/answers")" "status 0" "$keyed"
+    rm -f "$folder/session.mcs" "$folder/script" "$folder/answers" "$folder/told"
 done
 
 board=$calculator/board.toml

@@ -32,7 +32,7 @@ hex_fault ':03002000010203D7\n:03002200010203D5\n' "line 2: the address 022, whi
 hex_fault ':030FFE00010203EA\n' "line 1: past the last address, FFF"
 hex_fault '\n:0300200001020\n' "line 2: cut off: a record has \`:\`, ten digits and two for each byte"
 hex_fault '\n:0400200001020x\n' "line 2: a character that is no hexadecimal digit"
-hex_fault '\n:04002000010203D6\n' "line 2: it tells of 4 bytes and has 3"
+hex_fault '\n:04002000010203D6\n' "line 2: it says 4 bytes and has 3"
 hex_fault '\n:020000040001F9\n' "line 2: type 04 with another value than 0: an address past FFF"
 hex_fault '\n:0400000600000000F6\n' "line 2: type 06, which has no meaning for a 4004; only 00, 01, 03, 05, and 02 and 04 with 0 are taken"
 hex_fault '\n:03000005000000F8\n' "line 2: a record of type 05 has four bytes"
@@ -66,7 +66,7 @@ srec_fault() {
     refuses 1 "rom: $folder/bad.srec: $3" tools/rom load "$folder/bad.srec"
 }
 srec_fault "S1$(srec_sum 050010D0E2)" "S1050012D0E200" "line 2: the checksum is 00, and $(srec_sum 050012D0E2 | sed 's/.*\(..\)$/\1/') would be right"
-srec_fault "S1$(srec_sum 050010D0E2)" "S1060012D0E236" "line 2: it tells of 6 bytes and has 5"
+srec_fault "S1$(srec_sum 050010D0E2)" "S1060012D0E236" "line 2: it says 6 bytes and has 5"
 srec_fault "S1$(srec_sum 050010D0E2)" "S1050012D0E2X6" "line 2: no record of Motorola: \`S\`, a digit, and two digits for each byte"
 srec_fault "S1$(srec_sum 050010D0E2)" "S1$(srec_sum 050011D0E2)" "line 2: the address 011, which an earlier line has"
 srec_fault "S1$(srec_sum 050010D0E2)" "S1$(srec_sum 050FFFD0E2)" "line 2: past the last address, FFF"

@@ -24,7 +24,8 @@ cycle_at s k = record { cycles = k; before = after_cycles k s; after = after_cyc
 abbrev pub begins : Begun → Bool
 begins b = b.before.0.owed == 0
 
--- the instructions that are begun in k cycles from s, in turn
+-- the instructions that are begun in k cycles from s, in turn, for a k that a run from s reaches:
+-- past a code outside the table each further cycle would be listed as one that begins
 unfoldable pub begun_within : ℕ → Machine → List Begun
 begun_within k s = filter begins (map (cycle_at s) (range_with_len 0 k))
 
@@ -38,8 +39,8 @@ begun_in stops n s = begun_within (run_length stops n s) s
 abbrev pub is_at : ℕ → Begun → Bool
 is_at at b = b.before.0.pc == at
 
--- whether the counter goes on elsewhere than behind two words: a JCN or an ISZ that would jump
--- there is no jump
+-- whether the counter goes on elsewhere than behind two words; asked of JCN and ISZ alone, of which
+-- one that jumps to right behind its words is not counted
 abbrev pub jumps : Begun → Bool
 jumps b = not (b.after.0.pc == (b.before.0.pc + 2) % 4096)
 
@@ -63,7 +64,7 @@ is_branch s at = may_jump (instruction_at (record s.0 { pc = at }) s.1)
 
 -- ---- a run, cycle by cycle
 
--- why a run stops after a cycle from s to t, except for its end
+-- why a run stops after a cycle from s to t, but for its end (0 cycles, after 1: never `Ended`)
 abbrev pub early_stop : Stops → Machine → Machine → Option Stop
 early_stop stops s t = stop_at stops 0 1 s t
 

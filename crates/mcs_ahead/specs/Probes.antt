@@ -5,7 +5,7 @@ use Rattle.mcs_model.specs.Running.{Machine}
 use Rattle.mcs_model.specs.declared.board.Line.{Line}
 use Rattle.mcs_model.specs.declared.board.Line.TheVariants as line
 use Rattle.mcs_model.specs.Boards.{chain_count, exists_on}
-use Rattle.mcs_model.specs.Bus.{BusState, ram_place, status_place}
+use Rattle.mcs_model.specs.Bus.{BusState, ram_index, status_index}
 use Rattle.mcs_model.specs.Levels.{level}
 use Rattle.mcs_model.specs.QueryText.{address_text, chain_item, digit_text, hex_2, lamp_mark, one_word, or_dash}
 use Rattle.mcs_ahead.specs.declared.probe.Probe.{Probe}
@@ -15,7 +15,7 @@ use Rattle.mcs_ahead.specs.declared.probe.Probe.TheVariants.{Acc, Cy, Pc, Regist
 abbrev pub level_on : BusState → Line → ℕ
 level_on s line = if exists_on s.board line then level s line else 0
 
--- the levels of the four lines of a port, as one number
+-- the levels of the four lines of a port as one number, that of line k as bit k
 abbrev pub levels_on : BusState → (ℕ → Line) → ℕ
 levels_on s line =
     level_on s (line 0) + 2 * level_on s (line 1) + 4 * level_on s (line 2) + 8 * level_on s (line 3)
@@ -32,8 +32,8 @@ probe_text t Pc = address_text t.0.pc
 probe_text t (Register k) = digit_text (slice_index t.0.r k)
 probe_text t Dcl = digit_text t.0.dcl
 probe_text t (Rom at) = hex_2 (slice_index t.1.rom at)
-probe_text t (Ram bank src) = digit_text (slice_index t.1.ram (ram_place bank src))
-probe_text t (Status bank high k) = digit_text (slice_index t.1.status (status_place bank high k))
+probe_text t (Ram bank src) = digit_text (slice_index t.1.ram (ram_index bank src))
+probe_text t (Status bank high k) = digit_text (slice_index t.1.status (status_index bank high k))
 probe_text t (Level line) = digit_text (level_on t.1 line)
 probe_text t (RomPort chip) = digit_text (levels_on t.1 (line.Rom chip))
 probe_text t (RamPort bank chip) = digit_text (levels_on t.1 (line.Ram bank chip))

@@ -5,7 +5,7 @@ use Rattle.std.proofs.lemmas.List.Folds.{flat_map-map}
 use Rattle.std.specs.List.{flat_map, join_with_byte, range_with_len}
 use Rattle.mcs_model.specs.declared.board.KeyMatrix.{KeyMatrix}
 use Rattle.mcs_model.specs.declared.limits.TheConstants.{BANKS, ROMS}
-use Rattle.mcs_model.specs.Boards.{chain_count, key_place}
+use Rattle.mcs_model.specs.Boards.{chain_count, key_index}
 use Rattle.mcs_model.specs.Bus.{BusState, chips_of}
 use Rattle.mcs_model.specs.QueryText.{bank_items, chain_line, digit_text, hex_2, key_item, key_lines, ports_lines, row_items, spaced, spaced_or_dash, src_line}
 use Rattle.mcs_answers.specs.PortPieces.{bank_src_text, key_pieces, key_text, pieces_or_dash, rom_port_lines, row_keys, src_pieces}
@@ -32,7 +32,7 @@ src_spaced s = ap (λ v. codes "src " ++ hex_2 s.rom_src ++ v) (sym (respaced (b
 
 key_spaced : (s : BusState) (row column : ℕ) → spaced (key_item s row column) ≡ key_text s row column
 key_spaced s row column =
-    elim (eqb (get_or s.keys (key_place s.board row column) 0) 1) as (λ v. spaced (cond v ((digit_text row ++ codes "." ++ digit_text column) ∷ []) []) ≡ cond v (codes " " ++ digit_text row ++ codes "." ++ digit_text column) []) [
+    elim (eqb (get_or s.keys (key_index s.board row column) 0) 1) as (λ v. spaced (cond v ((digit_text row ++ codes "." ++ digit_text column) ∷ []) []) ≡ cond v (codes " " ++ digit_text row ++ codes "." ++ digit_text column) []) [
       | true ↦ refl
       | false ↦ refl
     ]

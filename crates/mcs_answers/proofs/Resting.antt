@@ -8,7 +8,7 @@ use Rattle.mcs_model.specs.declared.board.Line.TheVariants.{Rom, Ram, Chain}
 use Rattle.mcs_model.specs.declared.op.Op.{Op}
 use Rattle.mcs_model.specs.declared.op.Op.TheVariants.{Nop, Jcn, Fim, Src, Fin, Jin, Jun, Jms, Inc, Isz, Add, Sub, Ld, Xch, Bbl, Ldm, Wrm, Wmp, Wrr, Wr0, Wr1, Wr2, Wr3, Sbm, Rdm, Rdr, Adm, Rd0, Rd1, Rd2, Rd3, Clb, Clc, Iac, Cmc, Cma, Ral, Rar, Tcc, Dac, Tcs, Stc, Daa, Kbp, Dcl}
 use Rattle.mcs_model.specs.Boards.{exists_on, masks_on}
-use Rattle.mcs_model.specs.Bus.{BusState, after_src, after_ram, after_status, chips_of, has_chip, ram_place, src_of, status_place, with_ram, with_status}
+use Rattle.mcs_model.specs.Bus.{BusState, after_src, after_ram, after_status, chips_of, has_chip, ram_index, src_of, status_index, with_ram, with_status}
 use Rattle.mcs_model.specs.Effect.{after_words, bus_after, cycle_of, effect, instruction_at, registers_after}
 use Rattle.mcs_model.specs.Levels.{after_ram_port, after_rom_port, chains_clocked, is_pulled, latch_of, level}
 use Rattle.mcs_model.specs.Registers.{pair_of}
@@ -224,10 +224,10 @@ pub rom-rests : (op : Op) (before after : Regs) (at : ℕ) → Rests op before a
 rom-rests op before after at m = ap (λ (xs : List ℕ). hex_2 (slice_index xs at)) (keeps-rom op before m)
 
 pub ram-rests : (op : Op) (before after : Regs) (bank src : ℕ) → op ≢ Wrm → Rests op before after (place.Ram bank src)
-ram-rests op before after bank src off m = ap (λ (xs : List ℕ). digit_text (slice_index xs (ram_place bank src))) (keeps-ram op before m off)
+ram-rests op before after bank src off m = ap (λ (xs : List ℕ). digit_text (slice_index xs (ram_index bank src))) (keeps-ram op before m off)
 
 pub status-rests : (op : Op) (before after : Regs) (bank high k : ℕ) → (WritesStatus op → ⊥) → Rests op before after (place.Status bank high k)
-status-rests op before after bank high k off m = ap (λ (xs : List ℕ). digit_text (slice_index xs (status_place bank high k))) (keeps-status op before m off)
+status-rests op before after bank high k off m = ap (λ (xs : List ℕ). digit_text (slice_index xs (status_index bank high k))) (keeps-status op before m off)
 
 pub level-rests : (op : Op) (before after : Regs) (line : Line) → (WritesPort op → ⊥) → Rests op before after (place.Level line)
 level-rests op before after line off m = ap digit_text (keeps-level op before m line off)

@@ -26,7 +26,7 @@ later_lines probes m b n =
     flat_map (λ x. trace_line probes (later m x)) (begun_in (stops_of b) n (machine_of b))
 
 -- where nothing stops a run of m + n cycles before its end, its trace is that of m cycles, and then
--- that of n cycles after `run m`
+-- that of n cycles after `run m` (its cycles counted on from m)
 abbrev pub TracesAddUp : Type 0
 TracesAddUp =
     (probes : List Probe) (b : BenchState) (m n : ℕ) →

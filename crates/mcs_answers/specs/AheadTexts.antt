@@ -7,7 +7,7 @@ use Rattle.std.specs.Str.{bytes_eq}
 use Rattle.mcs_model.specs.BenchState.{BenchState}
 use Rattle.mcs_model.specs.Command.{machine_of, stops_of}
 use Rattle.mcs_model.specs.QueryText.{address_text}
-use Rattle.mcs_model.specs.TextLines.{as_line}
+use Rattle.mcs_model.specs.TextLines.{as_line, text_of}
 use Rattle.mcs_model.specs.Running.{Machine, run_length, run_stop}
 use Rattle.mcs_ahead.specs.declared.probe.Probe.{Probe}
 use Rattle.mcs_ahead.specs.Ahead.{Begun, begun_in, is_branch, jumps_at, runs_at}
@@ -22,7 +22,7 @@ ahead_head word b n lines =
     ++ codes " lines " ++ decimal (length lines)
 
 -- `count`: an address at which instructions are begun, and how often; at JCN and ISZ also how often
--- the jump is taken
+-- the counter goes on elsewhere than behind the two words (`jumps_at`)
 abbrev pub count_line : List Begun → Machine → ℕ → List (List ℕ)
 count_line begun s at =
     if nat_lt 0 (runs_at begun at)
@@ -41,7 +41,7 @@ count_lines b n =
 
 abbrev pub count_answer : ℕ → BenchState → List ℕ
 count_answer n b =
-    as_line (ahead_head (codes "count") b n (count_lines b n)) ++ flat_map as_line (count_lines b n)
+    as_line (ahead_head (codes "count") b n (count_lines b n)) ++ text_of (count_lines b n)
 
 -- whether a row after an instruction is told: each one where no place is named, else those that are
 -- another than before
@@ -66,4 +66,4 @@ trace_lines probes b n =
 abbrev pub trace_answer : List Probe → ℕ → BenchState → List ℕ
 trace_answer probes n b =
     as_line (ahead_head (codes "trace") b n (trace_lines probes b n) ++ row probes (machine_of b))
-    ++ flat_map as_line (trace_lines probes b n)
+    ++ text_of (trace_lines probes b n)

@@ -8,9 +8,9 @@ use Rattle.mcs_model.specs.declared.stop.Stop.TheVariants.{Outside, Breakpoint, 
 use Rattle.mcs_model.specs.declared.query.Query.{Query}
 use Rattle.mcs_model.specs.BenchState.{BenchState}
 use Rattle.mcs_model.specs.QueryText.{text_of_query}
-use Rattle.mcs_model.specs.TextLines.{as_line}
+use Rattle.mcs_model.specs.TextLines.{as_line, text_of}
 use Rattle.mcs_source.specs.Text.{listing_text}
-use Rattle.mcs_wiring.specs.BoardText.{query_lines, text_of}
+use Rattle.mcs_wiring.specs.BoardText.{query_lines}
 
 -- the first line of a transcript
 abbrev pub session_text : BenchState → List ℕ

@@ -3,7 +3,7 @@
 use Rattle.std.specs.Prelude.{ℕ, ◌==◌, List, [], ◌∷◌, ◌++◌, codes, length, nat_lt, if◌then◌else◌, slice_index, Some, None}
 use Rattle.std.specs.List.{flat_map, range_with_len}
 use Rattle.mcs_model.specs.declared.limits.TheConstants.{BANKS}
-use Rattle.mcs_model.specs.Boards.{key_place}
+use Rattle.mcs_model.specs.Boards.{key_index}
 use Rattle.mcs_model.specs.Bus.{BusState, chips_of}
 use Rattle.mcs_model.specs.QueryText.{digit_text, hex_2, ram_port_text, rom_port_texts}
 
@@ -36,7 +36,7 @@ ram_item s bank chip = ram_port_text (codes ".") s bank chip
 -- the row and the column of a key that is down, after a space
 abbrev pub key_text : BusState → ℕ → ℕ → List ℕ
 key_text s row column =
-    if slice_index s.keys (key_place s.board row column) == 1
+    if slice_index s.keys (key_index s.board row column) == 1
     then codes " " ++ digit_text row ++ codes "." ++ digit_text column else []
 
 -- the keys of a row that are down

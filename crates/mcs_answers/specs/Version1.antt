@@ -2,7 +2,8 @@
 use Rattle.std.specs.Prelude.{ℕ, List}
 use Rattle.mcs_version1.specs.BenchState.{BenchState1}
 use Rattle.mcs_source.specs.Text.{listing_text}
-use Rattle.mcs_wiring.specs.BoardText.{query_lines, text_of}
+use Rattle.mcs_wiring.specs.BoardText.{query_lines}
+use Rattle.mcs_model.specs.TextLines.{text_of}
 
 abbrev pub listing_answer_1 : BenchState1 → ℕ → ℕ → List ℕ
 listing_answer_1 s at lines = listing_text s.bus.rom at lines

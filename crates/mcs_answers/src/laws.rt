@@ -6,8 +6,8 @@ ghost use Rattle.mcs_answers.specs.AheadLaws.{CountsAreOfTheTrace, HeadsTellTheR
 ghost use Rattle.mcs_answers.specs.AnswerTexts.{board_answer, listing_answer};
 ghost use Rattle.mcs_answers.specs.Version1.{board_answer_1, listing_answer_1};
 
-/// The listings and the board that version 1 told of a state are what the last version tells of the
-/// lifted state.
+/// The listings and the board that version 1 told of a state are what version 2 tells of the lifted
+/// state.
 pub fn answers_lift()
     ensures listings { (s : BenchState1) (at lines : ℕ)
         → listing_answer at lines (lift s) ≡ listing_answer_1 s at lines }

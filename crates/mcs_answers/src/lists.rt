@@ -100,13 +100,13 @@ pub(crate) fn put_watch(answer: &mut ArrayVec<u8, ANSWER_BYTES>, word: &[u8], wa
     ensures text { answer.new.items ≡ answer.old.items ++ word.now ++ watch_text watch }
     ensures count { length answer.new.items ≡ length answer.old.items + length word.now + 4 }
 {
-    let place = watch.get();
-    put_digit(answer, word, (place / 256) as u8);
-    put_byte(answer, b".", (place % 256) as u8);
+    let index = watch.get();
+    put_digit(answer, word, (index / 256) as u8);
+    put_byte(answer, b".", (index % 256) as u8);
 }
 
 /// Adds watched characters, each after a space.
-fn put_places(answer: &mut ArrayVec<u8, ANSWER_BYTES>, list: &[Addr])
+fn put_watched(answer: &mut ArrayVec<u8, ANSWER_BYTES>, list: &[Addr])
     requires room { array_vec_len answer.old + 5 * length list.now ≤ ANSWER_BYTES }
     ensures text { answer.new.items
         ≡ answer.old.items ++ flat_map (λ watch. codes " " ++ watch_text watch) list.now }
@@ -126,7 +126,7 @@ pub fn put_watches(answer: &mut ArrayVec<u8, ANSWER_BYTES>, bench: &Bench)
         [] => put(answer, b"watches -\n"),
         [first, others @ ..] => {
             put_watch(answer, b"watches ", *first);
-            put_places(answer, others);
+            put_watched(answer, others);
             put(answer, b"\n");
         }
     }

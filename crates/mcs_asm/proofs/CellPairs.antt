@@ -9,7 +9,7 @@ use Rattle.std.proofs.lemmas.Bool.{cases_eq, eqb-true, cases_lt, lt-ltb, le-leb,
 use Rattle.std.proofs.lemmas.List.Folds.{list_any_at}
 use Rattle.std.proofs.lemmas.Option.{none-some}
 use Rattle.mcs_model.specs.Images.{by_address, from_address, overlaps}
-use Rattle.mcs_asm.specs.ByteMap.{cells_after, pairs_from, HoldsPairs}
+use Rattle.mcs_asm.specs.ByteCells.{cells_after, pairs_from, HoldsPairs}
 use Rattle.mcs_asm.specs.View.{HaveOneByteEach}
 
 abbrev pub within : ℕ → ℕ → ℕ × ℕ → Bool

@@ -10,7 +10,7 @@ use Rattle.std.proofs.lemmas.Slice.Eq.{bytes_eq-Decides}
 use Rattle.std.proofs.lemmas.List.{map_push}
 use Rattle.std.proofs.lemmas.Bool.{false_from_ne_true, or_parts}
 use Rattle.mcs_source.specs.Assembly.{Names, is_known, value_of}
-use Rattle.mcs_asm.specs.View.{Tells}
+use Rattle.mcs_asm.specs.View.{HasNames}
 
 pub known_seen : (w : List ℕ) (es : List (Bor (List ℕ) × ℕ)) → list_any (λ e. bytes_eq e.0.now w) es ≡ is_known w (map (λ e. (e.0.now, e.1)) es)
 known_seen w [] = refl
@@ -32,7 +32,7 @@ value_pushed bs v (n ∷ names) h w =
     (apart n.0 bs w (or_parts (bytes_eq n.0 bs) (is_known bs names) h).0) (value_pushed bs v names (or_parts (bytes_eq n.0 bs) (is_known bs names) h).1 w)
 
 pub tells_more : (bs : List ℕ) (v : ℕ) (old new : BTreeMap (Bor (List ℕ)) ℕ) (names : Names) → is_known bs names ≡ false
-    → UpdatesBy (λ x y. slice_cmp nat_cmp x.now y.now) (λ k. slice_cmp nat_cmp bs k.now) old new (Some v) → Tells old names → Tells new (names ++ (bs, v) ∷ [])
+    → UpdatesBy (λ x y. slice_cmp nat_cmp x.now y.now) (λ k. slice_cmp nat_cmp bs k.now) old new (Some v) → HasNames old names → HasNames new (names ++ (bs, v) ∷ [])
 tells_more bs v old new names h more before w =
     btree_map_updates_str bs old new (Some v) more w ∙ (ap (λ (o : Option ℕ). cond (bytes_eq bs w) (Some v) o) (before w) ∙ sym (value_pushed bs v names h w))
 
@@ -40,6 +40,6 @@ abbrev pub seen : List (Bor (List ℕ) × ℕ) → Names
 seen es = map (λ e. (e.0.now, e.1)) es
 
 pub tells_pushed : (name : Bor (List ℕ)) (v : ℕ) (old new : BTreeMap (Bor (List ℕ)) ℕ) (es more : List (Bor (List ℕ) × ℕ)) → more ≡ es ++ (name, v) ∷ [] → is_known name.now (seen es) ≡ false
-    → UpdatesBy (λ x y. slice_cmp nat_cmp x.now y.now) (λ k. slice_cmp nat_cmp name.now k.now) old new (Some v) → Tells old (seen es) → Tells new (seen more)
+    → UpdatesBy (λ x y. slice_cmp nat_cmp x.now y.now) (λ k. slice_cmp nat_cmp name.now k.now) old new (Some v) → HasNames old (seen es) → HasNames new (seen more)
 tells_pushed name v old new es more is h updates before =
     rw (is, map_push {Y = List ℕ × ℕ} (λ (e : Bor (List ℕ) × ℕ). (e.0.now, e.1)) es (name, v)) (tells_more name.now v old new (seen es) h updates before)

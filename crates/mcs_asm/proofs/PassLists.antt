@@ -13,14 +13,14 @@ use Rattle.mcs_source.specs.Lexical.{tokens}
 use Rattle.mcs_source.specs.Lines.{SourceLine, Code, Define, line_of}
 use Rattle.mcs_model.specs.Images.{from_address, overlaps}
 use Rattle.mcs_model.specs.TextLines.{lines_of}
-use Rattle.mcs_source.specs.Assembly.{assembly_of_text, assembly_of, read, ith_line, Names, definition, address_of, names_before, all_names, pairs_before, unless_fault, first_fault, fault_one, fault_two, class_one_fault, class_two_fault, first_of_class_one, first_of_class_two, next_at, line_bytes, bytes_or_none, defined_name, is_known_name, is_bad_place, passes_end}
+use Rattle.mcs_source.specs.Assembly.{assembly_of_text, assembly_of, read, ith_line, Names, definition, address_of, names_before, all_names, pairs_before, unless_fault, first_fault, fault_one, fault_two, class_one_fault, class_two_fault, first_of_class_one, first_of_class_two, next_at, line_bytes, bytes_or_none, defined_name, is_known_name, has_bad_number, passes_end}
 use Rattle.mcs_source.specs.Survey.{Survey, span, spans_before, survey_of, survey_of_text}
 use Rattle.mcs_source.specs.declared.survey.Span.{Span}
 use Rattle.mcs_source.proofs.Surveys.{from_length}
 use Rattle.mcs_source.proofs.LineByLine.{all_passed, spans_next, address_next, names_next, pairs_next, NoneBefore, none_before_next, none_first, first_at, none_below}
-use Rattle.mcs_asm.specs.ByteMap.{HoldsPairs}
+use Rattle.mcs_asm.specs.ByteCells.{HoldsPairs}
 use Rattle.mcs_asm.specs.View.{FailsAs}
-use Rattle.mcs_asm.specs.Passes.{Before, nothing_before, before, before_next, before_with_line, with_names, SpelledLines, spelled_before, spelled_with_bytes, spelled_with_line, Steps, IsFirst, NumbersLine, Adds, HasNoFault, span_at, PassesSecond, PassesBoth}
+use Rattle.mcs_asm.specs.Passes.{Before, nothing_before, before, before_next, before_with_line, with_names, SpelledLines, spelled_before, spelled_with_bytes, spelled_with_line, GivesNew, IsFirst, NumbersLine, Adds, HasNoFault, span_at, PassesSecond, PassesBoth}
 use Rattle.mcs_asm.proofs.CellPairs.{none_kept}
 
 abbrev pub texts : List (Bor (List ℕ)) → List (List ℕ)
@@ -85,7 +85,7 @@ first_of_line : (fault : ℕ → Option SourceFault) (ls : List (Bor (List ℕ))
 first_of_line fault ls i line f lt none here is =
     first_at fault (length (said ls)) i f (omega (arith, said_length ls, lt)) none here ∙ ap (λ (n : ℕ). Some (n, f)) (sym is)
 
-pub stops_there : (kind : FaultKind) (line : ℕ) (b new : Before) (ls : List (Bor (List ℕ))) (i : ℕ) (d : Bor (List ℕ)) → i < length ls → Steps {B = Unit {0}} (Err kind) new (before_with_line b (line_of (tokens (get_or ls i d).now)))
+pub stops_there : (kind : FaultKind) (line : ℕ) (b new : Before) (ls : List (Bor (List ℕ))) (i : ℕ) (d : Bor (List ℕ)) → i < length ls → GivesNew {B = Unit {0}} (Err kind) new (before_with_line b (line_of (tokens (get_or ls i d).now)))
     → NumbersLine kind i line → IsBeforeFirst ls i b → IsFirst kind line (first_of_class_one (said ls))
 unfolding class_one_fault
 stops_there NoMemory line b new ls i d lt step is h = is
@@ -120,7 +120,7 @@ four_false false false false false a b c d e = (refl, refl)
 
 no_fault : (at : ℕ) (names : Names) (line : Option SourceLine) → fault_one at names line ≡ None → HasNoFault at line
 no_fault at names None e = absurd (cc)
-no_fault at names (Some line) e = four_false (is_bad_place line) (is_known_name (defined_name line) names) (is_some (defined_name line) && leb 512 (length names)) (passes_end line at) OutOfRange DoubleName TooManyNames PastEnd e
+no_fault at names (Some line) e = four_false (has_bad_number line) (is_known_name (defined_name line) names) (is_some (defined_name line) && leb 512 (length names)) (passes_end line at) OutOfRange DoubleName TooManyNames PastEnd e
 
 -- a line of a text without a fault of class one
 pub line_passes : (ls : List (Bor (List ℕ))) (names : Names) (i at : ℕ) (cells : List (Option ℕ)) (spans : List Span) (d : Bor (List ℕ)) → i < length ls → first_of_class_one (said ls) ≡ None → IsBeforeSecond ls names i at cells spans → HasNoFault at (line_of (tokens (get_or ls i d).now))

@@ -16,7 +16,7 @@ use Rattle.mcs_source.specs.declared.fault.SourceFault.TheVariants.{Overlap}
 use Rattle.mcs_model.specs.Images.{from_address, overlaps}
 use Rattle.mcs_source.specs.Assembly.{next_at}
 use Rattle.mcs_asm.specs.Passes.{SpelledLines, spelled_with_bytes, spelled_with_line}
-use Rattle.mcs_asm.specs.ByteMap.{cells_after, HoldsPairs}
+use Rattle.mcs_asm.specs.ByteCells.{cells_after, HoldsPairs}
 use Rattle.mcs_asm.proofs.CellPairs.{taken_is, all_kept, free_from}
 use Rattle.mcs_model.specs.Options.{◌>>=◌}
 

@@ -3,14 +3,14 @@ use Rattle.std.specs.Prelude.{◌≡◌, ℕ, ◌+◌, List, [], ◌∷◌, ◌+
 use Rattle.mcs_source.specs.declared.fault.SourceFault.{SourceFault}
 use Rattle.mcs_source.specs.declared.fault.SourceFault.TheVariants.{Overlap}
 use Rattle.mcs_source.specs.Lines.{SourceLine, Code, Define}
-use Rattle.mcs_source.specs.Assembly.{Names, assembly_of_text, bytes_or_none, address_of, names_before, next_at, fault_one, first_of_class_one, first_of_class_two, is_bad_place, passes_end, unless_fault, line_bytes, pairs_before}
+use Rattle.mcs_source.specs.Assembly.{Names, assembly_of_text, bytes_or_none, address_of, names_before, next_at, fault_one, first_of_class_one, first_of_class_two, has_bad_number, passes_end, unless_fault, line_bytes, pairs_before}
 use Rattle.mcs_model.specs.Images.{from_address, overlaps}
 use Rattle.mcs_asm.specs.declared.fault.FaultKind.{FaultKind}
 use Rattle.mcs_asm.specs.declared.fault.FaultKind.TheVariants.{NoMemory, Refused}
 use Rattle.mcs_asm.specs.declared.fault.AsmFault.{AsmFault}
 use Rattle.mcs_source.specs.declared.survey.Span.{Span}
 use Rattle.mcs_source.specs.Survey.{Survey, spans_before, survey_of_text}
-use Rattle.mcs_asm.specs.ByteMap.{HoldsPairs}
+use Rattle.mcs_asm.specs.ByteCells.{HoldsPairs}
 use Rattle.mcs_asm.specs.View.{FailsAs}
 
 -- ---- the first pass
@@ -69,26 +69,27 @@ spelled_with_line names s line = spelled_with_bytes s (next_at line s.at) (line_
 -- could show
 abbrev pub HasNoFault : ℕ → Option SourceLine → Type 0
 HasNoFault at None = ⊥
-HasNoFault at (Some line) = (is_bad_place line ≡ false) × (passes_end line at ≡ false)
+HasNoFault at (Some line) = (has_bad_number line ≡ false) × (passes_end line at ≡ false)
 
--- ---- what a step and a pass answer; lack of memory says nothing of the text
+-- ---- what is answered for a line and for a pass; lack of memory says nothing of the text
 
 -- a fault with its line, as the first one of a class; line 0 where memory is refused
 abbrev pub IsFirst : FaultKind → ℕ → Option (ℕ × SourceFault) → Type 0
 IsFirst NoMemory line first = line ≡ 0
 IsFirst (Refused f) line first = first ≡ Some (line, f)
 
-abbrev pub Steps : {A B : Type 0} → Result B FaultKind → A → Result A SourceFault → Type 0
-Steps (Ok u) new wanted = wanted ≡ Ok new
-Steps (Err NoMemory) new wanted = Unit {0}
-Steps (Err (Refused f)) new wanted = wanted ≡ Err f
+-- what was wanted is what is there now, or the fault
+abbrev pub GivesNew : {A B : Type 0} → Result B FaultKind → A → Result A SourceFault → Type 0
+GivesNew (Ok u) new wanted = wanted ≡ Ok new
+GivesNew (Err NoMemory) new wanted = Unit {0}
+GivesNew (Err (Refused f)) new wanted = wanted ≡ Err f
 
 -- what all lines say, or the first fault of class one
 abbrev pub PassesFirst : Result Before AsmFault → List (Option SourceLine) → Type 0
 PassesFirst (Ok b) lines = (first_of_class_one lines ≡ None) × (b ≡ before lines (length lines))
 PassesFirst (Err f) lines = IsFirst f.kind f.line (first_of_class_one lines)
 
--- what one line's bytes leave: the cells keep the pairs, and the next statement's place is known
+-- what one line's bytes leave: the cells keep the pairs, and where the next statement stands is known
 abbrev pub Adds : Result (Unit {0}) FaultKind → ℕ → List (Option ℕ)
     → Result SpelledLines SourceFault → Type 0
 Adds (Ok u) at cells wanted = (s : SpelledLines) × (wanted ≡ Ok s) × (s.at ≡ at) × HoldsPairs cells s.pairs

@@ -36,7 +36,7 @@ abbrev pub FailsAs : FaultKind → ℕ → {A : Type 0} → Result A (ℕ × Sou
 FailsAs NoMemory line wanted = line ≡ 0
 FailsAs (Refused f) line wanted = wanted ≡ Err (line, f)
 
--- each address is one of 0 to 4095, and none has two bytes
+-- each address is one of 0 to 4095, and none stands with two different bytes
 pub record HaveOneByteEach (pairs : List (ℕ × ℕ)) : Type 0 where
   pub within : (at byte : ℕ) → Contains pairs (at, byte) → at < 4096
   pub once : (at one other : ℕ) → Contains pairs (at, one) → Contains pairs (at, other) → one ≡ other
@@ -93,10 +93,11 @@ NoDefinition ts = lines.unlabelled ts ≡ lines.rest_of None ts
 abbrev pub words_view : Words → List ℕ
 words_view w = w.first ∷ option_to_list w.second
 
-abbrev pub StepsTo : {A B : Type 0} → (A → B) → Result A FaultKind → Result B SourceFault → Type 0
-StepsTo view (Ok x) wanted = wanted ≡ Ok (view x)
-StepsTo view (Err NoMemory) wanted = Unit {0}
-StepsTo view (Err (Refused f)) wanted = wanted ≡ Err f
+-- what is wanted is what the result stands for, or the fault
+abbrev pub GivesAs : {A B : Type 0} → (A → B) → Result A FaultKind → Result B SourceFault → Type 0
+GivesAs view (Ok x) wanted = wanted ≡ Ok (view x)
+GivesAs view (Err NoMemory) wanted = Unit {0}
+GivesAs view (Err (Refused f)) wanted = wanted ≡ Err f
 
 -- the instruction that is wanted, or the fault
 abbrev pub GivesOp : Result Op SourceFault → Result (List ℕ) SourceFault → Type 0
@@ -118,6 +119,6 @@ IsNoData (lines.Data vs) = ⊥
 IsNoData s = Unit {0}
 
 -- a map has the names with their values
-abbrev pub Tells : BTreeMap (Bor (List ℕ)) ℕ → Names → Type 0
-Tells values names =
+abbrev pub HasNames : BTreeMap (Bor (List ℕ)) ℕ → Names → Type 0
+HasNames values names =
     (w : List ℕ) → get_by (λ k. slice_cmp nat_cmp w k.now) values ≡ value_of w names

@@ -4,7 +4,7 @@ ghost use Rattle.std.specs.List.{list_all};
 ghost use Rattle.mcs_source.specs.Lines.{Data, Ldm, Bbl, Jun, Jms, Fim, Jcn, Isz};
 ghost use Rattle.mcs_source.specs.Spelling.{spelling};
 ghost use Rattle.mcs_source.specs.Assembly.{value_in, values_in, statement_bytes, line_bytes, is_near, if_known, if_in_range, if_on_page};
-ghost use Rattle.mcs_asm.specs.View.{operand_view, statement_view, line_view, words_view, StepsTo, GivesOp, SaysOp, IsNoData};
+ghost use Rattle.mcs_asm.specs.View.{operand_view, statement_view, line_view, words_view, GivesAs, GivesOp, SaysOp, IsNoData};
 
 use crate::fault::{FaultKind, SourceFault};
 use crate::names::Names;
@@ -58,7 +58,7 @@ fn data_bytes<'a>(
     names: &Names<'a>,
     operands: &[Operand<'a>],
 ) -> Result<Vec<u8>, FaultKind>
-    ensures { StepsTo (λ v. v.items) result
+    ensures { GivesAs (λ v. v.items) result
         (statement_bytes 0 names.now.names (Data (map operand_view operands.now))) }
 {
     let Some(values) = values(alloc, names, operands)? else {
@@ -229,7 +229,7 @@ fn statement_bytes<'a>(
     statement: &Statement<'a>,
 ) -> Result<Vec<u8>, FaultKind>
     requires { at ≤ 4096 }
-    ensures { StepsTo (λ v. v.items) result
+    ensures { GivesAs (λ v. v.items) result
         (statement_bytes at names.now.names (statement_view statement.now)) }
 {
     match statement {
@@ -249,7 +249,7 @@ pub fn line_bytes<'a>(
     line: &SourceLine<'a>,
 ) -> Result<Vec<u8>, FaultKind>
     requires { at ≤ 4096 }
-    ensures { StepsTo (λ v. v.items) result
+    ensures { GivesAs (λ v. v.items) result
         (line_bytes at names.now.names (Some (line_view line.now))) }
 {
     match line {

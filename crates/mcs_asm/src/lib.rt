@@ -1,7 +1,7 @@
 //! The assembler: from a source text to its image or its survey, or to its first fault.
 #![tactic(auto)]
 
-mod byte_map;
+mod byte_cells;
 mod bytes;
 mod fault;
 mod names;

@@ -7,7 +7,7 @@ ghost use Rattle.std.specs.Ordering.{nat_cmp};
 ghost use Rattle.std.specs.Cmp.Lexicographic.{slice_cmp};
 ghost use Rattle.std.specs.BTreeMap.{get_by};
 ghost use Rattle.mcs_asm.specs.View.{statement_view, line_view, operand_view};
-ghost use Rattle.mcs_source.specs.Assembly.{size, statement_size, is_known, is_known_name, defined_name, is_bad_statement, is_bad_place, next_statement, next_at, passes_end, fault_one, value_in};
+ghost use Rattle.mcs_source.specs.Assembly.{size, statement_size, is_known, is_known_name, defined_name, is_bad_origin, has_bad_number, next_statement, next_at, passes_end, fault_one, value_in};
 ghost use Rattle.mcs_asm.specs.Passes.{nothing_before, before_next};
 
 use crate::fault::SourceFault;
@@ -31,14 +31,14 @@ pub struct Names<'a> {
 impl<'a> Model for Names<'a> {
     ghost use Rattle.std.specs.Prelude.{map, ◌≤◌};
     ghost use Rattle.mcs_asm.specs.Passes.{Before};
-    ghost use Rattle.mcs_asm.specs.View.{Tells};
+    ghost use Rattle.mcs_asm.specs.View.{HasNames};
 
     ghost Value = { Before };
 
     ghost view = { λ n. record { at = n.at; names = map (λ e. (e.0.now, e.1)) n.names.items } };
 
     ghost invariant = { λ n. (n.at ≤ 4096)
-        × Tells n.values (map (λ e. (e.0.now, e.1)) n.names.items) };
+        × HasNames n.values (map (λ e. (e.0.now, e.1)) n.names.items) };
 }
 
 fn statement_size(statement: &Option<Statement<'_>>) -> usize
@@ -117,7 +117,7 @@ impl<'a> Names<'a> {
         ensures { result ≡ fault_one self.now.at self.now.names (Some (line_view line.now)) }
     {
         let name = defined_name(line);
-        if is_bad_place(line) {
+        if has_bad_number(line) {
             Some(SourceFault::OutOfRange)
         } else if self.is_known_name(name) {
             Some(SourceFault::DoubleName)
@@ -192,8 +192,8 @@ fn defined_name<'a>(line: &SourceLine<'a>) -> Option<&'a [u8]>
     }
 }
 
-fn is_bad_statement(statement: &Option<Statement<'_>>) -> bool
-    ensures { result ≡ is_bad_statement (option_map statement_view statement.now) }
+fn is_bad_origin(statement: &Option<Statement<'_>>) -> bool
+    ensures { result ≡ is_bad_origin (option_map statement_view statement.now) }
 {
     match statement {
         Some(Statement::Origin(n)) => *n >= 4096,
@@ -202,12 +202,12 @@ fn is_bad_statement(statement: &Option<Statement<'_>>) -> bool
 }
 
 /// Whether a line puts a statement or a name outside the addresses.
-fn is_bad_place(line: &SourceLine<'_>) -> bool
-    ensures { result ≡ is_bad_place (line_view line.now) }
+fn has_bad_number(line: &SourceLine<'_>) -> bool
+    ensures { result ≡ has_bad_number (line_view line.now) }
 {
     match line {
         SourceLine::Define(_, n) => *n >= 4096,
-        SourceLine::Code(_, statement) => is_bad_statement(statement),
+        SourceLine::Code(_, statement) => is_bad_origin(statement),
     }
 }
 
@@ -225,7 +225,7 @@ fn passes_end(line: &SourceLine<'_>, at: u16) -> bool
 }
 
 fn next_statement(statement: &Option<Statement<'_>>, at: u16) -> u16
-    requires place { is_bad_statement (option_map statement_view statement.now) ≡ false }
+    requires number { is_bad_origin (option_map statement_view statement.now) ≡ false }
     requires room { at + statement_size (option_map statement_view statement.now) ≤ 4096 }
     ensures at { result ≡ next_statement (option_map statement_view statement.now) at }
     ensures within { result ≤ 4096 }
@@ -239,7 +239,7 @@ fn next_statement(statement: &Option<Statement<'_>>, at: u16) -> u16
 /// Where the statement of the next line stands, after a line without a fault of class one.
 pub fn next_at(line: &SourceLine<'_>, at: u16) -> u16
     requires start { at ≤ 4096 }
-    requires place { is_bad_place (line_view line.now) ≡ false }
+    requires number { has_bad_number (line_view line.now) ≡ false }
     requires room { passes_end (line_view line.now) at ≡ false }
     ensures at { result ≡ next_at (Some (line_view line.now)) at }
     ensures within { result ≤ 4096 }

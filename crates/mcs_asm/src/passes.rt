@@ -5,10 +5,10 @@ ghost use Rattle.mcs_source.specs.Lines.{line_of};
 ghost use Rattle.mcs_source.specs.Assembly.{read, first_of_class_one, all_names, assembly_of_text, line_bytes};
 ghost use Rattle.mcs_source.specs.Survey.{survey_of_text};
 ghost use Rattle.mcs_asm.specs.View.{Assembles, Surveys};
-ghost use Rattle.mcs_asm.specs.Passes.{before_with_line, spelled_with_bytes, spelled_with_line, HasNoFault, Steps, PassesFirst, PassesSecond, PassesBoth, NumbersLine, ComesOf, Adds, span_at};
-ghost use Rattle.mcs_asm.specs.ByteMap.{HoldsPairs};
+ghost use Rattle.mcs_asm.specs.Passes.{before_with_line, spelled_with_bytes, spelled_with_line, HasNoFault, GivesNew, PassesFirst, PassesSecond, PassesBoth, NumbersLine, ComesOf, Adds, span_at};
+ghost use Rattle.mcs_asm.specs.ByteCells.{HoldsPairs};
 
-use crate::byte_map::ByteMap;
+use crate::byte_cells::ByteCells;
 use crate::bytes::line_bytes;
 use crate::fault::{AsmFault, FaultKind, SourceFault};
 use crate::names::{Names, next_at};
@@ -21,7 +21,7 @@ use std::alloc::{AllocError, Global};
 
 /// Adds what one more line says of names and addresses.
 fn add_line<'a>(alloc: Global, names: &mut Names<'a>, line: &'a [u8]) -> Result<(), FaultKind>
-    ensures { Steps result names.new (before_with_line names.old (line_of (tokens line.now))) }
+    ensures { GivesNew result names.new (before_with_line names.old (line_of (tokens line.now))) }
 {
     let Some(line) = read_line(alloc, line)? else {
         return Err(FaultKind::Refused(SourceFault::BadStatement));
@@ -83,7 +83,7 @@ fn push_span(spans: &mut Vec<Span>, at: u16, bytes: &[u8]) -> Result<(), AllocEr
 struct SpelledLines {
     at: u16,
     spans: Vec<Span>,
-    cells: ByteMap,
+    cells: ByteCells,
     ghost in_range: { at ≤ 4096 },
 }
 
@@ -138,7 +138,7 @@ fn second_pass<'a>(
     alloc: Global,
     names: Names<'a>,
     lines: &[&'a [u8]],
-) -> Result<(Survey<'a>, ByteMap), AsmFault>
+) -> Result<(Survey<'a>, ByteCells), AsmFault>
     requires no_fault { first_of_class_one (read (map (λ l. l.now) lines.now)) ≡ None }
     requires names { names.names ≡ all_names (read (map (λ l. l.now) lines.now)) }
     ensures { PassesSecond result (read (map (λ l. l.now) lines.now)) names.entry.names }
@@ -146,7 +146,7 @@ fn second_pass<'a>(
     let mut spelled = SpelledLines {
         at: 0,
         spans: Vec::with_capacity(alloc, lines.len())?,
-        cells: ByteMap::new(alloc)?,
+        cells: ByteCells::new(alloc)?,
     };
     for i in 0..lines.len() {
         at_line(i, spelled.spell(alloc, &names, lines[i]))?;
@@ -155,7 +155,7 @@ fn second_pass<'a>(
 }
 
 /// The survey of a source text and the bytes that it spells, or its first fault.
-fn both_passes<'a>(alloc: Global, source: &'a str) -> Result<(Survey<'a>, ByteMap), AsmFault>
+fn both_passes<'a>(alloc: Global, source: &'a str) -> Result<(Survey<'a>, ByteCells), AsmFault>
     ensures { PassesBoth result source.now }
 {
     let lines = lines(alloc, source.as_bytes())?;

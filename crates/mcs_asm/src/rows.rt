@@ -1,8 +1,8 @@
 //! The text of a survey, as the shell answers it to `map`.
 ghost use Rattle.std.specs.Prelude.{◌≡◌, ◌<◌, ◌++◌, string_bytes, map, OnOk, IfOk};
 ghost use Rattle.mcs_model.specs.QueryText.{address_text, hex_digit};
-ghost use Rattle.mcs_model.specs.TextLines.{as_line};
-ghost use Rattle.mcs_source.specs.MapText.{head_row, line_row, line_rows, name_row, place_text, rows_text, survey_text};
+ghost use Rattle.mcs_model.specs.TextLines.{as_line, text_of};
+ghost use Rattle.mcs_source.specs.MapText.{head_row, line_row, line_rows, name_row, address_or_end_text, survey_text};
 
 use crate::surveys::Survey;
 use mcs_source::survey::Span;
@@ -34,8 +34,8 @@ fn push_address(out: &mut String, at: u16) -> Result<(), AllocError>
 }
 
 /// Writes an address, or `1000` for the place after the last one.
-fn push_place(out: &mut String, at: u16) -> Result<(), AllocError>
-    ensures { OnOk result (string_bytes out.new ≡ string_bytes out.old ++ place_text at) }
+fn push_address_or_end(out: &mut String, at: u16) -> Result<(), AllocError>
+    ensures { OnOk result (string_bytes out.new ≡ string_bytes out.old ++ address_or_end_text at) }
 {
     if at < 4096 {
         push_address(out, at)
@@ -52,7 +52,7 @@ fn push_line(out: &mut String, number: usize, span: Span) -> Result<(), AllocErr
 {
     let size = span.size;
     write!(out, "line {number} ")?;
-    push_place(out, span.at)?;
+    push_address_or_end(out, span.at)?;
     write!(out, " {size}\n")?;
     Ok(())
 }
@@ -61,12 +61,12 @@ fn push_line(out: &mut String, number: usize, span: Span) -> Result<(), AllocErr
 fn push_name(alloc: Global, out: &mut Vec<u8>, name: &[u8], value: u16) -> Result<(), AllocError>
     ensures { OnOk result (out.new.items ≡ out.old.items ++ as_line (name_row (name.now, value))) }
 {
-    let mut place = String::new(alloc);
-    push_place(&mut place, value)?;
+    let mut number = String::new(alloc);
+    push_address_or_end(&mut number, value)?;
     out.extend_from_slice(b"name ")?;
     out.extend_from_slice(name)?;
     out.push(b' ')?;
-    out.extend_from_slice(place.as_bytes())?;
+    out.extend_from_slice(number.as_bytes())?;
     out.push(b'\n')?;
     Ok(())
 }
@@ -82,7 +82,7 @@ fn push_head(out: &mut String, lines: usize, names: usize) -> Result<(), AllocEr
 /// Writes a row for each line of the source.
 fn push_lines(out: &mut String, spans: &[Span]) -> Result<(), AllocError>
     ensures { OnOk result (string_bytes out.new
-        ≡ string_bytes out.old ++ rows_text (line_rows 1 spans.now)) }
+        ≡ string_bytes out.old ++ text_of (line_rows 1 spans.now)) }
 {
     for i in 0..spans.len() {
         push_line(out, i + 1, spans[i])?;
@@ -93,7 +93,7 @@ fn push_lines(out: &mut String, spans: &[Span]) -> Result<(), AllocError>
 /// Writes a row for each name. It fails where memory is refused.
 fn push_names(alloc: Global, out: &mut Vec<u8>, names: &[(&[u8], u16)]) -> Result<(), AllocError>
     ensures { OnOk result (out.new.items ≡ out.old.items
-        ++ rows_text (map name_row (map (λ e. (e.0.now, e.1)) names.now))) }
+        ++ text_of (map name_row (map (λ e. (e.0.now, e.1)) names.now))) }
 {
     for i in 0..names.len() {
         push_name(alloc, out, names[i].0, names[i].1)?;

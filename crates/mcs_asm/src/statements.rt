@@ -22,7 +22,7 @@ pub enum Operand<'a> {
     Name(&'a [u8]),
 }
 
-/// A statement as it is written. `Whole` is an instruction that needs no name's value.
+/// A statement as it is written. `Whole` is an instruction none of whose operands is a value.
 #[derive(Drop)]
 pub enum Statement<'a> {
     Origin(u64),

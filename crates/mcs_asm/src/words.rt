@@ -70,7 +70,7 @@ macro_rules! group_rows {
     }};
 }
 
-/// `ORG`, `DB` and the instructions that name a condition, a pair or an address.
+/// `ORG`, `DB` and the instructions of the codes 10 to 5F.
 #[tactic(auto, unfolding(mcs_source::specs::Mnemonics::on_addresses))]
 fn on_address(word: &[u8]) -> Option<Mnemonic>
     ensures { result ≡ on_addresses word.now }
@@ -84,7 +84,7 @@ fn on_address(word: &[u8]) -> Option<Mnemonic>
     instructions!(group_rows!(addresses, word))
 }
 
-/// `NOP` and the instructions that name a register or a value.
+/// `NOP` and those of 60 to DF.
 #[tactic(auto, unfolding(mcs_source::specs::Mnemonics::on_registers))]
 fn on_register(word: &[u8]) -> Option<Mnemonic>
     ensures { result ≡ on_registers word.now }
@@ -92,7 +92,7 @@ fn on_register(word: &[u8]) -> Option<Mnemonic>
     instructions!(group_rows!(registers, word))
 }
 
-/// The instructions that write to RAM and to ports.
+/// Those of E0 to E7, which write to RAM and ports.
 #[tactic(auto, unfolding(mcs_source::specs::Mnemonics::on_ports))]
 fn on_port(word: &[u8]) -> Option<Mnemonic>
     ensures { result ≡ on_ports word.now }
@@ -100,7 +100,7 @@ fn on_port(word: &[u8]) -> Option<Mnemonic>
     instructions!(group_rows!(ports, word))
 }
 
-/// The instructions that read RAM and ports.
+/// Those of E8 to EF, which read them.
 #[tactic(auto, unfolding(mcs_source::specs::Mnemonics::on_memory))]
 fn on_memory_word(word: &[u8]) -> Option<Mnemonic>
     ensures { result ≡ on_memory word.now }
@@ -108,7 +108,7 @@ fn on_memory_word(word: &[u8]) -> Option<Mnemonic>
     instructions!(group_rows!(memory, word))
 }
 
-/// The instructions on the accumulator.
+/// Those of F0 to F6.
 #[tactic(auto, unfolding(mcs_source::specs::Mnemonics::on_accumulator))]
 fn on_accumulator_word(word: &[u8]) -> Option<Mnemonic>
     ensures { result ≡ on_accumulator word.now }
@@ -116,7 +116,7 @@ fn on_accumulator_word(word: &[u8]) -> Option<Mnemonic>
     instructions!(group_rows!(accumulator, word))
 }
 
-/// The instructions on the carry, and the conversions.
+/// Those of F7 to FD.
 #[tactic(auto, unfolding(mcs_source::specs::Mnemonics::on_carry))]
 fn on_carry_word(word: &[u8]) -> Option<Mnemonic>
     ensures { result ≡ on_carry word.now }

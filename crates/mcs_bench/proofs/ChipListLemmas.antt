@@ -11,7 +11,7 @@ use Rattle.mcs_model.specs.Levels.{with_rom_ports_at}
 use Rattle.mcs_nibble.specs.Ports.{latch_value}
 use Rattle.mcs_nibble.proofs.PortLemmas.{latch_value-zero}
 use Rattle.std.proofs.lemmas.List.{get_or_past}
-use Rattle.mcs_model.specs.Places.{with_rom_latch, with_rom_byte, with_ram_latch, with_ram_src}
+use Rattle.mcs_model.specs.ChipWrites.{with_rom_latch, with_rom_byte, with_ram_latch, with_ram_src}
 use Rattle.mcs_model.specs.Validity.{IsInRange, IsAbsentZero}
 use Rattle.mcs_bench.specs.declared.chip_list.ChipList.{ChipList}
 use Rattle.mcs_bench.specs.declared.chip_list.ChipList.TheVariants.{RomBytes, Characters, StatusCharacters, RamPorts, BankSrcs}

@@ -11,7 +11,7 @@ pub record IsMarked (marks : List Bool) (breakpoints : List ℕ) : Type 0 where
   pub whole : length marks ≡ 4096
   pub at : (a : ℕ) → a < 4096 → slice_index_or marks a false ≡ is_listed breakpoints a
 
--- at most 8 places of RAM characters
-pub record AreFew (places : List ℕ) : Type 0 where
-  pub few : length places ≤ WATCHES
-  pub within : All (λ a. a < 2048) places
+-- at most 8 indices of RAM characters
+pub record AreFew (indices : List ℕ) : Type 0 where
+  pub few : length indices ≤ WATCHES
+  pub within : All (λ a. a < 2048) indices

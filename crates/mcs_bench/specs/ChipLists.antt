@@ -1,7 +1,7 @@
--- The lists of numbers that the chips of a board hold, place by place. (Our own choice.)
+-- The lists of numbers that the chips of a board hold, index by index. (Our own choice.)
 use Rattle.std.specs.Prelude.{◌≡◌, ℕ, ◌<◌, ◌/◌, ◌%◌, Bool, true, List, is_none, nat_le, slice_index, slice_set, if◌then◌else◌}
 use Rattle.mcs_model.specs.declared.board.BoardParts.{BoardParts}
-use Rattle.mcs_model.specs.Boards.{masks_on, has_key, key_place}
+use Rattle.mcs_model.specs.Boards.{masks_on, has_key, key_index}
 use Rattle.mcs_model.specs.Bus.{BusState}
 use Rattle.mcs_bench.specs.declared.chip_list.ChipList.{ChipList}
 use Rattle.mcs_bench.specs.declared.chip_list.ChipList.TheVariants.{RomBytes, Characters, StatusCharacters, RamPorts, BankSrcs}
@@ -59,4 +59,4 @@ with_cell s h i n =
 pub record IsKeyAt (b : BoardParts) (columns i : ℕ) : Type 0 where
   pub some : 0 < columns
   pub there : has_key b (i / columns) (i % columns) ≡ true
-  pub place : key_place b (i / columns) (i % columns) ≡ i
+  pub index : key_index b (i / columns) (i % columns) ≡ i

@@ -7,7 +7,7 @@ use Rattle.mcs_model.specs.declared.stop.Stop.TheVariants.{Outside, Breakpoint, 
 use Rattle.mcs_model.specs.Command.{after_change}
 use Rattle.mcs_model.specs.BenchState.{BenchState}
 use Rattle.mcs_model.specs.Listed.{is_listed}
-use Rattle.mcs_model.specs.Bus.{src_of, ram_place, after_ram}
+use Rattle.mcs_model.specs.Bus.{src_of, ram_index, after_ram}
 use Rattle.mcs_model.specs.Effect.{instruction_at}
 use Rattle.mcs_bench.specs.declared.running.Went.{Went}
 use Rattle.mcs_model.specs.Running.{Machine, Stops, is_outside, after_cycles, at_break, has_changed, stop_after, run_length, after_run, run_stop, step_length, after_step, step_stop}
@@ -44,15 +44,15 @@ pub record GoesOn (stops : Stops) (n k : ℕ) (s t : Machine) : Type 0 where
 abbrev pub CameTo : Stops → ℕ → Machine → Machine → ℕ → Option Stop → Type 0
 CameTo stops n s t k mark = MatchOption mark (GoesOn stops n k s t) (λ why. RanOn stops n s t k (Some why))
 
--- the place of the selected character
-abbrev pub selected_place : Machine → ℕ
-selected_place t = ram_place t.0.dcl (src_of t.1 t.0.dcl)
+-- the index of the selected character
+abbrev pub selected_index : Machine → ℕ
+selected_index t = ram_index t.0.dcl (src_of t.1 t.0.dcl)
 
 -- whether WRM gives the selected character another value
 abbrev pub alters_selected : Machine → Bool
 alters_selected t =
-    not (slice_index t.1.ram (selected_place t)
-    == slice_index (after_ram t.1 t.0.dcl t.0.acc).ram (selected_place t))
+    not (slice_index t.1.ram (selected_index t)
+    == slice_index (after_ram t.1 t.0.dcl t.0.acc).ram (selected_index t))
 
 -- whether the instruction at the counter gives the selected character another value, where that is
 -- watched
@@ -60,7 +60,7 @@ abbrev pub WillChange : List ℕ → Machine → Bool → Type 0
 WillChange watches t b =
     (((watches ≡ []) ⊎ (instruction_at t.0 t.1 ≢ Some Wrm)) × (b ≡ false))
     ⊎ ((instruction_at t.0 t.1 ≡ Some Wrm) ×
-    (b ≡ (is_listed watches (selected_place t) && alters_selected t)))
+    (b ≡ (is_listed watches (selected_index t) && alters_selected t)))
 
 -- whether a watched character changed in the last of the d cycles of an instruction from t on; none
 -- did before

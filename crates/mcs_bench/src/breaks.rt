@@ -3,7 +3,7 @@ ghost use Rattle.std.specs.Prelude.{◌≡◌, ◌<◌, ◌≤◌, ◌||◌, tru
 ghost use Rattle.std.specs.List.{insert};
 ghost use Rattle.std.specs.List.Sorted.{IsStrictlyIncreasing};
 ghost use Rattle.mcs_model.specs.Validity.{AreBreakpoints};
-ghost use Rattle.mcs_model.specs.Listed.{is_listed, insert_place, with_listed, without_listed};
+ghost use Rattle.mcs_model.specs.Listed.{is_listed, insert_in_order, with_listed, without_listed};
 
 use crate::laws::are_addresses;
 use arrayvec::ArrayVec;
@@ -30,8 +30,8 @@ impl Model for Breaks {
 }
 
 /// Where the first address above another one stands; after the last one where there is none.
-fn place_of(list: &[Addr], at: Addr) -> usize
-    ensures place { insert list.now result at ≡ insert_place list.now at }
+fn index_of(list: &[Addr], at: Addr) -> usize
+    ensures index { insert list.now result at ≡ insert_in_order list.now at }
     ensures within { result ≤ length list.now }
 {
     for i in 0..list.len() {
@@ -116,8 +116,8 @@ impl Breaks {
         ensures { self.new ≡ with_listed self.old at }
     {
         if !self.contains(at) {
-            let place = place_of(self.list.as_slice(), at);
-            self.list.insert(place, at);
+            let index = index_of(self.list.as_slice(), at);
+            self.list.insert(index, at);
             self.marks[usize::from(at.get())] = true;
         }
     }

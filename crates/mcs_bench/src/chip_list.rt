@@ -68,7 +68,7 @@ pub(crate) fn is_absent_zero(board: &Board, list: ChipList, numbers: &[u8]) -> b
 
 /// Sets number `i` of a list; lost where its chip is absent.
 fn set(rig: &mut BenchRig, list: ChipList, i: usize, n: u8)
-    requires place { i < count_of list }
+    requires index { i < count_of list }
     requires fits { n < limit_of list }
     ensures { rig.new ≡ with_cell rig.old list i n }
 {

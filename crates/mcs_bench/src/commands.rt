@@ -1,7 +1,7 @@
 //! Which commands a bench accepts, and what it does at them.
 ghost use Rattle.std.specs.Prelude.{◌≡◌, ◌&&◌, ◌<◌, Some, Ok, Err, None, IsOk, MatchOption, length, if◌then◌else◌};
 ghost use Rattle.std.specs.List.{list_any};
-ghost use Rattle.mcs_model.specs.Places.{with_rom_bytes};
+ghost use Rattle.mcs_model.specs.ChipWrites.{with_rom_bytes};
 ghost use Rattle.mcs_model.specs.Command.{refusal, own_refusal, place_refusal, lacks_rom, after, after_change, reply, with_place};
 
 use crate::bench::Bench;

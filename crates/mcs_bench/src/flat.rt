@@ -5,7 +5,7 @@ ghost use Rattle.mcs_bench.specs.States.{state_of};
 
 use arrayvec::ArrayVec;
 use mcs_model::board::Board;
-use mcs_model::limits::{BREAKPOINTS, CHAIN_PLACES, CHAINS, KEYS, WATCHES};
+use mcs_model::limits::{BREAKPOINTS, CHAIN_SOCKETS, CHAINS, KEYS, WATCHES};
 use std::alloc::{AllocError, Global};
 use std::marker::Model;
 
@@ -100,7 +100,7 @@ pub struct Flat {
     /// How many idle cycles are owed, 0 or 1.
     pub owed: u8,
     /// The bits of each chain of the board, bit 0 first.
-    pub chains: ArrayVec<ArrayVec<u8, CHAIN_PLACES>, CHAINS>,
+    pub chains: ArrayVec<ArrayVec<u8, CHAIN_SOCKETS>, CHAINS>,
     /// The keys of the board, row by row: 1 where one is down.
     pub keys: ArrayVec<u8, KEYS>,
     /// The level of the TEST pin, a bit.

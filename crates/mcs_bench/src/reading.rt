@@ -1,9 +1,9 @@
 //! What a bench tells of its state.
 ghost use Rattle.std.specs.Prelude.{◌≡◌, ◌+◌, ◌*◌, ◌<◌, ◌≤◌, true, IfOk, length, option_map, slice_get, slice_index, if◌then◌else◌};
 ghost use Rattle.std.specs.List.Sorted.{IsStrictlyIncreasing};
-ghost use Rattle.mcs_model.specs.Boards.{exists_on, has_key, key_place};
+ghost use Rattle.mcs_model.specs.Boards.{exists_on, has_key, key_index};
 ghost use Rattle.mcs_model.specs.Levels.{chain_bit, level, port_at};
-ghost use Rattle.mcs_model.specs.Bus.{ram_place, ram_port_place, status_place};
+ghost use Rattle.mcs_model.specs.Bus.{ram_index, ram_port_index, status_index};
 ghost use Rattle.mcs_model.specs.Validity.{AreWatches};
 ghost use Rattle.mcs_bench.specs.ChipLists.{count_of, list_of};
 
@@ -82,7 +82,7 @@ impl Bench {
     /// The RAM character of a bank, 0 to 7, and an SRC byte; 0 where the chip is absent.
     pub fn ram(&self, bank: u8, src: u8) -> Nibble
         requires { bank < 8 }
-        ensures { result ≡ slice_index self.now.bus.ram (ram_place bank src) }
+        ensures { result ≡ slice_index self.now.bus.ram (ram_index bank src) }
     {
         self.rig.ram(bank, src)
     }
@@ -92,7 +92,7 @@ impl Bench {
     pub fn status(&self, bank: u8, high: Nibble, k: u8) -> Nibble
         requires bank { bank < 8 }
         requires k { k < 4 }
-        ensures { result ≡ slice_index self.now.bus.status (status_place bank high k) }
+        ensures { result ≡ slice_index self.now.bus.status (status_index bank high k) }
     {
         self.rig.status(bank, high, k)
     }
@@ -101,7 +101,7 @@ impl Bench {
     pub fn ram_port(&self, bank: u8, chip: u8) -> Nibble
         requires bank { bank < 8 }
         requires chip { chip < 4 }
-        ensures { result ≡ slice_index self.now.bus.ram_ports (ram_port_place bank chip) }
+        ensures { result ≡ slice_index self.now.bus.ram_ports (ram_port_index bank chip) }
     {
         self.rig.ram_latch(bank, chip)
     }
@@ -163,7 +163,7 @@ impl Bench {
     /// The key of a row and a column of the board: 1 where it is down.
     pub fn key(&self, row: u8, column: u8) -> Bit
         requires { has_key self.now.bus.board row column ≡ true }
-        ensures { result ≡ slice_index self.now.bus.keys (key_place self.now.bus.board row column) }
+        ensures { result ≡ slice_index self.now.bus.keys (key_index self.now.bus.board row column) }
     {
         self.rig.key(row, column)
     }

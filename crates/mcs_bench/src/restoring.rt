@@ -15,7 +15,7 @@ use arrayvec::ArrayVec;
 use mcs_board::{BenchRig, every_board_fits_the_bench};
 use mcs_cpu4004::Cpu;
 use mcs_model::board::Board;
-use mcs_model::limits::{CHAIN_PLACES, KEYS};
+use mcs_model::limits::{CHAIN_SOCKETS, KEYS};
 use mcs_nibble::{Addr, Bit, Nibble};
 use std::alloc::{AllocError, Global};
 
@@ -86,7 +86,7 @@ fn fill_chain(rig: &mut BenchRig, chain: u8, bits: &[u8])
 }
 
 /// Sets all bits of all chains.
-fn fill_chains(rig: &mut BenchRig, chains: &[ArrayVec<u8, CHAIN_PLACES>])
+fn fill_chains(rig: &mut BenchRig, chains: &[ArrayVec<u8, CHAIN_SOCKETS>])
     requires count { length chains.now ≡ chain_count rig.old.board }
     requires fit { (i : ℕ) → i < chain_count rig.old.board →
         AreBelow (chain_bits rig.old.board i) 2 (slice_index_or (bits_of_chains chains.now) i []) }

@@ -11,7 +11,7 @@ use crate::chip_list::{ChipList, is_absent_zero};
 use crate::flat::Flat;
 use arrayvec::ArrayVec;
 use mcs_model::board::Board;
-use mcs_model::limits::CHAIN_PLACES;
+use mcs_model::limits::CHAIN_SOCKETS;
 use mcs_nibble::Nibble;
 use mcs_rom4001::held_port;
 
@@ -70,7 +70,7 @@ fn is_rising(numbers: &[u16]) -> bool
 }
 
 /// Whether there are that many bits for each chain of a board.
-fn are_chains(board: &Board, chains: &[ArrayVec<u8, CHAIN_PLACES>]) -> bool
+fn are_chains(board: &Board, chains: &[ArrayVec<u8, CHAIN_SOCKETS>]) -> bool
     ensures { IsTrue result
         ↔ ((length chains.now ≡ chain_count board.now) ×
         ((i : ℕ) → i < chain_count board.now →
@@ -232,7 +232,7 @@ impl Flat {
         is_rising(breakpoints)
     }
 
-    /// Whether the watches are places of RAM characters, rising.
+    /// Whether the watches are indices of RAM characters, rising.
     fn has_valid_watches(&self) -> bool
         ensures { IsTrue result ↔ AreWatches self.now.watches.items }
     {

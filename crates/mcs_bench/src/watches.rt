@@ -1,7 +1,7 @@
 //! Watched RAM characters.
 ghost use Rattle.std.specs.Prelude.{◌≡◌, ◌<◌, ◌+◌, ◌*◌, ◌||◌, true, [], length, nat_lt};
 ghost use Rattle.mcs_model.specs.Listed.{is_listed, with_listed, without_listed};
-ghost use Rattle.mcs_model.specs.Bus.{ram_place};
+ghost use Rattle.mcs_model.specs.Bus.{ram_index};
 ghost use Rattle.mcs_model.specs.Validity.{AreWatches};
 
 use crate::breaks::Breaks;
@@ -9,11 +9,11 @@ use mcs_model::limits::WATCHES;
 use mcs_nibble::Addr;
 use std::marker::Model;
 
-/// The places of the watched characters, each at bank * 256 + SRC byte, rising, with a mark for each. A run asks for a
-/// place in constant time.
+/// The indices of the watched characters, each at bank * 256 + SRC byte, rising, with a mark for each. A run asks for
+/// one in constant time.
 #[derive(Drop)]
 pub(crate) struct Watches {
-    places: Breaks,
+    indices: Breaks,
 }
 
 impl Model for Watches {
@@ -22,16 +22,16 @@ impl Model for Watches {
 
     ghost Value = { List ℕ };
 
-    ghost view = { λ w. w.places };
+    ghost view = { λ w. w.indices };
 
-    ghost invariant = { λ w. AreFew w.places };
+    ghost invariant = { λ w. AreFew w.indices };
 }
 
 /// Where the character of a bank and an SRC byte stands.
 #[inline(always)]
-fn place_of(bank: u8, src: u8) -> Addr
+fn index_of(bank: u8, src: u8) -> Addr
     requires { bank < 8 }
-    ensures { result ≡ ram_place bank src }
+    ensures { result ≡ ram_index bank src }
 {
     Addr::ZERO.plus(u16::from(bank) * 256 + u16::from(src))
 }
@@ -42,7 +42,7 @@ impl Watches {
         ensures { result ≡ [] }
     {
         Watches {
-            places: Breaks::new(),
+            indices: Breaks::new(),
         }
     }
 
@@ -51,66 +51,66 @@ impl Watches {
         ensures { result ≡ self.now }
     {
         Watches {
-            places: self.places.copy(),
+            indices: self.indices.copy(),
         }
     }
 
-    /// The places, rising.
+    /// The indices, rising.
     pub(crate) fn list(&self) -> &[Addr]
         ensures same { result.now ≡ self.now }
         ensures valid { AreWatches result.now }
     {
-        self.places.list()
+        self.indices.list()
     }
 
     /// Whether no character is watched.
     pub(crate) fn is_empty(&self) -> bool
         ensures { result ≡ true → self.now ≡ [] }
     {
-        self.places.list().is_empty()
+        self.indices.list().is_empty()
     }
 
     /// Whether a character is watched.
     #[inline(always)]
     pub(crate) fn contains(&self, bank: u8, src: u8) -> bool
         requires { bank < 8 }
-        ensures { result ≡ is_listed self.now (ram_place bank src) }
+        ensures { result ≡ is_listed self.now (ram_index bank src) }
     {
-        self.places.contains(place_of(bank, src))
+        self.indices.contains(index_of(bank, src))
     }
 
     /// Whether a character is watched, or can be.
     pub(crate) fn has_room_for(&self, bank: u8, src: u8) -> bool
         requires { bank < 8 }
-        ensures { result ≡ (is_listed self.now (ram_place bank src)
+        ensures { result ≡ (is_listed self.now (ram_index bank src)
             || nat_lt (length self.now) WATCHES) }
     {
-        self.contains(bank, src) || self.places.list().len() < WATCHES
+        self.contains(bank, src) || self.indices.list().len() < WATCHES
     }
 
     /// Watches a character.
     pub(crate) fn set(&mut self, bank: u8, src: u8)
         requires bank { bank < 8 }
         requires src { src < 256 }
-        requires room { (is_listed self.old (ram_place bank src)
+        requires room { (is_listed self.old (ram_index bank src)
             || nat_lt (length self.old) WATCHES) ≡ true }
-        ensures { self.new ≡ with_listed self.old (ram_place bank src) }
+        ensures { self.new ≡ with_listed self.old (ram_index bank src) }
     {
-        self.places.set(place_of(bank, src));
+        self.indices.set(index_of(bank, src));
     }
 
     /// Watches it no more.
     pub(crate) fn clear(&mut self, bank: u8, src: u8)
         requires { bank < 8 }
-        ensures { self.new ≡ without_listed self.old (ram_place bank src) }
+        ensures { self.new ≡ without_listed self.old (ram_index bank src) }
     {
-        self.places.clear(place_of(bank, src));
+        self.indices.clear(index_of(bank, src));
     }
 
-    /// A law: they are at most that many, each a place, rising.
+    /// A law: they are at most that many, each an index, rising.
     pub(crate) fn show_state_is_valid(&self)
         ensures { AreWatches self.now }
     {
-        let _places = self.places.list();
+        let _indices = self.indices.list();
     }
 }

@@ -12,7 +12,7 @@ use Rattle.mcs_model.specs.declared.board.BoardParts.{BoardParts}
 use Rattle.mcs_model.specs.declared.board.ChainPart.{ChainPart}
 use Rattle.mcs_model.specs.Boards.{masks_on, chain_count, chain_bits, no_chain, key_count, empty_parts}
 use Rattle.mcs_model.specs.Bus.{zero_bus}
-use Rattle.mcs_model.specs.Places.{kept_rom, blank_chains, after_reset, after_wire}
+use Rattle.mcs_model.specs.ChipWrites.{kept_rom, blank_chains, after_reset, after_wire}
 use Rattle.mcs_keypad.specs.Keys.{KeyState, no_matrix}
 use Rattle.mcs_board.specs.RigState.{RigParts, matrix_on, no_bank, bytes_of_rom, port_of_rom, masks_of_rom, wired_chains, rig_of, Fitted}
 use Rattle.mcs_board.proofs.RigLemmas.{byte-of}
@@ -158,8 +158,8 @@ reset-state p roms banks chains wired every blank fit rows =
     rw (bytes, z.ram, z.status, z.ports, ports, z.src, cs) refl
 
 -- the chips of a rig fit its board after a reset
-pub reset-fitted : (p : RigParts) (roms : List (Option RomState)) (banks : List BankState) (chains : List (List ℕ)) (rom_places bank_places chain_places : ℕ) → Fitted p rom_places bank_places chain_places → length roms ≡ length p.roms → length banks ≡ length p.banks → length chains ≡ length p.chains → ((k : ℕ) → get_or roms k None ≡ rom_after_reset (get_or p.roms k None)) → AllBlank banks (λ k. (get_or p.banks k no_bank).wired) → ((k : ℕ) → k < chain_count p.board → get_or chains k [] ≡ replicate (chain_bits p.board k) 0) → Fitted (record p { roms = roms; banks = banks; chains = chains; rom_src = 0 }) rom_places bank_places chain_places
-reset-fitted p roms banks chains rom_places bank_places chain_places v rl bl cl every blank rows = record {
+pub reset-fitted : (p : RigParts) (roms : List (Option RomState)) (banks : List BankState) (chains : List (List ℕ)) (rom_sockets bank_sockets chain_sockets : ℕ) → Fitted p rom_sockets bank_sockets chain_sockets → length roms ≡ length p.roms → length banks ≡ length p.banks → length chains ≡ length p.chains → ((k : ℕ) → get_or roms k None ≡ rom_after_reset (get_or p.roms k None)) → AllBlank banks (λ k. (get_or p.banks k no_bank).wired) → ((k : ℕ) → k < chain_count p.board → get_or chains k [] ≡ replicate (chain_bits p.board k) 0) → Fitted (record p { roms = roms; banks = banks; chains = chains; rom_src = 0 }) rom_sockets bank_sockets chain_sockets
+reset-fitted p roms banks chains rom_sockets bank_sockets chain_sockets v rl bl cl every blank rows = record {
   roms_len = rl ∙ v.roms_len;
   banks_len = bl ∙ v.banks_len;
   chains_len = cl ∙ v.chains_len;
@@ -178,8 +178,8 @@ reset-fitted p roms banks chains rom_places bank_places chain_places v rl bl cl 
 }
 
 -- the chips of a rig fit the board that it was put on
-pub wire-fitted : (old new : RigParts) (rom_places bank_places chain_places chain_size : ℕ) → FitsCounts new.board rom_places bank_places chain_places chain_size → length new.roms ≡ rom_places → length new.banks ≡ bank_places → length new.chains ≡ chain_places → old.program ≡ flat_rows 16 256 bytes_of_rom None old.roms → IsRewired old new → Fitted new rom_places bank_places chain_places
-wire-fitted old new rom_places bank_places chain_places chain_size fits rl bl cl copied w = record {
+pub wire-fitted : (old new : RigParts) (rom_sockets bank_sockets chain_sockets chain_size : ℕ) → FitsCounts new.board rom_sockets bank_sockets chain_sockets chain_size → length new.roms ≡ rom_sockets → length new.banks ≡ bank_sockets → length new.chains ≡ chain_sockets → old.program ≡ flat_rows 16 256 bytes_of_rom None old.roms → IsRewired old new → Fitted new rom_sockets bank_sockets chain_sockets
+wire-fitted old new rom_sockets bank_sockets chain_sockets chain_size fits rl bl cl copied w = record {
   roms_len = rl;
   banks_len = bl;
   chains_len = cl;
@@ -213,42 +213,42 @@ no-wired n k =
 
 -- what a new rig keeps
 abbrev pub new_parts : ℕ → ℕ → ℕ → RigParts
-new_parts rom_places bank_places chain_places = record {
+new_parts rom_sockets bank_sockets chain_sockets = record {
   board = empty_parts;
-  roms = replicate rom_places None;
+  roms = replicate rom_sockets None;
   program = replicate 4096 0;
-  banks = replicate bank_places (blank_bank 0);
-  chains = replicate chain_places [];
+  banks = replicate bank_sockets (blank_bank 0);
+  chains = replicate chain_sockets [];
   keys = record { matrix = no_matrix; down = replicate 0 0 };
   rom_src = 0;
   test = 1;
 }
 
-no-bytes : (rom_places : ℕ) → flat_rows 16 256 bytes_of_rom None (replicate rom_places None) ≡ replicate 4096 0
-no-bytes rom_places = blank-flat 16 256 bytes_of_rom None (replicate rom_places None) (λ i k. ap (λ r. slice_index (bytes_of_rom r) k) (same-all rom_places i None))
+no-bytes : (rom_sockets : ℕ) → flat_rows 16 256 bytes_of_rom None (replicate rom_sockets None) ≡ replicate 4096 0
+no-bytes rom_sockets = blank-flat 16 256 bytes_of_rom None (replicate rom_sockets None) (λ i k. ap (λ r. slice_index (bytes_of_rom r) k) (same-all rom_sockets i None))
 
 -- the places of a new rig fit the empty board
-pub new-fitted : (rom_places bank_places chain_places : ℕ) → Fitted (new_parts rom_places bank_places chain_places) rom_places bank_places chain_places
-new-fitted rom_places bank_places chain_places = record {
-  roms_len = length-replicate rom_places None;
-  banks_len = length-replicate bank_places (blank_bank 0);
-  chains_len = length-replicate chain_places [];
+pub new-fitted : (rom_sockets bank_sockets chain_sockets : ℕ) → Fitted (new_parts rom_sockets bank_sockets chain_sockets) rom_sockets bank_sockets chain_sockets
+new-fitted rom_sockets bank_sockets chain_sockets = record {
+  roms_len = length-replicate rom_sockets None;
+  banks_len = length-replicate bank_sockets (blank_bank 0);
+  chains_len = length-replicate chain_sockets [];
   matrix = refl;
   keys_len = refl;
   chains_fit = omega arith;
-  program = sym (no-bytes rom_places);
-  masks = λ k. ap masks_of_rom (same-all rom_places k None) ∙ sym (same-all 16 k None);
-  wired = λ k. no-wired bank_places k ∙ sym (slice_index-zeros 8 k);
+  program = sym (no-bytes rom_sockets);
+  masks = λ k. ap masks_of_rom (same-all rom_sockets k None) ∙ sym (same-all 16 k None);
+  wired = λ k. no-wired bank_sockets k ∙ sym (slice_index-zeros 8 k);
   bits = λ i h. absurd (omega arith);
   src = omega arith;
 }
 
 -- the state of a new rig
-pub new-state : (rom_places bank_places chain_places : ℕ) → rig_of (new_parts rom_places bank_places chain_places) ≡ record zero_bus { test = 1 }
+pub new-state : (rom_sockets bank_sockets chain_sockets : ℕ) → rig_of (new_parts rom_sockets bank_sockets chain_sockets) ≡ record zero_bus { test = 1 }
 unfolding zero_bus table_of
-new-state rom_places bank_places chain_places =
-    let blank : AllBlank (replicate bank_places (blank_bank 0)) (λ _. 0) = record { at = λ k h. let l = length-replicate bank_places (blank_bank 0) in get_or-replicate bank_places k (blank_bank 0) no_bank (omega arith) } in
-    let z = blank-zeros (replicate bank_places (blank_bank 0)) (λ _. 0) blank in
-    let bytes = no-bytes rom_places in
-    let ports = ports-blank (replicate rom_places None) (λ k. ap port_of_rom (same-all rom_places k None)) in
+new-state rom_sockets bank_sockets chain_sockets =
+    let blank : AllBlank (replicate bank_sockets (blank_bank 0)) (λ _. 0) = record { at = λ k h. let l = length-replicate bank_sockets (blank_bank 0) in get_or-replicate bank_sockets k (blank_bank 0) no_bank (omega arith) } in
+    let z = blank-zeros (replicate bank_sockets (blank_bank 0)) (λ _. 0) blank in
+    let bytes = no-bytes rom_sockets in
+    let ports = ports-blank (replicate rom_sockets None) (λ k. ap port_of_rom (same-all rom_sockets k None)) in
     rw (bytes, z.ram, z.status, z.ports, ports, z.src) refl

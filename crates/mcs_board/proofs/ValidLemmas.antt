@@ -70,8 +70,8 @@ module _ (banks : List BankState) (valid : (k : ℕ) → k < length banks → Is
 
 -- ---- the whole
 
-pub valid-state : (p : RigParts) (rom_places bank_places chain_places : ℕ) → IsValidBoard p.board → Fitted p rom_places bank_places chain_places → AreValidChips p → ((i : ℕ) → i < chain_count p.board → All (λ bit. bit < 2) (get_or (wired_chains p.board p.chains) i [])) → All (λ key. key < 2) p.keys.down → p.test < 2 → IsValidBus (rig_of p)
-valid-state p rom_places bank_places chain_places board v chips bits keys test =
+pub valid-state : (p : RigParts) (rom_sockets bank_sockets chain_sockets : ℕ) → IsValidBoard p.board → Fitted p rom_sockets bank_sockets chain_sockets → AreValidChips p → ((i : ℕ) → i < chain_count p.board → All (λ bit. bit < 2) (get_or (wired_chains p.board p.chains) i [])) → All (λ key. key < 2) p.keys.down → p.test < 2 → IsValidBus (rig_of p)
+valid-state p rom_sockets bank_sockets chain_sockets board v chips bits keys test =
     let roms = rom_valid p.roms chips.roms in
     let bank = at_bank p.banks chips.banks in
     record {

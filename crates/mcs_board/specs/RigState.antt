@@ -13,7 +13,7 @@ use Rattle.mcs_model.specs.declared.board.BoardParts.{BoardParts}
 use Rattle.mcs_model.specs.declared.board.KeyMatrix.{KeyMatrix}
 use Rattle.mcs_model.specs.Boards.{masks_on, chain_count, chain_bits, key_count}
 use Rattle.mcs_model.specs.Bus.{BusState, with_ram, with_status}
-use Rattle.mcs_model.specs.Places.{with_ram_latch, with_ram_src}
+use Rattle.mcs_model.specs.ChipWrites.{with_ram_latch, with_ram_src}
 
 -- what is read where a bank, or a ROM, is absent: nothing but 0
 abbrev pub no_bank : BankState
@@ -39,7 +39,7 @@ wired_chains b chains = table_of (chain_count b) (λ i. slice_index_or chains i 
 abbrev pub matrix_on : BoardParts → KeyMatrix
 matrix_on b = elim b.keys [ Some m ↦ m | None ↦ no_matrix ]
 
--- what a rig keeps: a board, and a place for each chip that may be on it
+-- what a rig keeps: a board, and a socket for each chip that may be on it
 pub record RigParts : Type 0 where
   pub board : BoardParts
   pub roms : List (Option RomState)
@@ -67,16 +67,16 @@ rig_of p = record {
   test = p.test;
 }
 
--- the chips are those of the board: that many places for each kind of chip, the board's ROMs with
--- their masks, that many chips in each bank, each of the board's chains with its bits, and a place
+-- the chips are those of the board: that many sockets for each kind of chip, the board's ROMs with
+-- their masks, that many chips in each bank, each of the board's chains with its bits, and a bit
 -- for each key; the program is what the ROMs hold
-pub record Fitted (p : RigParts) (rom_places bank_places chain_places : ℕ) : Type 0 where
-  pub roms_len : length p.roms ≡ rom_places
-  pub banks_len : length p.banks ≡ bank_places
-  pub chains_len : length p.chains ≡ chain_places
+pub record Fitted (p : RigParts) (rom_sockets bank_sockets chain_sockets : ℕ) : Type 0 where
+  pub roms_len : length p.roms ≡ rom_sockets
+  pub banks_len : length p.banks ≡ bank_sockets
+  pub chains_len : length p.chains ≡ chain_sockets
   pub matrix : p.keys.matrix ≡ matrix_on p.board
   pub keys_len : length p.keys.down ≡ key_count p.board
-  pub chains_fit : chain_count p.board ≤ chain_places
+  pub chains_fit : chain_count p.board ≤ chain_sockets
   pub program : p.program ≡ flat_rows 16 256 bytes_of_rom None p.roms
   pub masks : (k : ℕ) → masks_of_rom (slice_index_or p.roms k None) ≡ masks_on p.board k
   pub wired : (k : ℕ) → (slice_index_or p.banks k no_bank).wired ≡ slice_index p.board.banks k

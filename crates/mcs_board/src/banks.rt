@@ -2,8 +2,8 @@
 //! place alone and clocks nothing.
 ghost use Rattle.std.specs.Prelude.{◌≡◌, ℕ, ◌+◌, ◌*◌, ◌<◌, ◌≤◌, ◌↔◌, IsTrue, length, replicate, IfOk, slice_index, slice_index_or};
 ghost use Rattle.mcs_ram4002.specs.RamBank.{IsInBank, IsValidBank, blank_bank};
-ghost use Rattle.mcs_model.specs.Bus.{ram_place, ram_port_place, status_place, with_ram, with_status};
-ghost use Rattle.mcs_model.specs.Places.{with_ram_latch, with_ram_src};
+ghost use Rattle.mcs_model.specs.Bus.{ram_index, ram_port_index, status_index, with_ram, with_status};
+ghost use Rattle.mcs_model.specs.ChipWrites.{with_ram_latch, with_ram_src};
 ghost use Rattle.mcs_board.specs.RigState.{after_bank_write, no_bank};
 
 use crate::rig::Rig;
@@ -37,12 +37,12 @@ fn chips_of(board: &Board, i: usize) -> usize
     }
 }
 
-/// Whether the board has no chips in banks beyond the first `places`.
-pub(crate) fn banks_fit(board: &Board, places: usize) -> bool
-    ensures { IsTrue result ↔ ((k : ℕ) → places ≤ k → slice_index board.now.banks k ≡ 0) }
+/// Whether the board has no chips in banks beyond the first `sockets`.
+pub(crate) fn banks_fit(board: &Board, sockets: usize) -> bool
+    ensures { IsTrue result ↔ ((k : ℕ) → sockets ≤ k → slice_index board.now.banks k ≡ 0) }
 {
     let _parts = board.parts();
-    for i in places..limits::BANKS {
+    for i in sockets..limits::BANKS {
         if chips_of(board, i) > 0 {
             return false;
         }
@@ -103,7 +103,7 @@ impl<const ROMS: usize, const BANKS: usize, const CHAINS: usize, const MAX: usiz
     #[inline(always)]
     fn store(&mut self, bank: u8, write: BankWrite)
         requires bank { bank < 8 }
-        requires place { IsInBank write }
+        requires inside { IsInBank write }
         ensures { self.new ≡ after_bank_write self.old bank write }
     {
         let at = usize::from(bank);
@@ -115,7 +115,7 @@ impl<const ROMS: usize, const BANKS: usize, const CHAINS: usize, const MAX: usiz
     /// The RAM character of a bank, 0 to 7, and an SRC byte; 0 where the chip is absent.
     pub fn ram(&self, bank: u8, src: u8) -> Nibble
         requires { bank < 8 }
-        ensures { result ≡ slice_index self.now.ram (ram_place bank src) }
+        ensures { result ≡ slice_index self.now.ram (ram_index bank src) }
     {
         let at = usize::from(bank);
         if at < self.banks.len() {
@@ -138,7 +138,7 @@ impl<const ROMS: usize, const BANKS: usize, const CHAINS: usize, const MAX: usiz
     pub fn status(&self, bank: u8, high: Nibble, k: u8) -> Nibble
         requires bank { bank < 8 }
         requires k { k < 4 }
-        ensures { result ≡ slice_index self.now.status (status_place bank high k) }
+        ensures { result ≡ slice_index self.now.status (status_index bank high k) }
     {
         let at = usize::from(bank);
         if at < self.banks.len() {
@@ -162,7 +162,7 @@ impl<const ROMS: usize, const BANKS: usize, const CHAINS: usize, const MAX: usiz
     pub fn ram_latch(&self, bank: u8, chip: u8) -> Nibble
         requires bank { bank < 8 }
         requires chip { chip < 4 }
-        ensures { result ≡ slice_index self.now.ram_ports (ram_port_place bank chip) }
+        ensures { result ≡ slice_index self.now.ram_ports (ram_port_index bank chip) }
     {
         let at = usize::from(bank);
         if at < self.banks.len() {

@@ -7,16 +7,16 @@ ghost use Rattle.mcs_board.specs.Fitting.{FitsCounts};
 use crate::rig::Rig;
 use mcs_cpu4004::{Cpu, Cycle};
 use mcs_model::board::Board;
-use mcs_model::limits::{BANKS, CHAIN_PLACES, CHAINS, ROMS};
+use mcs_model::limits::{BANKS, CHAIN_SOCKETS, CHAINS, ROMS};
 use mcs_model::op::Op;
 use mcs_nibble::Addr;
 
 /// A rig that every board fits.
-pub type BenchRig = Rig<ROMS, BANKS, CHAINS, CHAIN_PLACES>;
+pub type BenchRig = Rig<ROMS, BANKS, CHAINS, CHAIN_SOCKETS>;
 
 /// A law: every board fits the bench's rig.
 pub fn every_board_fits_the_bench(board: &Board)
-    ensures { FitsCounts board.now ROMS BANKS CHAINS CHAIN_PLACES }
+    ensures { FitsCounts board.now ROMS BANKS CHAINS CHAIN_SOCKETS }
 {
     let _parts = board.parts();
 }

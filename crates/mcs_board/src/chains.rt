@@ -2,7 +2,7 @@
 ghost use Rattle.std.specs.Prelude.{◌≡◌, ℕ, ◌<◌, ◌≤◌, ◌↔◌, All, IsTrue, length, replicate, [], IfOk, slice_index_or};
 ghost use Rattle.mcs_model.specs.Boards.{chain_bits, chain_count};
 ghost use Rattle.mcs_model.specs.Levels.{chain_bit};
-ghost use Rattle.mcs_model.specs.Places.{with_chain_bit};
+ghost use Rattle.mcs_model.specs.ChipWrites.{with_chain_bit};
 
 use crate::rig::Rig;
 use mcs_model::board::Board;
@@ -131,14 +131,14 @@ impl<const ROMS: usize, const BANKS: usize, const CHAINS: usize, const MAX: usiz
         if n >= self.board.chain_count() {
             return;
         }
-        // That there is memory for all places bounds the size of one, which `set_bit` asks for.
+        // That there is memory for all sockets bounds the size of one, which `set_bit` asks for.
         let chains = self.chains.as_slice();
-        let _places = chains.len();
-        let place = usize::from(i);
-        if place >= usize::from(self.board.chain(n).bits()) {
+        let _sockets = chains.len();
+        let index = usize::from(i);
+        if index >= usize::from(self.board.chain(n).bits()) {
             return;
         }
-        self.chains[n].set_bit(place, bit);
+        self.chains[n].set_bit(index, bit);
     }
 
     /// A law: each bit of the board's chains is 0 or 1.

@@ -1,7 +1,7 @@
 //! The rig: the chips on a board, as the processor's bus.
 //!
 //! A `Rig` holds the ROMs, RAM banks, shift chains and keys of a board, and is seen as one flat state. The counts of
-//! its places are its parameters; every board that fits them can be wired to it.
+//! its sockets are its parameters; every board that fits them can be wired to it.
 //! Source: Intel MCS-4 Users Manual, the chips; what it leaves open is said beside the definitions in `mcs_model`.
 #![tactic(auto)]
 

@@ -2,7 +2,7 @@
 
 ghost use Rattle.std.specs.Prelude.{◌≡◌, ◌↔◌, IfOk, IsTrue};
 ghost use Rattle.mcs_model.specs.Bus.{zero_bus};
-ghost use Rattle.mcs_model.specs.Places.{after_reset, after_wire};
+ghost use Rattle.mcs_model.specs.ChipWrites.{after_reset, after_wire};
 ghost use Rattle.mcs_model.specs.Validity.{IsValidBus};
 ghost use Rattle.mcs_board.specs.Fitting.{FitsCounts};
 
@@ -36,7 +36,7 @@ impl<const ROMS: usize, const BANKS: usize, const CHAINS: usize, const MAX: usiz
     ///
     /// # Errors
     ///
-    /// Where memory for the places of its chips and for their program is refused, or where one chain would not fit any
+    /// Where memory for the sockets of its chips and for their program is refused, or where one chain would not fit any
     /// memory. No other call of a rig takes memory.
     pub fn new(alloc: Global) -> Result<Self, AllocError>
         ensures { IfOk result (λ rig. rig ≡ record zero_bus { test = 1 }) }
@@ -60,7 +60,7 @@ impl<const ROMS: usize, const BANKS: usize, const CHAINS: usize, const MAX: usiz
     ///
     /// # Errors
     ///
-    /// Where memory for the places of its chips and for their program is refused, or where one chain would not fit any
+    /// Where memory for the sockets of its chips and for their program is refused, or where one chain would not fit any
     /// memory, of which no rig is made.
     pub fn copy(&self, alloc: Global) -> Result<Self, AllocError>
         ensures { IfOk result (λ rig. rig ≡ self.now) }
@@ -92,7 +92,7 @@ impl<const ROMS: usize, const BANKS: usize, const CHAINS: usize, const MAX: usiz
         self.keys = keys_of(board);
         self.rom_src = 0;
         self.board = board.copy();
-        // A rig without a place for a chain has none to put on the board.
+        // A rig without a socket for a chain has none to put on the board.
         if self.chains.as_slice().is_empty() {
             return;
         }
@@ -107,7 +107,7 @@ impl<const ROMS: usize, const BANKS: usize, const CHAINS: usize, const MAX: usiz
         clear_ports(&mut self.roms);
         clear_banks(&mut self.banks);
         self.rom_src = 0;
-        // A rig without a place for a chain has none to clear.
+        // A rig without a socket for a chain has none to clear.
         if self.chains.as_slice().is_empty() {
             return;
         }

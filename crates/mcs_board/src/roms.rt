@@ -3,7 +3,7 @@
 ghost use Rattle.std.specs.Prelude.{◌≡◌, ℕ, ◌<◌, ◌≤◌, ◌↔◌, IsTrue, length, replicate, None, IfOk, IfSome, slice_index, slice_index_or};
 ghost use Rattle.mcs_rom4001.specs.Roms.{IsValidRom};
 ghost use Rattle.mcs_model.specs.Boards.{masks_on};
-ghost use Rattle.mcs_model.specs.Places.{kept_rom, with_rom_byte, with_rom_latch};
+ghost use Rattle.mcs_model.specs.ChipWrites.{kept_rom, with_rom_byte, with_rom_latch};
 ghost use Rattle.mcs_board.specs.Fitting.{rom_after_wire, rom_after_reset};
 ghost use Rattle.mcs_board.specs.RigState.{port_of_rom};
 
@@ -14,7 +14,7 @@ use mcs_nibble::{Addr, LineMask, Nibble};
 use mcs_rom4001::Rom;
 use std::alloc::{AllocError, Global};
 
-/// That many places for ROMs, none of them there.
+/// That many sockets for ROMs, all empty.
 pub(crate) fn no_roms(alloc: Global, count: usize) -> Result<Vec<Option<Rom>>, AllocError>
     ensures { IfOk result (λ roms. roms.items ≡ replicate count None) }
 {
@@ -48,12 +48,12 @@ fn mask_of(board: &Board, i: usize) -> Option<[LineMask; 4]>
     }
 }
 
-/// Whether the board has no ROM beyond the first `places`.
-pub(crate) fn roms_fit(board: &Board, places: usize) -> bool
-    ensures { IsTrue result ↔ ((k : ℕ) → places ≤ k → masks_on board.now k ≡ None) }
+/// Whether the board has no ROM beyond the first `sockets`.
+pub(crate) fn roms_fit(board: &Board, sockets: usize) -> bool
+    ensures { IsTrue result ↔ ((k : ℕ) → sockets ≤ k → masks_on board.now k ≡ None) }
 {
     let _parts = board.parts();
-    for i in places..limits::ROMS {
+    for i in sockets..limits::ROMS {
         if mask_of(board, i).is_some() {
             return false;
         }
@@ -61,7 +61,7 @@ pub(crate) fn roms_fit(board: &Board, places: usize) -> bool
     true
 }
 
-/// Puts a ROM's place on a new board, of which `mask` has the ROM's masks if it is there.
+/// Puts a ROM's socket on a new board, of which `mask` has the ROM's masks if it is there.
 fn rewire_rom(rom: &mut Option<Rom>, mask: Option<[LineMask; 4]>)
     ensures { rom.new ≡ rom_after_wire mask rom.old }
 {
@@ -119,7 +119,7 @@ pub(crate) fn clear_ports(roms: &mut Vec<Option<Rom>>)
     }
 }
 
-/// An equal place of a ROM.
+/// An equal socket of a ROM.
 fn copied_rom(rom: &Option<Rom>) -> Option<Rom>
     ensures { result ≡ rom.now }
 {
@@ -129,7 +129,7 @@ fn copied_rom(rom: &Option<Rom>) -> Option<Rom>
     }
 }
 
-/// Equal places of the ROMs.
+/// Equal sockets of the ROMs.
 pub(crate) fn copied_roms(
     alloc: Global,
     roms: &Vec<Option<Rom>>,
@@ -143,7 +143,7 @@ pub(crate) fn copied_roms(
     Ok(copy)
 }
 
-/// A law: a ROM's place is empty, or its ROM is valid.
+/// A law: a ROM's socket is empty, or its ROM is valid.
 fn rom_is_valid(rom: &Option<Rom>)
     ensures { IfSome rom.now IsValidRom }
 {

@@ -1,4 +1,4 @@
--- The law of an image: a map of its addresses, and its bytes.
+-- The law of an image: marks of its addresses, and its bytes.
 use Rattle.std.proofs.Common.{◌≡◌, ℕ, zero, suc, ◌+◌, ◌*◌, ◌/◌, ◌%◌, ◌^◌, ◌<◌, ◌≤◌, Bool, true, false, cond, eqb, List, [], ◌∷◌, ◌++◌, length, get_or, slice_set, take, get_or-set_other, map, refl, sym, ap, ◌∙◌, arith, inl, inr, ◌⊎◌}
 use Rattle.std.specs.Prelude.{◌||◌, ◌≢◌}
 use Rattle.std.specs.List.{list_any, All}
@@ -13,8 +13,8 @@ use Rattle.mcs_nibble.specs.Bits.{bit_of}
 use Rattle.mcs_nibble.specs.Tables.{table_of}
 use Rattle.mcs_nibble.proofs.TabledLemmas.{tabled_from, get_or-tabled, length-tabled}
 use Rattle.mcs_model.specs.Images.{IsImage}
-use Rattle.mcs_codec.specs.CommandBytes.{mark, byte_of, map_bytes, image_bytes, values}
-use Rattle.mcs_codec.specs.CommandReading.{map_bit_at, addressed_at, image_at}
+use Rattle.mcs_codec.specs.CommandBytes.{mark, byte_of, mark_bytes, image_bytes, values}
+use Rattle.mcs_codec.specs.CommandReading.{mark_bit, addressed_at, image_at}
 use Rattle.mcs_codec.proofs.Codecs.{AreCells, IsCodec, byte_codec, cells_codec, last, next, no_step, tail, giving_codec, refit_codec}
 
 -- by rising address from one on, below a limit
@@ -22,9 +22,9 @@ abbrev pub AreFrom : ℕ → ℕ → List (ℕ × ℕ) → Type 0
 AreFrom low limit [] = Unit {0}
 AreFrom low limit (p ∷ image) = (low ≤ p.0) × (p.0 < limit) × (p.1 < 256) × AreFrom (p.0 + 1) limit image
 
--- the map has exactly the addresses of the image, from one on, that many
+-- the marks have exactly the addresses of the image, from one on, that many
 abbrev pub IsMarked : List ℕ → ℕ → ℕ → List (ℕ × ℕ) → Type 0
-IsMarked marks at limit image = (x : ℕ) → at ≤ x → x < limit → mark image x ≡ map_bit_at marks x
+IsMarked marks at limit image = (x : ℕ) → at ≤ x → x < limit → mark image x ≡ mark_bit marks x
 
 unequal : (a x : ℕ) → a < x → eqb a x ≡ false
 unequal a x lt = grind (arith, nat_tests)
@@ -49,8 +49,8 @@ from_lower : (image : List (ℕ × ℕ)) (low limit : ℕ) → AreFrom (low + 1)
 from_lower [] low limit h = tt
 from_lower (p ∷ image) low limit h = (omega (arith, h.0), h.1, h.2, h.3)
 
-bit_cases : (marks : List ℕ) (at : ℕ) → (map_bit_at marks at ≡ 1) ⊎ (map_bit_at marks at ≡ 0)
-unfolding map_bit_at
+bit_cases : (marks : List ℕ) (at : ℕ) → (mark_bit marks at ≡ 1) ⊎ (mark_bit marks at ≡ 0)
+unfolding mark_bit
 bit_cases marks at =
     let n = get_or marks (at / 8) 0 / 2 ^ (at % 8) in
     let lt : n % 2 < 2 = omega arith in
@@ -68,24 +68,24 @@ none_read marks at limit [] le h = (tt, refl, tt)
 none_read marks at limit (p ∷ image) le h = absurd (omega (arith, h.0.0, h.0.1))
 
 -- an address that has a mark
-some_read : (marks : List ℕ) (at limit : ℕ) (p : ℕ × List (ℕ × ℕ)) → at < limit → map_bit_at marks at ≡ 1 → (p.0 < 256) × IsRead marks (at + 1) limit p.1 → IsRead marks at limit ((at, p.0) ∷ p.1)
+some_read : (marks : List ℕ) (at limit : ℕ) (p : ℕ × List (ℕ × ℕ)) → at < limit → mark_bit marks at ≡ 1 → (p.0 < 256) × IsRead marks (at + 1) limit p.1 → IsRead marks at limit ((at, p.0) ∷ p.1)
 some_read marks at limit p lt one h = (
   (omega arith, lt, h.0, h.1.0),
   λ v le below. elim (above at v le) [
     | inl more ↦ later_mark (at, p.0) p.1 v more ∙ h.1.1 v (omega arith) below
-    | inr is ↦ own_mark (at, p.0) p.1 v (sym is) ∙ sym one ∙ ap (map_bit_at marks) (sym is)
+    | inr is ↦ own_mark (at, p.0) p.1 v (sym is) ∙ sym one ∙ ap (mark_bit marks) (sym is)
   ],
 )
 
-read_some : (marks : List ℕ) (at limit : ℕ) (image : List (ℕ × ℕ)) → at < limit → map_bit_at marks at ≡ 1 → IsRead marks at limit image → (p : ℕ × List (ℕ × ℕ)) × ((at, p.0) ∷ p.1 ≡ image) × ((p.0 < 256) × IsRead marks (at + 1) limit p.1)
-read_some marks at limit [] lt one h = absurd (zero_one (map_bit_at marks at) (sym (h.1 at (omega arith) lt)) one)
+read_some : (marks : List ℕ) (at limit : ℕ) (image : List (ℕ × ℕ)) → at < limit → mark_bit marks at ≡ 1 → IsRead marks at limit image → (p : ℕ × List (ℕ × ℕ)) × ((at, p.0) ∷ p.1 ≡ image) × ((p.0 < 256) × IsRead marks (at + 1) limit p.1)
+read_some marks at limit [] lt one h = absurd (zero_one (mark_bit marks at) (sym (h.1 at (omega arith) lt)) one)
 read_some marks at limit (p ∷ image) lt one h = elim (above at p.0 h.0.0) [
-  | inl more ↦ absurd (zero_one (map_bit_at marks at) (sym (h.1 at (omega arith) lt) ∙ no_mark (p ∷ image) p.0 limit at (omega arith, h.0.1, h.0.2, h.0.3) more) one)
+  | inl more ↦ absurd (zero_one (mark_bit marks at) (sym (h.1 at (omega arith) lt) ∙ no_mark (p ∷ image) p.0 limit at (omega arith, h.0.1, h.0.2, h.0.3) more) one)
   | inr is ↦ ((p.1, image), ap (λ n. (n, p.1) ∷ image) (sym is), (h.0.2, (rw is at h.0.3, λ v le below. sym (later_mark p image v (omega arith)) ∙ h.1 v (omega arith) below)))
 ]
 
 -- an address that has none
-one_passed : (marks : List ℕ) (at limit : ℕ) (image : List (ℕ × ℕ)) → map_bit_at marks at ≡ 0 → IsRead marks (at + 1) limit image → IsRead marks at limit image
+one_passed : (marks : List ℕ) (at limit : ℕ) (image : List (ℕ × ℕ)) → mark_bit marks at ≡ 0 → IsRead marks (at + 1) limit image → IsRead marks at limit image
 one_passed marks at limit image none h = (
   from_lower image at limit h.0,
   λ v le below. elim (above at v le) [
@@ -94,7 +94,7 @@ one_passed marks at limit image none h = (
   ],
 )
 
-pass_one : (marks : List ℕ) (at limit : ℕ) (image : List (ℕ × ℕ)) → at < limit → map_bit_at marks at ≡ 0 → IsRead marks at limit image → IsRead marks (at + 1) limit image
+pass_one : (marks : List ℕ) (at limit : ℕ) (image : List (ℕ × ℕ)) → at < limit → mark_bit marks at ≡ 0 → IsRead marks at limit image → IsRead marks (at + 1) limit image
 pass_one marks at limit [] lt none h = (tt, λ v le below. h.1 v (omega arith) below)
 pass_one marks at limit (p ∷ image) lt none h = elim (above at p.0 h.0.0) [
   | inl more ↦ ((omega arith, h.0.1, h.0.2, h.0.3), λ v le below. h.1 v (omega arith) below)
@@ -130,18 +130,18 @@ bit_of_byte f (suc (suc (suc (suc (suc (suc (suc (suc k)))))))) small lt = absur
 mark_small : (image : List (ℕ × ℕ)) (x : ℕ) → mark image x < 2
 mark_small image x = elim (list_any (λ p. eqb p.0 x) image) as (λ b. cond b 1 0 < 2) [ true ↦ omega arith | false ↦ omega arith ]
 
--- ---- the map of an image
+-- ---- the marks of an image
 
 same_bit : (marks : List ℕ) (image : List (ℕ × ℕ)) (i k : ℕ) → IsMarked marks 0 4096 image → i < 512 → k < 8 → mark image (8 * i + k) ≡ bit_of (get_or marks i 0) k
-unfolding map_bit_at
+unfolding mark_bit
 same_bit marks image i k m lt small =
     let here : mark image (8 * i + k) ≡ bit_of (get_or marks ((8 * i + k) / 8) 0) ((8 * i + k) % 8) = m (8 * i + k) (omega arith) (omega arith) in
     let q : (8 * i + k) / 8 ≡ i = omega arith in
     let r : (8 * i + k) % 8 ≡ k = omega arith in
     here ∙ ap (λ j. bit_of (get_or marks j 0) ((8 * i + k) % 8)) q ∙ ap (bit_of (get_or marks i 0)) r
 
-same_map : (marks : List ℕ) (image : List (ℕ × ℕ)) → AreCells 512 256 marks → IsMarked marks 0 4096 image → map_bytes image ≡ marks
-unfolding map_bytes
+same_map : (marks : List ℕ) (image : List (ℕ × ℕ)) → AreCells 512 256 marks → IsMarked marks 0 4096 image → mark_bytes image ≡ marks
+unfolding mark_bytes
 same_map marks image c m = sym (tabled_from 512 (λ i. byte_of (λ k. mark image (8 * i + k))) marks 0 c.len (λ i lt.
     let b = λ (k : ℕ) (small : k < 8). same_bit marks image i k m lt small in
     let n = get_or marks i 0 in
@@ -149,8 +149,8 @@ same_map marks image c m = sym (tabled_from 512 (λ i. byte_of (λ k. mark image
     let bits : byte_of (λ k. mark image (8 * i + k)) ≡ byte_of (bit_of n) = rw (b 0 (omega arith), b 1 (omega arith), b 2 (omega arith), b 3 (omega arith), b 4 (omega arith), b 5 (omega arith), b 6 (omega arith), b 7 (omega arith)) refl in
     sym (bits ∙ byte_bits n fits)))
 
-map_marks : (image : List (ℕ × ℕ)) → IsMarked (map_bytes image) 0 4096 image
-unfolding map_bytes map_bit_at
+map_marks : (image : List (ℕ × ℕ)) → IsMarked (mark_bytes image) 0 4096 image
+unfolding mark_bytes mark_bit
 map_marks image x le lt =
     let f = λ (i : ℕ). byte_of (λ k. mark image (8 * i + k)) in
     let byte : get_or (table_of 512 f) (x / 8) 0 ≡ f (x / 8) = get_or-tabled 512 f (x / 8) 0 (omega arith) in
@@ -158,9 +158,9 @@ map_marks image x le lt =
     let whole : 8 * (x / 8) + x % 8 ≡ x = omega arith in
     sym (ap (λ b. bit_of b (x % 8)) byte ∙ bit ∙ ap (mark image) whole)
 
-map_cells : (image : List (ℕ × ℕ)) → AreCells 512 256 (map_bytes image)
-unfolding map_bytes
-map_cells image =
+mark_cells : (image : List (ℕ × ℕ)) → AreCells 512 256 (mark_bytes image)
+unfolding mark_bytes
+mark_cells image =
     let f = λ (i : ℕ). byte_of (λ k. mark image (8 * i + k)) in
     record {
       len = length-tabled 512 f;
@@ -176,7 +176,7 @@ unfolding image_at
 rising_codec = giving_codec (λ (p : List ℕ × List (ℕ × ℕ)). p.1) image_bytes (AreFrom 0 4096)
     (next _ (cells_codec 512) (λ marks _. tail (addressed_codec marks 4096 0 4096 refl)))
     (λ p h. (ap (λ (l : List ℕ). l ++ values p.1) (same_map p.0 p.1 h.0 h.1.1), h.1.0))
-    (λ image h. ((map_bytes image, image), refl, (map_cells image, (h, map_marks image))))
+    (λ image h. ((mark_bytes image, image), refl, (mark_cells image, (h, map_marks image))))
 
 -- ---- by element, and by two elements
 
@@ -217,7 +217,7 @@ few_addresses (p ∷ image) low limit le h =
 pub length-image : (image : List (ℕ × ℕ)) → IsImage image → length (image_bytes image) ≤ 4608
 length-image image h =
     let few = few_addresses image 0 4096 (omega arith) (from_image image 0 h (λ i d lt. omega arith)) in
-    omega (arith, few, (map_cells image).len, length-append (map_bytes image) (values image), length-map image (λ p. p.1))
+    omega (arith, few, (mark_cells image).len, length-append (mark_bytes image) (values image), length-map image (λ p. p.1))
 
 -- ---- one byte more
 
@@ -241,14 +241,14 @@ marks_go_on image marks i p a lt is same inside so_far at fits =
       | inr ne ↦ let other : eqb p.0 at ≡ false = let k : p.0 ≢ at = λ h. ne (sym (same ∙ h)) in grind (arith, nat_tests) in get_or-set_other marks a at 1 0 ne ∙ so_far at fits ∙ sym (one ∙ rw other refl)
     ]
 
--- ---- the map, byte by byte
+-- ---- the marks, byte by byte
 
 pub same_byte : (f g : ℕ → ℕ) → ((k : ℕ) → k < 8 → f k ≡ g k) → byte_of f ≡ byte_of g
 same_byte f g h = rw (h 0 (omega arith), h 1 (omega arith), h 2 (omega arith), h 3 (omega arith), h 4 (omega arith), h 5 (omega arith), h 6 (omega arith), h 7 (omega arith)) refl
 
-pub map_goes_on : (image : List (ℕ × ℕ)) (marks map : List ℕ) (i byte : ℕ) → i < 512 → length map ≡ 512 → ((at : ℕ) → at < 4096 → get_or marks at 0 ≡ mark image at) → byte ≡ byte_of (λ k. get_or marks (8 * i + k) 0)
+pub packing_goes_on : (image : List (ℕ × ℕ)) (marks map : List ℕ) (i byte : ℕ) → i < 512 → length map ≡ 512 → ((at : ℕ) → at < 4096 → get_or marks at 0 ≡ mark image at) → byte ≡ byte_of (λ k. get_or marks (8 * i + k) 0)
     → ((j : ℕ) → j < i → get_or map j 0 ≡ byte_of (λ k. mark image (8 * j + k))) → (j : ℕ) → j < i + 1 → get_or (slice_set map i byte) j 0 ≡ byte_of (λ k. mark image (8 * j + k))
-map_goes_on image marks map i byte lt len marked is so_far j below =
+packing_goes_on image marks map i byte lt len marked is so_far j below =
     elim (cases_eq j i) [
       | inl e ↦
           let here : byte ≡ byte_of (λ k. mark image (8 * i + k)) = is ∙ same_byte (λ k. get_or marks (8 * i + k) 0) (λ k. mark image (8 * i + k)) (λ k small. marked (8 * i + k) (omega arith)) in
@@ -256,6 +256,6 @@ map_goes_on image marks map i byte lt len marked is so_far j below =
       | inr ne ↦ get_or-set_other map i j byte 0 ne ∙ so_far j (omega arith)
     ]
 
-pub map_done : (image : List (ℕ × ℕ)) (map : List ℕ) (i : ℕ) → 512 ≤ i → length map ≡ 512 → ((j : ℕ) → j < i → get_or map j 0 ≡ byte_of (λ k. mark image (8 * j + k))) → map ≡ map_bytes image
-unfolding map_bytes
-map_done image map i le len so_far = tabled_from 512 (λ j. byte_of (λ k. mark image (8 * j + k))) map 0 len (λ j lt. so_far j (omega arith))
+pub marks_done : (image : List (ℕ × ℕ)) (map : List ℕ) (i : ℕ) → 512 ≤ i → length map ≡ 512 → ((j : ℕ) → j < i → get_or map j 0 ≡ byte_of (λ k. mark image (8 * j + k))) → map ≡ mark_bytes image
+unfolding mark_bytes
+marks_done image map i le len so_far = tabled_from 512 (λ j. byte_of (λ k. mark image (8 * j + k))) map 0 len (λ j lt. so_far j (omega arith))

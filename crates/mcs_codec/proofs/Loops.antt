@@ -5,7 +5,7 @@ use Rattle.std.proofs.lemmas.Bool.Decides.{nat_tests}
 use Rattle.std.proofs.lemmas.List.{append-nil, at_drop_more, at_drop_all}
 use Rattle.mcs_model.specs.declared.board.ChainPart.{ChainPart}
 use Rattle.mcs_codec.specs.Reading.{◌>>=◌, and_then, Read, Reading, giving, byte_at, bytes_at, many}
-use Rattle.mcs_codec.specs.CommandReading.{map_bit_at, addressed_at}
+use Rattle.mcs_codec.specs.CommandReading.{mark_bit, addressed_at}
 use Rattle.mcs_codec.specs.StateReading.{chains_at}
 
 -- what was read before, and what is still read
@@ -52,21 +52,21 @@ pub chains_done : (chains : List ChainPart) (i : ℕ) (front : List (List ℕ)) 
 unfolding chains_at
 chains_done chains i front bytes le = ap (with_front front) (at_drop_all (λ l. chains_at l bytes) chains i le) ∙ none_left front bytes
 
--- ---- the bytes of the addresses that a map has
+-- ---- the bytes of the addresses that are marked
 
-pub addressed_step : (marks : List ℕ) (front : List (ℕ × ℕ)) (count at : ℕ) (bytes : List ℕ) → at < count → map_bit_at marks at ≡ 1
+pub addressed_step : (marks : List ℕ) (front : List (ℕ × ℕ)) (count at : ℕ) (bytes : List ℕ) → at < count → mark_bit marks at ≡ 1
     → with_front front (addressed_at marks (count - at) at bytes) ≡ and_then (byte_at bytes) (λ byte after. with_front (front ++ (at, byte) ∷ []) (addressed_at marks (count - (at + 1)) (at + 1) after))
 unfolding addressed_at
 addressed_step marks front count at bytes lt one =
     let k : count - at ≡ suc (count - (at + 1)) = omega arith in
     rw (k, one) (step front (λ byte. (at, byte)) (byte_at bytes) (addressed_at marks (count - (at + 1)) (at + 1)))
 
-pub addressed_skip : (marks : List ℕ) (front : List (ℕ × ℕ)) (count at : ℕ) (bytes : List ℕ) → at < count → map_bit_at marks at ≢ 1
+pub addressed_skip : (marks : List ℕ) (front : List (ℕ × ℕ)) (count at : ℕ) (bytes : List ℕ) → at < count → mark_bit marks at ≢ 1
     → with_front front (addressed_at marks (count - at) at bytes) ≡ with_front front (addressed_at marks (count - (at + 1)) (at + 1) bytes)
 unfolding addressed_at
 addressed_skip marks front count at bytes lt other =
     let k : count - at ≡ suc (count - (at + 1)) = omega arith in
-    let test : eqb (map_bit_at marks at) 1 ≡ false = grind (arith, nat_tests) in
+    let test : eqb (mark_bit marks at) 1 ≡ false = grind (arith, nat_tests) in
     rw (k, test) refl
 
 pub addressed_done : (marks : List ℕ) (front : List (ℕ × ℕ)) (count at : ℕ) (bytes : List ℕ) → count ≤ at → with_front front (addressed_at marks (count - at) at bytes) ≡ Some (front, bytes)

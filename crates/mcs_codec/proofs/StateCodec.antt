@@ -190,14 +190,14 @@ widths_by version s h board watches =
     )
 
 pub widths_of : (s : BenchState) → IsValid s → HasWidths Two s
-widths_of s h = widths_by Two s h h.bus.board (h.watches.few, words_of 2048 s.watches (omega arith) h.watches.places)
+widths_of s h = widths_by Two s h h.bus.board (h.watches.few, words_of 2048 s.watches (omega arith) h.watches.indices)
 
 pub lift-valid : (s : BenchState1) → IsValid1 s → IsValid (lift s)
 lift-valid s h = record {
   processor = h.processor;
   bus = record { board = valid-now s.bus.board h.bus.board; in_range = h.bus.in_range; absent = h.bus.absent };
   breakpoints = h.breakpoints;
-  watches = record { few = omega arith; places = λ i d lt. absurd (omega arith); rising = λ i l. absurd (omega arith) };
+  watches = record { few = omega arith; indices = λ i d lt. absurd (omega arith); rising = λ i l. absurd (omega arith) };
   seq = h.seq;
 }
 

@@ -36,16 +36,16 @@ mark image at = if list_any (λ p. p.0 == at) image then 1 else 0
 abbrev pub byte_of : (ℕ → ℕ) → ℕ
 byte_of f = f 0 + 2 * f 1 + 4 * f 2 + 8 * f 3 + 16 * f 4 + 32 * f 5 + 64 * f 6 + 128 * f 7
 
--- the map of an image: bit k of byte i is 1 where the image has a byte at address 8 * i + k
-unfoldable pub map_bytes : List (ℕ × ℕ) → List ℕ
-map_bytes image = table_of 512 (λ i. byte_of (λ k. mark image (8 * i + k)))
+-- the marks of an image: bit k of byte i is 1 where the image has a byte at address 8 * i + k
+unfoldable pub mark_bytes : List (ℕ × ℕ) → List ℕ
+mark_bytes image = table_of 512 (λ i. byte_of (λ k. mark image (8 * i + k)))
 
 abbrev pub values : List (ℕ × ℕ) → List ℕ
 values image = map (λ p. p.1) image
 
--- the map, and the bytes by rising address
+-- the marks, and the bytes by rising address
 abbrev pub image_bytes : List (ℕ × ℕ) → List ℕ
-image_bytes image = map_bytes image ++ values image
+image_bytes image = mark_bytes image ++ values image
 
 abbrev pub command_bytes : Command → List ℕ
 command_bytes (Wire board) = 1 ∷ board_bytes board

@@ -43,15 +43,15 @@ place_at = do
   tag ← byte_at
   place_after_tag tag
 
--- the bit of an address in a map
-unfoldable pub map_bit_at : List ℕ → ℕ → ℕ
-map_bit_at marks at = bit_of (slice_index marks (at / 8)) (at % 8)
+-- the bit of an address among marks
+unfoldable pub mark_bit : List ℕ → ℕ → ℕ
+mark_bit marks at = bit_of (slice_index marks (at / 8)) (at % 8)
 
--- the bytes of the addresses that a map has, that many addresses from one on
+-- the bytes of the addresses that are marked, that many addresses from one on
 unfoldable pub addressed_at : List ℕ → ℕ → ℕ → Reading (List (ℕ × ℕ))
 addressed_at marks zero at = giving []
 addressed_at marks (suc n) at =
-    if map_bit_at marks at == 1
+    if mark_bit marks at == 1
     then (do byte ← byte_at; others ← addressed_at marks n (at + 1); giving ((at, byte) ∷ others))
     else addressed_at marks n (at + 1)
 

@@ -1,5 +1,5 @@
--- The bytes that spell a state, by groups, in two versions. Each number of a list, and each single
--- number of no other width, is one byte. (Our own choice.)
+-- The bytes that spell a state, by groups, in two versions. An address and a watch take two bytes,
+-- the count of commands four, each other number one. (Our own choice.)
 use Rattle.std.specs.Prelude.{ℕ, List, [], ◌∷◌, ◌++◌}
 use Rattle.std.specs.List.{flat_map}
 use Rattle.std.specs.Int.{w32, to_be_bytes}
@@ -19,7 +19,7 @@ memory_bytes b = b.rom ++ (b.ram ++ (b.status ++ (b.ram_ports ++ b.rom_ports)))
 abbrev pub registers_bytes : Regs → List ℕ
 registers_bytes p = p.acc ∷ p.cy ∷ (p.r ++ (address_bytes p.pc ++ flat_map address_bytes p.ret))
 
--- the command register, the SRC bytes of the ROMs and of the banks, the owed cycles
+-- the command register, the SRC byte of the ROMs, that of each bank, the owed cycle
 abbrev pub src_bytes : Regs → BusState → List ℕ
 src_bytes p b = p.dcl ∷ b.rom_src ∷ (b.ram_src ++ p.owed ∷ [])
 
@@ -37,7 +37,8 @@ groups_bytes p b breakpoints rest =
     ++ (wiring_bytes b breakpoints
     ++ rest)))
 
--- what comes after the board in version 2: the groups, the watches
+-- what comes after the board in version 2: the groups, the watches (each an index, bank * 256 + SRC
+-- byte, in two bytes)
 abbrev pub after_board : BenchState → List ℕ
 after_board s = groups_bytes s.processor s.bus s.breakpoints (counted_bytes address_bytes s.watches)
 

@@ -13,7 +13,7 @@ pub trait Encode {
     /// Its spelling.
     ghost spelling: { Self → List ℕ };
 
-    /// Puts it at a place of the buffer, and answers the place after it.
+    /// Puts it at an offset of the buffer, and answers the offset after it.
     fn put(&self, out: &mut [u8], at: usize) -> usize
         requires { at + length (spelling self.now) ≤ length out.old }
         ensures end { result ≡ at + length (spelling self.now) }
@@ -29,7 +29,7 @@ pub trait Decode: Sized + Drop {
         ensures { option_map (λ x. (x, reader.new)) result ≡ reading reader.old };
 }
 
-/// Puts bytes at a place of the buffer, and answers the place after them.
+/// Puts bytes at an offset of the buffer, and answers the offset after them.
 pub fn put(out: &mut [u8], at: usize, bytes: &[u8]) -> usize
     requires { at + length bytes.now ≤ length out.old }
     ensures end { result ≡ at + length bytes.now }
@@ -53,7 +53,7 @@ pub fn put_all<T: Encode>(items: &[T], out: &mut [u8], at: usize) -> usize
     end
 }
 
-/// Reads a value into each place.
+/// Reads a value into each item.
 pub fn read_into<T: Decode>(reader: &mut Reader<'_>, items: &mut [T]) -> Option<()>
     ensures { option_map (λ _. (items.new, reader.new)) result
         ≡ many (length items.old) T.reading reader.old }

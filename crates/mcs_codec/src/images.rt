@@ -1,8 +1,8 @@
-//! The bytes of an image: a map of its addresses, and its bytes.
+//! The bytes of an image: marks of its addresses, and its bytes.
 ghost use Rattle.std.specs.Prelude.{◌≡◌, ℕ, ◌+◌, ◌*◌, ◌≤◌, ◌<◌, ◌∷◌, ◌++◌, List, [], length, take, map, slice_index, option_map, IfOk};
 ghost use Rattle.mcs_nibble.specs.Tables.{table_of};
-ghost use Rattle.mcs_codec.specs.CommandBytes.{mark, byte_of, map_bytes, values, image_bytes};
-ghost use Rattle.mcs_codec.specs.CommandReading.{map_bit_at, addressed_at, image_at};
+ghost use Rattle.mcs_codec.specs.CommandBytes.{mark, byte_of, mark_bytes, values, image_bytes};
+ghost use Rattle.mcs_codec.specs.CommandReading.{mark_bit, addressed_at, image_at};
 
 use crate::encoding::{Encode, put, put_all};
 use crate::reader::Reader;
@@ -13,8 +13,8 @@ use std::alloc::{AllocError, Global};
 /// Addresses of the ROMs.
 const ADDRESSES: usize = 4096;
 
-/// Bytes of a map, a bit for each address.
-const MAP_BYTES: usize = 512;
+/// Bytes of the marks, a bit for each address.
+const MARK_BYTES: usize = 512;
 
 /// A byte of an image, after its address.
 type AddressedByte = (Addr, u8);
@@ -31,7 +31,7 @@ fn marks_of(image: &[AddressedByte]) -> [Bit; ADDRESSES]
 }
 
 /// The byte of the marks of eight addresses from one on, the first the lowest bit.
-fn map_byte(marks: &[Bit], at: usize) -> u8
+fn mark_byte(marks: &[Bit], at: usize) -> u8
     requires { at + 8 ≤ length marks.now }
     ensures { result ≡ byte_of (λ k. slice_index marks.now (at + k)) }
 {
@@ -41,16 +41,16 @@ fn map_byte(marks: &[Bit], at: usize) -> u8
     low + middle + high
 }
 
-/// The map of the addresses of an image.
-fn map_of(image: &[AddressedByte]) -> [u8; MAP_BYTES]
-    ensures { result ≡ map_bytes image.now }
+/// The marks of the addresses of an image, eight in a byte.
+fn marks_packed(image: &[AddressedByte]) -> [u8; MARK_BYTES]
+    ensures { result ≡ mark_bytes image.now }
 {
     let marks = marks_of(image);
-    let mut map = [0; MAP_BYTES];
-    for i in 0..MAP_BYTES {
-        map[i] = map_byte(&marks, 8 * i);
+    let mut packed = [0; MARK_BYTES];
+    for i in 0..MARK_BYTES {
+        packed[i] = mark_byte(&marks, 8 * i);
     }
-    map
+    packed
 }
 
 impl Encode for AddressedByte {
@@ -77,21 +77,21 @@ pub fn put_image(image: &Image, out: &mut [u8], at: usize) -> usize
     ensures front { take result out.new ≡ take at out.old ++ image_bytes image.now }
 {
     let addressed = image.pairs();
-    let at = put(out, at, &map_of(addressed));
+    let at = put(out, at, &marks_packed(addressed));
     put_values(addressed, out, at)
 }
 
-/// The bit of an address in a map.
-#[tactic(auto, unfolding(crate::specs::CommandReading::map_bit_at))]
-fn map_bit_at(marks: &[u8], at: u16) -> u8
+/// The bit of an address among marks.
+#[tactic(auto, unfolding(crate::specs::CommandReading::mark_bit))]
+fn mark_bit(marks: &[u8], at: u16) -> u8
     requires marks { length marks.now ≡ 512 }
     requires at { at < 4096 }
-    ensures { result ≡ map_bit_at marks.now at }
+    ensures { result ≡ mark_bit marks.now at }
 {
     marks[usize::from(at / 8)] >> (at % 8) & 1
 }
 
-/// Reads the bytes of the addresses that a map has, by rising address.
+/// Reads the bytes of the addresses that are marked, by rising address.
 fn read_addressed(
     alloc: Global,
     reader: &mut Reader<'_>,
@@ -103,7 +103,7 @@ fn read_addressed(
 {
     let mut image = Image::new(alloc)?;
     for at in 0..4096 {
-        if map_bit_at(marks, at) != 1 {
+        if mark_bit(marks, at) != 1 {
             continue;
         }
         let Some(byte) = reader.byte() else {
@@ -114,12 +114,12 @@ fn read_addressed(
     Ok(Some(image))
 }
 
-/// Reads an image: the map of its addresses, and its bytes.
+/// Reads an image: the marks of its addresses, and its bytes.
 #[tactic(auto, unfolding(crate::specs::CommandReading::image_at))]
 pub fn read_image(alloc: Global, reader: &mut Reader<'_>) -> Result<Option<Image>, AllocError>
     ensures { IfOk result (λ found. option_map (λ x. (x, reader.new)) found ≡ image_at reader.old) }
 {
-    match reader.bytes(MAP_BYTES) {
+    match reader.bytes(MARK_BYTES) {
         Some(marks) => read_addressed(alloc, reader, marks),
         None => Ok(None),
     }

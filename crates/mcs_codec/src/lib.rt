@@ -5,7 +5,7 @@
 //! version 1. A value out of its range, a board with which something is wrong, bytes that are left
 //! over and bytes that are missing spell nothing.
 //!
-//! `put` and `put_..` write a value at a place of a buffer, `read` and `read_..` read one from a
+//! `put` and `put_..` write a value at an offset of a buffer, `read` and `read_..` read one from a
 //! `Reader`. Definitions ending in `_bytes` are what is written, those ending in `_at` what is read.
 #![tactic(auto)]
 

@@ -13,11 +13,11 @@ use crate::versions::{Version, is_small};
 use arrayvec::ArrayVec;
 use mcs_bench::{Bench, Cells, Flat};
 use mcs_model::board::{Board, ChainPart};
-use mcs_model::limits::{CHAIN_CHIPS, CHAIN_PLACES, CHAINS, WATCHES};
+use mcs_model::limits::{CHAIN_CHIPS, CHAIN_SOCKETS, CHAINS, WATCHES};
 use std::alloc::{AllocError, Global};
 
 /// The bits of a chain, bit 0 first.
-type ChainBits = ArrayVec<u8, CHAIN_PLACES>;
+type ChainBits = ArrayVec<u8, CHAIN_SOCKETS>;
 
 impl Decode for u16 {
     ghost use Rattle.std.specs.Int.{w16};

@@ -5,7 +5,7 @@ use Rattle.mcs_model.specs.declared.op.Op.{Op}
 use Rattle.mcs_source.specs.Lexical.{tokens}
 use Rattle.mcs_source.specs.Lines as asm
 use Rattle.mcs_model.specs.Table.{instruction_of, word_count_of}
-use Rattle.mcs_source.specs.Assembly.{statement_bytes, size, is_bad_statement, next_statement}
+use Rattle.mcs_source.specs.Assembly.{statement_bytes, size, is_bad_origin, next_statement}
 use Rattle.mcs_source.specs.Text.{op_at, whole_or_byte, second_word, piece_text, piece_size}
 use Rattle.mcs_dis.specs.Again.{statement}
 use Rattle.mcs_dis.proofs.ReadBack.{read_back, spells, byte_back, size_is, next_is, fine_is}
@@ -21,7 +21,7 @@ pub record IsPiece (at b : ℕ) (rest : List ℕ) (x : Option Op) : Type 0 where
   pub bytes : statement_bytes at [] (piece_statement at b x) ≡ Ok (take (piece_size x) (b ∷ rest))
   pub size_of : size (piece_statement at b x) ≡ piece_size x
   pub next : next_statement (Some (piece_statement at b x)) at ≡ at + piece_size x
-  pub fine : is_bad_statement (Some (piece_statement at b x)) ≡ false
+  pub fine : is_bad_origin (Some (piece_statement at b x)) ≡ false
   pub some : 1 ≤ piece_size x
   pub fits : piece_size x ≤ 1 + length rest
   pub clean : Clean (piece_text at b x)

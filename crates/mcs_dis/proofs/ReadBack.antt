@@ -14,7 +14,7 @@ use Rattle.mcs_source.specs.Mnemonics.{mnemonic_of, on_addresses, on_registers, 
 use Rattle.mcs_source.specs.Lines as asm
 use Rattle.mcs_source.specs.Text.{address, byte_text, instruction_text}
 use Rattle.mcs_source.specs.SourceText.{origin_text}
-use Rattle.mcs_source.specs.Assembly.{Names, statement_bytes, size, next_statement, is_bad_statement, near_page}
+use Rattle.mcs_source.specs.Assembly.{Names, statement_bytes, size, next_statement, is_bad_origin, near_page}
 use Rattle.mcs_model.specs.Table.{word_count_of}
 use Rattle.mcs_source.specs.Spelling.{spelling}
 use Rattle.mcs_source.specs.Spelled.{IsOp}
@@ -367,7 +367,7 @@ next_is at a (Jun r b) = refl
 next_is at a (Jms r b) = refl
 next_is at a (Isz r b) = refl
 
-pub fine_is : (at : ℕ) (o : Op) → is_bad_statement (Some (statement at o)) ≡ false
+pub fine_is : (at : ℕ) (o : Op) → is_bad_origin (Some (statement at o)) ≡ false
 fine_is at Nop = refl
 fine_is at Wrm = refl
 fine_is at Wmp = refl

@@ -1,4 +1,4 @@
--- The statement that the text of an instruction is.
+-- The statement that the text of an instruction is, and the pairs of a range of a ROM.
 use Rattle.std.specs.Prelude.{◌≡◌, ℕ, ◌+◌, ◌*◌, ◌<◌, ◌≤◌, ◌↔◌, List, Some, None, slice_index}
 use Rattle.std.specs.List.{Contains}
 use Rattle.mcs_model.specs.Images.{from_address}
@@ -10,10 +10,11 @@ use Rattle.mcs_source.specs.Assembly.{near_page}
 use Rattle.mcs_source.specs.Text.{instruction_text}
 use Rattle.mcs_source.specs.SourceText.{range}
 
--- the address that JCN and ISZ at an address reach
+-- the target, as a number, of a JCN or ISZ at an address whose second word is b
 abbrev pub near : ℕ → ℕ → asm.Operand
 near at b = asm.Number (near_page at * 256 + b)
 
+-- the statement that the text of an instruction at an address is to be read as
 abbrev pub statement : ℕ → Op → asm.Statement
 statement at (Jcn c b) = asm.Jcn (asm.Number c) (near at b)
 statement at (Isz r b) = asm.Isz r (near at b)
@@ -24,7 +25,7 @@ statement at (Bbl d) = asm.Bbl (asm.Number d)
 statement at (Ldm d) = asm.Ldm (asm.Number d)
 statement at o = asm.Whole o
 
--- the text of an instruction at an address reads as the statement that spells it
+-- the text of an instruction at an address, as a line, reads as `statement at o` without a label
 abbrev pub ReadsAs : ℕ → Op → Type 0
 ReadsAs at o = asm.line_of (tokens (instruction_text at o)) ≡ Some (asm.Code None (Some (statement at o)))
 

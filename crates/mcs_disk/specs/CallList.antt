@@ -26,12 +26,14 @@ FailureOf (Wrote at bytes) old new =
     (new ≡ old) ⊎ ((seen : List ℕ) × (new ≡ Failed at bytes seen ∷ old))
 FailureOf call old new = new ≡ old
 
--- one of these calls failed, and those before it alone were made
+-- one of these calls failed, which is noted as `FailureOf` says, and of the others those before it
+-- alone were made
 abbrev pub CutShort : List DiskCall → List DiskCall → List DiskCall → Type 0
 CutShort [] old new = ⊥
 CutShort (call ∷ before) old new = FailureOf call (before ++ old) new ⊎ CutShort before old new
 
--- these calls were made, and no others; where one failed, those before it alone
+-- these calls were made, and no others; where one failed, those before it alone, and that one is
+-- noted as `FailureOf` says
 pub record Makes {T E : Type 0} (calls old new : List DiskCall) (result : Result T E) : Type 0 where
   pub all : OnOk result (new ≡ calls ++ old)
   pub cut : OnErr result (CutShort calls old new)

@@ -1,7 +1,8 @@
 -- What calls do to the bytes of a disk, and what a power cut may leave after them; lists of calls
--- have the newest first. (Our own choice: a device that writes in ranges and promises nothing
--- before a sync, as POSIX's read, write and fdatasync do of a file that was synced as it was
--- opened.)
+-- have the newest first. (Our own choice: a device that writes in ranges. Before a sync it promises
+-- that bytes outside the ranges written stay as they were, and of those inside nothing; after one,
+-- that all bytes stay. This is taken of POSIX's read, write and fdatasync on a file that was synced
+-- as it was opened; POSIX itself tells nothing of power cuts.)
 use Rattle.std.specs.Prelude.{◌≡◌, ◌⊎◌, ℕ, zero, suc, ◌+◌, ◌≤◌, ◌<◌, List, [], ◌∷◌, length, take, drop, slice_index}
 
 -- A call on a disk as it is noted: it answered Ok, or is a write that failed. A failed read or sync
@@ -11,9 +12,10 @@ pub data DiskCall : Type 0 where
   WasRead : DiskCall
   -- these bytes were written from this offset on
   Wrote : ℕ → List ℕ → DiskCall
-  -- `Failed at tried seen`: a write of the bytes `tried` from the offset `at` on failed, or was cut
-  -- off. A power cut may leave any bytes in its range. From now on a read gives the bytes `seen`
-  -- there, cut to the length of `tried`; where there are none, it gives what it gave before.
+  -- `Failed at tried seen`: a write of the bytes `tried` from the offset `at` on failed (or was cut
+  -- off by the end of a file: `IsCutInWrite` of mcs_host). A power cut may leave any bytes in its
+  -- range. From now on a read gives the bytes `seen` there, cut to the length of `tried`; where
+  -- there are none, it gives what it gave before.
   Failed : ℕ → List ℕ → List ℕ → DiskCall
   -- all that the disk holds was made stable
   Synced : DiskCall
@@ -35,7 +37,7 @@ pub record Torn (at n : ℕ) (old new : List ℕ) : Type 0 where
   pub before : (i : ℕ) → i < at → slice_index new i ≡ slice_index old i
   pub after : (i : ℕ) → at + n ≤ i → slice_index new i ≡ slice_index old i
 
--- what a read gives after these calls on a disk that held `start`
+-- what a read gives after these calls on a disk that held `start`, where the disk is honest
 abbrev pub bytes_after : List ℕ → List DiskCall → List ℕ
 bytes_after start [] = start
 bytes_after start (WasRead ∷ calls) = bytes_after start calls
@@ -62,8 +64,8 @@ clock_of (Wrote at bytes ∷ calls) = clock_of calls + 1
 clock_of (Failed at tried seen ∷ calls) = clock_of calls
 clock_of (Synced ∷ calls) = clock_of calls + 1
 
--- what a power cut may leave that came after all of these calls, or after the older ones of them at
--- a clock of that time or later
+-- what a power cut may leave that came after all of these calls, whatever the time, or before some
+-- of the newest of them, where the clock then stood at that time or later
 abbrev pub since_after : List ℕ → List DiskCall → ℕ → List ℕ → Type 0
 since_after start [] time image = images_after start [] image
 since_after start (call ∷ calls) time image =

@@ -1,5 +1,5 @@
--- A disk: what it held, and the calls on it since. All else that is said of it is a function of
--- these. (Our own choice.)
+-- A disk: what it held, and the calls on it since. All else that is said of it, but for its faults
+-- and whether it is honest, is a function of these. (Our own choice.)
 use Rattle.std.specs.Prelude.{◌≡◌, ◌↔◌, ℕ, ◌+◌, ◌-◌, ◌^◌, min, List, ◌++◌, length}
 use Rattle.mcs_disk.specs.Calls.{DiskCall, bytes_after, images_after, clock_of, since_after}
 pub use Rattle.mcs_disk.specs.Calls.{part, put, Torn}
@@ -20,7 +20,7 @@ pub record DiskState : Type 1 where
 abbrev pub size_of : DiskState → ℕ
 size_of disk = length disk.start
 
--- the bytes that a read gives
+-- the bytes that a read gives, where the disk is honest
 abbrev pub bytes_of : DiskState → List ℕ
 bytes_of disk = bytes_after disk.start disk.calls
 
@@ -50,7 +50,8 @@ pub record CountsFault (old new : DiskState) (failed : Type 0) : Type 0 where
   pub fault : failed → new.faults ≡ min (old.faults + 1) most_faults
   pub no_fault : ¬ failed → new.faults ≡ old.faults
 
--- new is old, or what old became by more calls
+-- later: the start is the same, and the calls of new are those of old and then perhaps more; of
+-- faults and honesty it says nothing (that is `CountsFault`)
 pub record IsLater (old new : DiskState) : Type 0 where
   pub start : new.start ≡ old.start
   pub added : List DiskCall

@@ -12,8 +12,8 @@ writes_of (Wrote at bytes ∷ calls) = writes_of calls + 1
 writes_of (Failed at tried seen ∷ calls) = writes_of calls + 1
 writes_of (Synced ∷ calls) = writes_of calls
 
--- no write more is noted, on an honest disk or another: none was answered Ok, and one that failed
--- has left nothing
+-- as many writes are noted in new as in old: so if new is later (not said here), none more was
+-- answered Ok, on an honest disk or another; on an honest one, none that failed has left anything
 abbrev pub WritesNothing : DiskState → DiskState → Type 0
 WritesNothing old new = writes_of new.calls ≡ writes_of old.calls
 

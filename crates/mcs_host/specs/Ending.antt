@@ -19,7 +19,7 @@ as_host_file file = system_state file.on.file
 abbrev pub found_in : FileDisk → List ℕ
 found_in file = file.on.end.found
 
--- the newest of these calls is a write, and it was cut off
+-- the newest of `calls` is a write; `cut` is `calls` with that write cut off
 pub record IsCutInWrite (calls cut : List DiskCall) : Type 0 where
   pub at : ℕ
   pub bytes : List ℕ
@@ -38,18 +38,20 @@ pub record IsLeftSince (time : ℕ) (file : FileDisk) : Type 0 where
       ⊎ IsCutInWrite made file.on.end.calls_by_the_end
   pub late : time ≤ clock_of file.on.end.calls_by_the_end
 
--- what is found after the end is an image after the calls by then
+-- what `IsHonest` says of a file, spelled out: what is found after the end is an image after the
+-- calls by then
 abbrev pub IsFoundAfterTheEnd : FileDisk → Type 0
 IsFoundAfterTheEnd file =
     images_after file.on.history.start file.on.end.calls_by_the_end (found_in file)
 
--- This file is like that one in all that any call has told of it, it was left after all of its
--- calls, and these bytes are found in it.
+-- `like` is as `file` in all that any call has told of it; it was left after all of its calls, and
+-- `image` is found in it.
 pub record IsFoundWith (image : List ℕ) (file like : FileDisk) : Type 0 where
   pub faults : like.on.faults ≡ file.on.faults
   pub bytes : like.on.bytes.items ≡ file.on.bytes.items
   pub start : like.on.history.start ≡ file.on.history.start
   pub calls : like.on.history.calls ≡ file.on.history.calls
   pub asked : as_host_file like ≡ as_host_file file
+  pub stable : like.on.is_name_stable ≡ file.on.is_name_stable
   pub by_the_end : like.on.end.calls_by_the_end ≡ file.on.history.calls
   pub found : found_in like ≡ image

@@ -20,7 +20,7 @@ file_state faults history end = record {
   calls = history.calls;
 }
 
--- the host's number of a file that has none of a standard stream: not 0, 1 or 2
+-- the host's number of a file that has none of a standard stream: above 2
 abbrev pub IsApart : ℤ → Type 0
 IsApart number = pos 2 <ℤ number
 

@@ -2,7 +2,8 @@
 -- stat, ftruncate, pread, pwrite, fsync and fdatasync are asked for.)
 use Rattle.std.specs.Prelude.{◌≡◌, ℕ, ℤ, Bool, true, false, List, ◌∷◌, Result, Ok, Err, OnOk}
 
--- a call, with true where it was answered Ok
+-- a call, with true where it was answered Ok, and with yes where that was asked; where false, a
+-- length or a real name that goes with it says nothing
 pub data HostCall : Type 0 where
   -- the exclusive lock was asked for, without waiting; true: it was had
   Lock : Bool → HostCall
@@ -27,7 +28,7 @@ pub data HostCall : Type 0 where
   IsLink : List ℕ → Bool → HostCall
   -- the name without links of its file was asked for, and is this one
   RealName : List ℕ → Bool → HostCall
-  -- the call that opened it would have made it
+  -- it was opened by a call that makes it where it is not there
   Made : HostCall
 
 -- all that a contract sees of an open file of the host
@@ -43,7 +44,7 @@ pub record HostState : Type 0 where
 abbrev pub asked : HostCall → HostState → HostState
 asked call file = record file { calls = call ∷ file.calls }
 
--- it is the same file still, after some calls
+-- the name and the number are the same; of the calls it says nothing
 pub record IsSame (old new : HostState) : Type 0 where
   pub name : new.name ≡ old.name
   pub number : new.number ≡ old.number
@@ -58,7 +59,7 @@ abbrev pub is_yes : {E : Type 0} → Result Bool E → Bool
 is_yes (Ok answer) = answer
 is_yes (Err e) = false
 
--- One call was asked for, to read at this place; the answer is Ok only where its answer was.
+-- One call was asked for, to read at this offset; the answer is Ok only where its answer was.
 abbrev pub AsksToRead : {T E : Type 0} → ℕ → List ℕ → Result T E → HostState → HostState → Type 0
 AsksToRead at into result old new =
     (ok : Bool) × (new ≡ asked (ReadAt at into ok) old) × OnOk result (ok ≡ true)

@@ -10,7 +10,7 @@ use Rattle.mcs_host.specs.HostCalls.{HostCall, HostState, IsLink, Length, Lock, 
 abbrev pub AreZeros : List ℕ → Type 0
 AreZeros bytes = IsTrue (list_all (λ b. b == 0) bytes)
 
--- the bytes of a blank file
+-- a file of zeros alone, which this module calls blank (`IsBlank` of mcs_journal: the first 16)
 pub record IsAllZeros (bytes : List ℕ) : Type 0 where
   pub size : length bytes ≡ FILE_SIZE
   pub zeros : AreZeros bytes
@@ -25,13 +25,13 @@ folder_or_here (Some (b ∷ folder)) = b ∷ folder
 abbrev pub folder_of : List ℕ → List ℕ
 folder_of name = folder_or_here (path_parent name)
 
--- The folder of the file was synced, in which links lead to it: that of the name itself, if it is
--- no link, or else that of the name without links. Or it was not, and at one of these calls.
+-- After `before` the folder that links lead to was synced: that of the name, or for a link that of
+-- its real name. `ok`: it was; else one of these calls failed (an `IsLink` that failed is `false`).
 abbrev pub FolderCalls : List ℕ → Bool → List HostCall → List HostCall → Type 0
 FolderCalls name ok before after =
     (after ≡ SyncFolder (folder_of name) ok ∷ IsLink name false ∷ before)
-    ⊎ (((place : List ℕ) × (after
-    ≡ SyncFolder (folder_of place) ok ∷ RealName place true ∷ IsLink name true ∷ before))
+    ⊎ (((real_path : List ℕ) × (after
+    ≡ SyncFolder (folder_of real_path) ok ∷ RealName real_path true ∷ IsLink name true ∷ before))
     ⊎ (IsFalse ok × ((after ≡ IsLink name false ∷ before)
     ⊎ (after ≡ RealName [] false ∷ IsLink name true ∷ before))))
 
@@ -84,12 +84,12 @@ pub record IsRead
     : Type 0 where
   pub found : ℕ
   pub size : length bytes ≡ min found (FILE_SIZE + 1)
-  -- one that was to be made is not empty, and not blank
+  -- one that was to be made is not empty, and not of zeros alone
   pub not_empty : IsTrue make → ¬ (found ≡ 0)
   pub not_blank : IsTrue make → ¬ (IsAllZeros bytes)
   pub asked : IsReadAfter name bytes is_name_stable (Length found true ∷ locked) calls
 
--- A blank file may have holes: where it was to be made, it is read and then written.
+-- A file of zeros alone may have holes: where it was to be made, it is read and then written.
 pub record IsRewritten
     (make : Bool) (name bytes : List ℕ) (is_name_stable : Bool) (locked calls : List HostCall)
     : Type 0 where
@@ -100,7 +100,7 @@ pub record IsRewritten
   pub writes : IsWrittenAfter name bytes read calls
 
 -- The file of this name was opened and locked, and holds these bytes; and whether its folder was
--- synced.
+-- synced before it was read, or filled.
 pub record IsOpening
     (make : Bool) (name bytes : List ℕ) (is_name_stable : Bool) (file : HostState)
     : Type 0 where

@@ -85,8 +85,8 @@ pub trait Host {
         name: &str,
     ) -> io::Result<PathBuf<Global>>
         ensures { MatchResult result
-            (λ place. Self.File.state file.new
-            ≡ asked (RealName (path_buf_bytes place) true) (Self.File.state file.old))
+            (λ real_path. Self.File.state file.new
+            ≡ asked (RealName (path_buf_bytes real_path) true) (Self.File.state file.old))
             (λ _. Self.File.state file.new
             ≡ asked (RealName [] false) (Self.File.state file.old)) };
 

@@ -206,7 +206,7 @@ fn fill<N: Host>(
     filled
 }
 
-// Writes all of a file, so that each byte has its place on the device, and makes it and its name
+// Writes all of a file, so that each byte has room on the device, and makes it and its name
 // stable. It has its size at once, so that a stop half way leaves a file that a new session can
 // still be begun in.
 fn write_whole<N: Host>(
@@ -235,8 +235,8 @@ fn sync_folder<N: Host>(host: &N, alloc: Global, opened: &mut N::File, file: &st
     if !host.is_link(opened, file)? {
         return host.sync_folder(opened, folder_of(file));
     }
-    let place = host.real_name(alloc, opened, file)?;
-    host.sync_folder(opened, folder_of(place.as_str()))
+    let real_path = host.real_name(alloc, opened, file)?;
+    host.sync_folder(opened, folder_of(real_path.as_str()))
 }
 
 // The folder of the file of this name.
@@ -282,6 +282,6 @@ fn remove_empty<N: Host>(
     if opened.length()? > 0 {
         return Ok(());
     }
-    let place = host.real_name(alloc, opened, file)?;
-    host.remove(place.as_str())
+    let real_path = host.real_name(alloc, opened, file)?;
+    host.remove(real_path.as_str())
 }

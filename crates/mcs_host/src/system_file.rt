@@ -132,10 +132,10 @@ impl<R: Files<File = File>> Host for R {
         name: &str,
     ) -> io::Result<PathBuf<Global>> {
         match self.canonicalize(alloc, name) {
-            Ok(place) => {
-                let real = place.as_str().as_bytes();
+            Ok(real_path) => {
+                let real = real_path.as_str().as_bytes();
                 file.history.note(&Asked::RealName(true), real);
-                Ok(place)
+                Ok(real_path)
             }
             Err(error) => {
                 file.history.note(&Asked::RealName(false), &[]);

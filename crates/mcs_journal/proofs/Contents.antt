@@ -3,7 +3,7 @@ use Rattle.std.proofs.Common.{◌≡◌, ◌⊎◌, inl, inr, ◌≤◌, ◌+◌
 use Rattle.std.proofs.lemmas.List.{drop_more}
 use Rattle.mcs_disk.specs.Disk.{part, Torn}
 use Rattle.mcs_journal.specs.File.{Holds, IsLog, IsRecord, frames_of, be16, slot_at, slot_of, slot_named, start_of}
-use Rattle.mcs_journal.specs.Writing.{IsArea, IsCommitPlace}
+use Rattle.mcs_journal.specs.Writing.{IsArea, IsCommitOffset}
 use Rattle.mcs_journal.specs.declared.format.TheConstants.{NAME, ZEROS}
 use Rattle.mcs_journal.specs.declared.slot.Slot.{Slot}
 use Rattle.mcs_journal.specs.declared.slot.Slot.TheVariants.{A, B}
@@ -63,7 +63,7 @@ kept_outside f c snap rs news at n old torn after log =
     (λ lo k from to. same lo k (omega (arith, after, to))) log
 
 -- A record is put after the commit byte, as what is written spells it.
-module _ (f snap r from : List ℕ) (rs : List (List ℕ)) (commit_at : ℕ) (spells : from ≡ be16 (length r) ++ r ++ 0 ∷ []) (old : Holds f snap rs) (at_commit : IsCommitPlace f rs commit_at (length r)) (good : IsRecord r) where
+module _ (f snap r from : List ℕ) (rs : List (List ℕ)) (commit_at : ℕ) (spells : from ≡ be16 (length r) ++ r ++ 0 ∷ []) (old : Holds f snap rs) (at_commit : IsCommitOffset f rs commit_at (length r)) (good : IsRecord r) where
   abbrev lo : ℕ
   lo = slot_at f + 16384
 

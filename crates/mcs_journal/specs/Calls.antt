@@ -7,7 +7,7 @@ use Rattle.mcs_journal.specs.File.{be16, start_of}
 use Rattle.mcs_journal.specs.Writing.{IsArea, selector_of}
 use Rattle.mcs_journal.specs.declared.fault.CreateFault.{CreateFault}
 use Rattle.mcs_journal.specs.declared.fault.CreateFault.TheVariants as create_fault
-use Rattle.mcs_journal.specs.declared.format.TheConstants.{FIRST_HEADER, SELECTOR_PLACE}
+use Rattle.mcs_journal.specs.declared.format.TheConstants.{FIRST_HEADER, SELECTOR_OFFSET}
 use Rattle.mcs_journal.specs.declared.slot.Slot.{Slot}
 use Rattle.mcs_journal.specs.declared.slot.Slot.TheVariants.{A}
 
@@ -19,7 +19,7 @@ commit_calls at bytes = Synced ∷ Wrote at bytes ∷ []
 abbrev pub many_reads : ℕ → List DiskCall
 many_reads n = replicate n WasRead
 
--- some reads, and nothing else
+-- reads alone, if any
 pub record AreReads (old new : List DiskCall) : Type 0 where
   pub count : ℕ
   pub all : new ≡ many_reads count ++ old
@@ -31,12 +31,13 @@ append_calls commit_at payload =
     commit_calls commit_at (1 ∷ [])
     ++ commit_calls (commit_at + 1) (be16 (length payload) ++ payload ++ 0 ∷ [])
 
--- `replace` by way of this slot: a snapshot area into it, and then the selector that names it
+-- `replace` by way of this slot: an area (`IsArea`: with a commit byte of 0 after it) into the
+-- slot, and then the selector that names it
 abbrev pub replace_calls : Slot → List ℕ → List DiskCall
 replace_calls slot area =
-    commit_calls SELECTOR_PLACE (selector_of slot ∷ []) ++ commit_calls (start_of slot) area
+    commit_calls SELECTOR_OFFSET (selector_of slot ∷ []) ++ commit_calls (start_of slot) area
 
--- `create`, after a read of the header: a snapshot area into the first slot, and then the header
+-- `create`, after a read of the header: such an area into the first slot, and then the header
 abbrev pub create_calls : List ℕ → List DiskCall
 create_calls area = commit_calls 0 FIRST_HEADER ++ commit_calls (start_of A) area
 
@@ -45,14 +46,14 @@ create_calls area = commit_calls 0 FIRST_HEADER ++ commit_calls (start_of A) are
 abbrev pub open_calls : ℕ → List DiskCall
 open_calls records = many_reads (4 + 3 * records) ++ Synced ∷ []
 
--- such calls, with some area of this snapshot
+-- for some area of this snapshot, the calls that `calls` gives of it were made (`Makes`)
 pub record MakesWithArea {T E : Type 0} (snap : List ℕ) (calls : List ℕ → List DiskCall)
     (old new : List DiskCall) (result : Result T E) : Type 0 where
   pub area : List ℕ
   pub is_area : IsArea snap area
   pub made : Makes (calls area) old new result
 
--- what a refused `create` has asked for
+-- the calls that are noted of a refused `create` (a read or a sync that failed is not)
 abbrev pub RefusedCreateCalls : {T E : Type 0} → CreateFault → List ℕ → List DiskCall → List DiskCall
     → Result T E → Type 0
 RefusedCreateCalls create_fault.NotBlank snap old new result = (new ≡ old) ⊎ (new ≡ WasRead ∷ old)
@@ -60,6 +61,6 @@ RefusedCreateCalls create_fault.Device snap old new result =
     (new ≡ old) ⊎ MakesWithArea snap create_calls (WasRead ∷ old) new result
 RefusedCreateCalls create_fault.NoMemory snap old new result = new ≡ old
 
--- what a refused `open` has asked for: nothing, or a sync and then reads
+-- the calls that are noted of a refused `open`: none, or a sync and then reads, if any
 abbrev pub RefusedOpenCalls : List DiskCall → List DiskCall → Type 0
 RefusedOpenCalls old new = (new ≡ old) ⊎ AreReads (Synced ∷ old) new

@@ -23,7 +23,8 @@ slot_of file = slot_named (slice_index file 8)
 abbrev pub slot_at : List ℕ → ℕ
 slot_at file = start_of (slot_of file)
 
--- a number in two bytes and in four, the highest first
+-- a number in two bytes and in four, the highest first: as `to_be_bytes` of std gives it, where the
+-- number is below 2^16 and 2^32
 abbrev pub be16 : ℕ → List ℕ
 be16 n = n / 256 ∷ n % 256 ∷ []
 

@@ -13,11 +13,11 @@ pub record StoreView (D : Type 0) : Type 0 where
   pub live : Bool
   -- the slot that holds its snapshot and its log
   pub slot : Slot
-  -- how many bytes of records its log holds
+  -- how many bytes the frames of its records take in its log
   pub used : ℕ
 
--- an open store on an honest disk: the disk holds its contents, and `used` is how many bytes their
--- frames take in the log
+-- what holds of an open store on an honest disk: whatever a power cut leaves has its contents, in
+-- this slot, and `used` is how many bytes their frames take in the log
 pub record IsIntactStore (disk : DiskState) (slot : Slot) (used : ℕ) : Type 0 where
   pub durable : IsDurable disk
   pub active : slot_of (bytes_of disk) ≡ slot

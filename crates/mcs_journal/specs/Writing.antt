@@ -1,4 +1,4 @@
--- The parts of a file that the steps of reading and writing speak of.
+-- The parts of a file that reading and writing speak of.
 use Rattle.std.specs.Prelude.{◌≡◌, ℕ, ◌+◌, ◌≤◌, List, ◌⊎◌, length, slice_index, Result, OnOk}
 use Rattle.mcs_disk.specs.Disk.{DiskState, IsLater, part, Torn, bytes_of, time_of, images_of, images_since}
 use Rattle.mcs_disk.specs.PowerCut.{IsDurable}
@@ -17,7 +17,7 @@ selector_of A = 0
 selector_of B = 1
 
 -- the commit byte after the last record, with room for one more of n bytes
-pub record IsCommitPlace (file : List ℕ) (records : List (List ℕ)) (commit_at n : ℕ) : Type 0 where
+pub record IsCommitOffset (file : List ℕ) (records : List (List ℕ)) (commit_at n : ℕ) : Type 0 where
   pub at : commit_at ≡ slot_at file + AREA_SIZE + length (frames_of records)
   pub room : length (frames_of records) + n + 4 ≤ LOG_SIZE
 
@@ -31,7 +31,7 @@ pub record IsNoRecord (file : List ℕ) (at room : ℕ) : Type 0 where
   pub opened : slice_index file at ≡ 1
   pub none : (r : List ℕ) → length r + 4 ≤ room → IsNext file at r → ⊥
 
--- a snapshot area of these bytes, and a commit byte of 0 after it
+-- what is written into a slot for this snapshot: its snapshot area, and a commit byte of 0 after it
 pub record IsArea (snap area : List ℕ) : Type 0 where
   pub long : length area ≡ BUFFER_SIZE
   pub short : length snap ≤ MOST_SNAPSHOT

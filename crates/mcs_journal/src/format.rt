@@ -21,10 +21,10 @@ pub const NAME: [u8; 8] = *b"MCS4BEN1";
 pub const NAME_SIZE: usize = 8;
 
 /// Where the selector stands, a byte: even names the first slot, odd the second.
-pub const SELECTOR_PLACE: usize = 8;
+pub const SELECTOR_OFFSET: usize = 8;
 
 /// Where the zeros of the header start.
-pub const ZEROS_PLACE: usize = 9;
+pub const ZEROS_OFFSET: usize = 9;
 
 /// The zeros of the header.
 pub const ZEROS: [u8; 7] = [0; 7];
@@ -42,13 +42,13 @@ pub const SECOND_SLOT: usize = 81_936;
 pub const AREA_SIZE: usize = 16_384;
 
 /// Where the snapshot stands in its area, after its length.
-pub const SNAPSHOT_PLACE: usize = 4;
+pub const SNAPSHOT_OFFSET: usize = 4;
 
 /// A slot's log, after its snapshot area.
 pub const LOG_SIZE: usize = 65_536;
 
-/// Where the bytes of a record stand in it, after its commit byte and its length of two bytes.
-pub const RECORD_PLACE: usize = 3;
+/// How many bytes of a frame come before the bytes of its record: the commit byte and the length, two bytes.
+pub const FRAME_HEAD: usize = 3;
 
 /// The commit byte of a record that counts.
 pub const COMMITTED: u8 = 1;

@@ -4,7 +4,7 @@ ghost use Rattle.std.specs.Prelude.{◌⊎◌, ◌≡◌, ◌∷◌, [], ℕ, Li
 ghost use Rattle.mcs_disk.specs.Disk.{bytes_of, time_of};
 ghost use Rattle.mcs_disk.specs.Stretches.{Either, LeavesOnly};
 ghost use Rattle.mcs_disk.specs.PowerCut.{IsLeftByCut, IsDurable};
-ghost use Rattle.mcs_journal.specs.declared.format.TheConstants.{AREA_SIZE, COMMITTED, FILE_SIZE, FIRST_SLOT, HEADER_SIZE, LOG_SIZE, MOST_RECORD, MOST_SNAPSHOT, NAME, NOT_COMMITTED, RECORD_PLACE, SECOND_SLOT, SELECTOR_PLACE, SNAPSHOT_PLACE, BUFFER_SIZE, ZEROS, ZEROS_PLACE};
+ghost use Rattle.mcs_journal.specs.declared.format.TheConstants.{AREA_SIZE, COMMITTED, FILE_SIZE, FIRST_SLOT, HEADER_SIZE, LOG_SIZE, MOST_RECORD, MOST_SNAPSHOT, NAME, NOT_COMMITTED, FRAME_HEAD, SECOND_SLOT, SELECTOR_OFFSET, SNAPSHOT_OFFSET, BUFFER_SIZE, ZEROS, ZEROS_OFFSET};
 ghost use Rattle.mcs_journal.specs.File.{Holds, ContentsAreUnique};
 
 use mcs_disk::Disk;
@@ -17,8 +17,8 @@ pub fn layout_is()
     ensures sizes { FILE_SIZE ∷ HEADER_SIZE ∷ AREA_SIZE ∷ LOG_SIZE ∷ BUFFER_SIZE ∷ []
         ≡ 163_856 ∷ 16 ∷ 16_384 ∷ 65_536 ∷ 16_385 ∷ [] }
     ensures most { MOST_SNAPSHOT ∷ MOST_RECORD ∷ [] ≡ 16_380 ∷ 8_192 ∷ [] }
-    ensures places { SELECTOR_PLACE ∷ ZEROS_PLACE ∷ FIRST_SLOT ∷ SECOND_SLOT ∷ SNAPSHOT_PLACE
-        ∷ RECORD_PLACE ∷ []
+    ensures places { SELECTOR_OFFSET ∷ ZEROS_OFFSET ∷ FIRST_SLOT ∷ SECOND_SLOT ∷ SNAPSHOT_OFFSET
+        ∷ FRAME_HEAD ∷ []
         ≡ 8 ∷ 9 ∷ 16 ∷ 81_936 ∷ 4 ∷ 3 ∷ [] }
     ensures commit_bytes { COMMITTED ∷ NOT_COMMITTED ∷ [] ≡ 1 ∷ 0 ∷ [] }
     ensures name { NAME ≡ codes "MCS4BEN1" }

@@ -13,8 +13,8 @@ ghost use Rattle.mcs_journal.specs.Writing.{IsHeader, IsNext, IsNoRecord, IsSnap
 use crate::bytes::Bytes;
 use crate::fault::OpenFault;
 use crate::format::{
-    AREA_SIZE, COMMITTED, HEADER_SIZE, LOG_SIZE, MOST_RECORD, MOST_SNAPSHOT, NAME, NAME_SIZE,
-    RECORD_PLACE, SELECTOR_PLACE, SNAPSHOT_PLACE, ZEROS, ZEROS_PLACE,
+    AREA_SIZE, COMMITTED, FRAME_HEAD, HEADER_SIZE, LOG_SIZE, MOST_RECORD, MOST_SNAPSHOT, NAME,
+    NAME_SIZE, SELECTOR_OFFSET, SNAPSHOT_OFFSET, ZEROS, ZEROS_OFFSET,
 };
 use crate::slot::Slot;
 use mcs_disk::{Disk, DiskFault};
@@ -66,17 +66,17 @@ pub fn read_record<D: Disk>(
     if commit_byte[0] != COMMITTED {
         return Ok(None);
     }
-    if room < RECORD_PLACE + 2 {
+    if room < FRAME_HEAD + 2 {
         return Err(OpenFault::Damaged);
     }
     let mut prefix = [0u8; 2];
     read_at(disk, at + 1, &mut prefix)?;
     let len = prefix[0] as usize * 256 + prefix[1] as usize;
-    if len == 0 || len > MOST_RECORD || room < RECORD_PLACE + len + 1 {
+    if len == 0 || len > MOST_RECORD || room < FRAME_HEAD + len + 1 {
         return Err(OpenFault::Damaged);
     }
     let mut bytes = vec![in alloc; 0u8; len]?;
-    read_at(disk, at + RECORD_PLACE, &mut bytes)?;
+    read_at(disk, at + FRAME_HEAD, &mut bytes)?;
     Ok(Some(Bytes { bytes }))
 }
 
@@ -109,7 +109,7 @@ pub fn read_log<D: Disk>(alloc: Global, disk: &mut D, at: usize) -> Result<Log, 
     let mut records = Vec::new(alloc);
     let mut used = 0;
     while let Some(record) = read_record(alloc, disk, at + used, LOG_SIZE - used)? {
-        used += record.bytes().len() + RECORD_PLACE;
+        used += record.bytes().len() + FRAME_HEAD;
         records.push(record)?;
     }
     Ok(Log { records, used })
@@ -136,10 +136,10 @@ pub fn read_header<D: Disk>(disk: &mut D) -> Result<Slot, OpenFault>
     if header[..NAME_SIZE] != NAME[..] {
         return Err(OpenFault::NotASession);
     }
-    if header[ZEROS_PLACE..] != ZEROS[..] {
+    if header[ZEROS_OFFSET..] != ZEROS[..] {
         return Err(OpenFault::Damaged);
     }
-    Ok(Slot::named(header[SELECTOR_PLACE]))
+    Ok(Slot::named(header[SELECTOR_OFFSET]))
 }
 
 /// Reads the snapshot of the slot that starts there.
@@ -157,14 +157,14 @@ pub fn read_snapshot<D: Disk>(alloc: Global, disk: &mut D, start: usize) -> Resu
         → (snap : List ℕ) → IsSnapshot (bytes_of (D.state disk.old)) start snap → ⊥ }
     ensures named { IsErrOf result OpenFault.NotASession → ⊥ }
 {
-    let mut prefix = [0u8; SNAPSHOT_PLACE];
+    let mut prefix = [0u8; SNAPSHOT_OFFSET];
     read_at(disk, start, &mut prefix)?;
     let len = prefix[2] as usize * 256 + prefix[3] as usize;
     if prefix[0] != 0 || prefix[1] != 0 || len > MOST_SNAPSHOT {
         return Err(OpenFault::Damaged);
     }
     let mut bytes = vec![in alloc; 0u8; len]?;
-    read_at(disk, start + SNAPSHOT_PLACE, &mut bytes)?;
+    read_at(disk, start + SNAPSHOT_OFFSET, &mut bytes)?;
     Ok(Bytes { bytes })
 }
 

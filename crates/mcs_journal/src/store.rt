@@ -13,7 +13,7 @@ ghost use Rattle.mcs_journal.specs.Writing.{other_slot};
 
 use crate::bytes::{Bytes, Records};
 use crate::fault::{CreateFault, OpenFault};
-use crate::format::{AREA_SIZE, BUFFER_SIZE, FILE_SIZE, LOG_SIZE, RECORD_PLACE};
+use crate::format::{AREA_SIZE, BUFFER_SIZE, FILE_SIZE, FRAME_HEAD, LOG_SIZE};
 use crate::reading::{Found, Log, read_contents};
 use crate::slot::Slot;
 use crate::writing::{add_record, check_blank, replace_contents, write_first};
@@ -195,7 +195,7 @@ impl<D: Disk + Drop> Store<D> {
             → Holds (bytes_of (D.state self.now.disk)) snap records
             → self.now.used ≡ length (frames_of records) }
     {
-        self.used + RECORD_PLACE + len + 1 <= LOG_SIZE
+        self.used + FRAME_HEAD + len + 1 <= LOG_SIZE
     }
 
     /// Adds a record of 1 to 8,192 bytes after the others. At a device fault the store is closed.
@@ -224,7 +224,7 @@ impl<D: Disk + Drop> Store<D> {
         let commit_at = self.slot.start() + AREA_SIZE + self.used;
         match add_record(&mut self.disk, &mut self.buffer, commit_at, payload) {
             Ok(()) => {
-                self.used += payload.len() + RECORD_PLACE;
+                self.used += payload.len() + FRAME_HEAD;
                 Ok(())
             }
             Err(fault) => {

@@ -1,5 +1,5 @@
-//! The writes of a store. Each change is two steps: bytes that nothing reads yet, and the byte that
-//! makes them count. Each step is a write and a sync, so that the second byte never reaches the
+//! The writes of a store. Each change has two parts: bytes that nothing reads yet, and the byte that
+//! makes them count. Each part is a write and a sync, so that the second byte never reaches the
 //! disk before the bytes that it speaks of.
 ghost use Rattle.std.specs.Prelude.{◌≡◌, ◌⊎◌, ◌≤◌, ◌+◌, List, [], ◌∷◌, ◌++◌, ℕ, length, take, slice_index, OnOk, IsErr, IsErrOf};
 ghost use Rattle.mcs_disk.specs.Disk.{CountsFault, bytes_of, size_of, time_of, IsLater};
@@ -10,12 +10,12 @@ ghost use Rattle.mcs_journal.specs.File.{Holds, IsBlank, IsRecord, be16, slot_of
 ghost use Rattle.mcs_disk.specs.CallList.{Makes};
 ghost use Rattle.mcs_disk.specs.Calls.{WasRead};
 ghost use Rattle.mcs_journal.specs.Calls.{MakesWithArea, append_calls, commit_calls, create_calls, replace_calls};
-ghost use Rattle.mcs_journal.specs.Writing.{Commits, IsArea, IsCommitPlace, other_slot};
+ghost use Rattle.mcs_journal.specs.Writing.{Commits, IsArea, IsCommitOffset, other_slot};
 
 use crate::fault::CreateFault;
 use crate::format::{
-    AREA_SIZE, COMMITTED, FIRST_HEADER, HEADER_SIZE, NOT_COMMITTED, RECORD_PLACE, SELECTOR_PLACE,
-    SNAPSHOT_PLACE,
+    AREA_SIZE, COMMITTED, FIRST_HEADER, FRAME_HEAD, HEADER_SIZE, NOT_COMMITTED, SELECTOR_OFFSET,
+    SNAPSHOT_OFFSET,
 };
 use crate::reading::read_at;
 use crate::slot::Slot;
@@ -67,12 +67,12 @@ pub fn add_record<D: Disk>(
     ensures changes { (D.state disk.old).honest → IsDurable (D.state disk.old)
         → (snap : List ℕ) (records : List (List ℕ))
         → Holds (bytes_of (D.state disk.old)) snap records
-        → IsCommitPlace (bytes_of (D.state disk.old)) records commit_at (length payload.now)
+        → IsCommitOffset (bytes_of (D.state disk.old)) records commit_at (length payload.now)
         → Changes 4 (D.state disk.old) (D.state disk.new) (λ c. Holds c snap records)
         (λ c. Holds c snap (records ++ payload.now ∷ [])) result }
 {
     encode_record(buffer, payload);
-    commit(disk, commit_at + 1, &buffer[..payload.len() + RECORD_PLACE])?;
+    commit(disk, commit_at + 1, &buffer[..payload.len() + FRAME_HEAD])?;
     commit(disk, commit_at, &[COMMITTED])
 }
 
@@ -87,7 +87,7 @@ pub fn encode_snapshot(buffer: &mut [u8], snap: &[u8])
     buffer[1] = 0;
     buffer[2] = (n / 256) as u8;
     buffer[3] = (n % 256) as u8;
-    buffer[SNAPSHOT_PLACE..SNAPSHOT_PLACE + n].copy_from_slice(snap);
+    buffer[SNAPSHOT_OFFSET..SNAPSHOT_OFFSET + n].copy_from_slice(snap);
     buffer[AREA_SIZE] = NOT_COMMITTED;
 }
 
@@ -115,7 +115,7 @@ pub fn replace_contents<D: Disk>(
 {
     encode_snapshot(buffer, snap);
     commit(disk, other.start(), buffer)?;
-    commit(disk, SELECTOR_PLACE, &[other.selector()])
+    commit(disk, SELECTOR_OFFSET, &[other.selector()])
 }
 
 /// The disk has the size of a session file, and its first 16 bytes are 0.

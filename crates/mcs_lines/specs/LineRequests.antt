@@ -1,4 +1,4 @@
--- What a command line asks for.
+-- What a line asks for.
 use Rattle.std.specs.Prelude.{ℕ, List, [], ◌∷◌, codes, length, nat_lt, Option, Some, None, Result, Ok, Err, if◌then◌else◌}
 use Rattle.std.specs.List.{list_all}
 use Rattle.std.specs.Str.{bytes_eq}
@@ -10,7 +10,7 @@ use Rattle.mcs_lines.specs.declared.requests.Request.TheVariants.{Nothing, Refus
 use Rattle.mcs_lines.specs.declared.requests.LineFault.{LineFault}
 use Rattle.mcs_lines.specs.declared.requests.LineFault.TheVariants.{NotACommand, BadNumber, LineTooLong, NotAscii}
 use Rattle.mcs_lines.specs.ProbeWords.{probes_within}
-use Rattle.mcs_lines.specs.Requests.{cycles_of, request_of_word}
+use Rattle.mcs_lines.specs.Requests.{cycles_asked, request_of_word}
 use Rattle.mcs_lines.specs.Words.{is_plain_byte}
 use Rattle.mcs_model.specs.TextLines.{words_of}
 
@@ -23,7 +23,7 @@ trace_of (Some n) (Ok probes) = Trace n (record { items = probes })
 -- `trace`, by the words after it
 abbrev pub trace_request : List (List ℕ) → Request
 trace_request [] = Refused NotACommand
-trace_request (n ∷ places) = trace_of (cycles_of n) (probes_within PROBES places)
+trace_request (n ∷ places) = trace_of (cycles_asked n) (probes_within PROBES places)
 
 -- by the words of the line
 abbrev pub request_of_words : List (List ℕ) → Request
@@ -31,8 +31,8 @@ request_of_words [] = Nothing
 request_of_words (word ∷ words) =
     if bytes_eq word (codes "trace") then trace_request words else request_of_word word words
 
--- What a line asks for. Too long (12) is judged first, then a byte that no command line may have
--- (14); only then is it read.
+-- What a line asks for. Too long (12) is judged first, then a byte that no line may have (14); only
+-- then is it read.
 unfoldable pub request_of : List ℕ → Request
 request_of line =
     if nat_lt LINE_BYTES (length line) then Refused LineTooLong

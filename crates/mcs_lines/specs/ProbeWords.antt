@@ -48,15 +48,15 @@ or_bad_probe (Some p) = Ok p
 -- ---- the lines of a board, by their numbers
 
 -- `romC.K`
-abbrev pub rom_line : List ℕ → List ℕ → Option Probe
-rom_line c k = elim (number_up_to 15 c) [
+abbrev pub rom_line_probe : List ℕ → List ℕ → Option Probe
+rom_line_probe c k = elim (number_up_to 15 c) [
   | None ↦ None
   | Some c ↦ elim (number_up_to 3 k) [ None ↦ None | Some k ↦ Some (Level (line.Rom c k)) ]
 ]
 
 -- `ramB.C.K`
-abbrev pub ram_line : List ℕ → List ℕ → List ℕ → Option Probe
-ram_line b c k = elim (number_up_to 7 b) [
+abbrev pub ram_line_probe : List ℕ → List ℕ → List ℕ → Option Probe
+ram_line_probe b c k = elim (number_up_to 7 b) [
   | None ↦ None
   | Some b ↦ elim (number_up_to 3 c) [
     | None ↦ None
@@ -65,8 +65,8 @@ ram_line b c k = elim (number_up_to 7 b) [
 ]
 
 -- `chainN.I`
-abbrev pub chain_line : List ℕ → List ℕ → Option Probe
-chain_line n i = elim (number_up_to 3 n) [
+abbrev pub chain_line_probe : List ℕ → List ℕ → Option Probe
+chain_line_probe n i = elim (number_up_to 3 n) [
   | None ↦ None
   | Some n ↦ elim (number_up_to 79 i) [ None ↦ None | Some i ↦ Some (Level (line.Chain n i)) ]
 ]
@@ -74,19 +74,19 @@ chain_line n i = elim (number_up_to 3 n) [
 -- ---- its ports and chains
 
 -- `romC`
-abbrev pub rom_port : List ℕ → Option Probe
-rom_port c = elim (number_up_to 15 c) [ None ↦ None | Some c ↦ Some (RomPort c) ]
+abbrev pub rom_port_probe : List ℕ → Option Probe
+rom_port_probe c = elim (number_up_to 15 c) [ None ↦ None | Some c ↦ Some (RomPort c) ]
 
 -- `ramB.C`
-abbrev pub ram_port : List ℕ → List ℕ → Option Probe
-ram_port b c = elim (number_up_to 7 b) [
+abbrev pub ram_port_probe : List ℕ → List ℕ → Option Probe
+ram_port_probe b c = elim (number_up_to 7 b) [
   | None ↦ None
   | Some b ↦ elim (number_up_to 3 c) [ None ↦ None | Some c ↦ Some (RamPort b c) ]
 ]
 
 -- `chainN`
-abbrev pub chain_bits : List ℕ → Option Probe
-chain_bits n = elim (number_up_to 3 n) [ None ↦ None | Some n ↦ Some (Chain n) ]
+abbrev pub chain_probe : List ℕ → Option Probe
+chain_probe n = elim (number_up_to 3 n) [ None ↦ None | Some n ↦ Some (Chain n) ]
 
 -- ---- the parts of a word
 
@@ -103,7 +103,7 @@ number_after start name = elim (after_word start name) [
   | Some n ↦ if is_number n then Some n else None
 ]
 
--- the same, where the part after the next dot is a number too
+-- the same, where k, another part of the word, is a number too
 abbrev pub number_before : List ℕ → List ℕ → List ℕ → Option (List ℕ)
 number_before start name k = if is_number k then number_after start name else None
 
@@ -112,14 +112,14 @@ number_before start name k = if is_number k then number_after start name else No
 -- `romC`, `chainN`, and the places of `poke`
 abbrev pub probe_named : List ℕ → Result Probe LineFault
 probe_named word = elim (number_after (codes "rom") word) [
-  | Some c ↦ or_bad_probe (rom_port c)
+  | Some c ↦ or_bad_probe (rom_port_probe c)
   | None ↦ elim (number_after (codes "chain") word) [
-    | Some n ↦ or_bad_probe (chain_bits n)
+    | Some n ↦ or_bad_probe (chain_probe n)
     | None ↦ probe_of_poke word
   ]
 ]
 
--- the places with a name of their own
+-- the places with a name of their own that `poke` does not have
 abbrev pub probe_names : List (List ℕ × Probe)
 probe_names = (codes "lamps", Lamps) ∷ (codes "ret", Returns) ∷ (codes "src", Src) ∷ []
 
@@ -130,16 +130,16 @@ probe_whole word = elim (asked word probe_names) [ None ↦ probe_named word | S
 -- `ramB.C`, and the places of `poke`
 abbrev pub probe_in_bank : List ℕ → List ℕ → List ℕ → Result Probe LineFault
 probe_in_bank word name c = elim (number_before (codes "ram") name c) [
-  | Some b ↦ or_bad_probe (ram_port b c)
+  | Some b ↦ or_bad_probe (ram_port_probe b c)
   | None ↦ probe_of_poke word
 ]
 
 -- of two parts
 abbrev pub probe_two : List ℕ → List ℕ → List ℕ → Result Probe LineFault
 probe_two word name k = elim (number_before (codes "rom") name k) [
-  | Some c ↦ or_bad_probe (rom_line c k)
+  | Some c ↦ or_bad_probe (rom_line_probe c k)
   | None ↦ elim (number_before (codes "chain") name k) [
-    | Some n ↦ or_bad_probe (chain_line n k)
+    | Some n ↦ or_bad_probe (chain_line_probe n k)
     | None ↦ probe_in_bank word name k
   ]
 ]
@@ -147,7 +147,7 @@ probe_two word name k = elim (number_before (codes "rom") name k) [
 -- of three parts
 abbrev pub probe_three : List ℕ → List ℕ → List ℕ → List ℕ → Result Probe LineFault
 probe_three word name c k = elim (number_before (codes "ram") name k) [
-  | Some b ↦ if is_number c then or_bad_probe (ram_line b c k) else probe_of_poke word
+  | Some b ↦ if is_number c then or_bad_probe (ram_line_probe b c k) else probe_of_poke word
   | None ↦ probe_of_poke word
 ]
 

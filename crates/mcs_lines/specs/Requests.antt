@@ -1,4 +1,4 @@
--- What a command line asks for: the table of lines. (Our own choice.)
+-- What a line asks for: the table of lines. (Our own choice.)
 use Rattle.std.specs.Prelude.{◌==◌, ◌&&◌, Bool, ℕ, List, [], ◌∷◌, codes, nat_lt, is_some, if◌then◌else◌, Option, Some, None}
 use Rattle.std.specs.Str.{bytes_eq}
 use Rattle.mcs_model.specs.WordTables.{beside}
@@ -108,16 +108,17 @@ alone =
     ∷ (codes "map", Begin Map)
     ∷ []
 
--- a number of cycles, as a run takes it: at least one
-abbrev pub cycles_of : List ℕ → Option ℕ
-cycles_of word = elim (number_up_to RUN_CYCLES word) [
+-- the cycles of `count` and `trace`, 1 to RUN_CYCLES; `run` takes any number of 32 bits here, of
+-- which the bench refuses what is out of range (44)
+abbrev pub cycles_asked : List ℕ → Option ℕ
+cycles_asked word = elim (number_up_to RUN_CYCLES word) [
   | None ↦ None
   | Some n ↦ if nat_lt 0 n then Some n else None
 ]
 
 -- `count`
 abbrev pub count_request : List ℕ → Request
-count_request n = elim (cycles_of n) [ None ↦ Refused BadNumber | Some n ↦ Count n ]
+count_request n = elim (cycles_asked n) [ None ↦ Refused BadNumber | Some n ↦ Count n ]
 
 -- what a word asks for of the one after it
 abbrev pub with_one : List (List ℕ × (List ℕ → Request))
@@ -138,7 +139,7 @@ listing at lines = if nat_lt 0 lines then Listing at lines else Refused BadNumbe
 abbrev pub with_numbers : ℕ → List ℕ → ℕ → List ℕ → (ℕ → ℕ → Request) → Request
 with_numbers most a most' b ask = with_number most a (λ n. with_number most' b (λ m. ask n m))
 
--- what a word asks for of the two after it
+-- what a word asks for of the two after it (which rows and columns there are, the bench says: 41)
 abbrev pub with_two : List (List ℕ × (List ℕ → List ℕ → Request))
 with_two =
     (codes "poke", poke_of)

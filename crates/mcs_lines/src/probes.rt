@@ -1,6 +1,6 @@
 //! The places that `trace` names.
 ghost use Rattle.std.specs.Prelude.{◌≡◌, Ok, Err, None, Some, MatchOption, MatchResult};
-ghost use Rattle.mcs_lines.specs.ProbeWords.{after_word, chain_bits, chain_line, is_bad_number, number_after, number_before, or_bad_probe, probe_at, probe_in_bank, probe_named, probe_of, probe_of_command, probe_of_poke, probe_three, probe_two, probe_whole, probes_within, ram_line, ram_port, rom_line, rom_port};
+ghost use Rattle.mcs_lines.specs.ProbeWords.{after_word, chain_probe, chain_line_probe, is_bad_number, number_after, number_before, or_bad_probe, probe_at, probe_in_bank, probe_named, probe_of, probe_of_command, probe_of_poke, probe_three, probe_two, probe_whole, probes_within, ram_line_probe, ram_port_probe, rom_line_probe, rom_port_probe};
 ghost use Rattle.mcs_model.specs.TextLines.{words_of};
 
 use crate::numbers::{bank, is_number, nibble, status};
@@ -61,45 +61,45 @@ fn or_bad_number(probe: Option<Probe>) -> Result<Probe, LineFault>
 }
 
 /// A line of a ROM.
-fn rom_line(c: &[u8], k: &[u8]) -> Option<Probe>
-    ensures { result ≡ rom_line c.now k.now }
+fn rom_line_probe(c: &[u8], k: &[u8]) -> Option<Probe>
+    ensures { result ≡ rom_line_probe c.now k.now }
 {
     Some(Probe::Level(Line::Rom(nibble(c)?.get(), status(k)?.get())))
 }
 
 /// A line of a RAM chip.
-fn ram_line(b: &[u8], c: &[u8], k: &[u8]) -> Option<Probe>
-    ensures { result ≡ ram_line b.now c.now k.now }
+fn ram_line_probe(b: &[u8], c: &[u8], k: &[u8]) -> Option<Probe>
+    ensures { result ≡ ram_line_probe b.now c.now k.now }
 {
     let bank = bank(b)?.get();
     Some(Probe::Level(Line::Ram(bank, status(c)?.get(), status(k)?.get())))
 }
 
 /// A bit of a chain.
-fn chain_line(n: &[u8], i: &[u8]) -> Option<Probe>
-    ensures { result ≡ chain_line n.now i.now }
+fn chain_line_probe(n: &[u8], i: &[u8]) -> Option<Probe>
+    ensures { result ≡ chain_line_probe n.now i.now }
 {
     let n = status(n)?.get();
     Some(Probe::Level(Line::Chain(n, number_within(i, 79)? as u8)))
 }
 
 /// The port of a ROM.
-fn rom_port(c: &[u8]) -> Option<Probe>
-    ensures { result ≡ rom_port c.now }
+fn rom_port_probe(c: &[u8]) -> Option<Probe>
+    ensures { result ≡ rom_port_probe c.now }
 {
     Some(Probe::RomPort(nibble(c)?.get()))
 }
 
 /// The port of a RAM chip.
-fn ram_port(b: &[u8], c: &[u8]) -> Option<Probe>
-    ensures { result ≡ ram_port b.now c.now }
+fn ram_port_probe(b: &[u8], c: &[u8]) -> Option<Probe>
+    ensures { result ≡ ram_port_probe b.now c.now }
 {
     Some(Probe::RamPort(bank(b)?.get(), status(c)?.get()))
 }
 
 /// The bits of a chain.
-fn chain_bits(n: &[u8]) -> Option<Probe>
-    ensures { result ≡ chain_bits n.now }
+fn chain_probe(n: &[u8]) -> Option<Probe>
+    ensures { result ≡ chain_probe n.now }
 {
     Some(Probe::Chain(status(n)?.get()))
 }
@@ -148,10 +148,10 @@ fn read_named(word: &[u8]) -> Result<Probe, LineFault>
     ensures { result ≡ probe_named word.now }
 {
     if let Some(c) = number_after(b"rom", word) {
-        return or_bad_number(rom_port(c));
+        return or_bad_number(rom_port_probe(c));
     }
     if let Some(n) = number_after(b"chain", word) {
-        return or_bad_number(chain_bits(n));
+        return or_bad_number(chain_probe(n));
     }
     read_place(word)
 }
@@ -176,7 +176,7 @@ fn read_in_bank(word: &[u8], name: &[u8], c: &[u8]) -> Result<Probe, LineFault>
     ensures { result ≡ probe_in_bank word.now name.now c.now }
 {
     if let Some(b) = number_before(b"ram", name, c) {
-        return or_bad_number(ram_port(b, c));
+        return or_bad_number(ram_port_probe(b, c));
     }
     read_place(word)
 }
@@ -186,10 +186,10 @@ fn read_two(word: &[u8], name: &[u8], k: &[u8]) -> Result<Probe, LineFault>
     ensures { result ≡ probe_two word.now name.now k.now }
 {
     if let Some(c) = number_before(b"rom", name, k) {
-        return or_bad_number(rom_line(c, k));
+        return or_bad_number(rom_line_probe(c, k));
     }
     if let Some(n) = number_before(b"chain", name, k) {
-        return or_bad_number(chain_line(n, k));
+        return or_bad_number(chain_line_probe(n, k));
     }
     read_in_bank(word, name, k)
 }
@@ -200,7 +200,7 @@ fn read_three(word: &[u8], name: &[u8], c: &[u8], k: &[u8]) -> Result<Probe, Lin
 {
     if let Some(b) = number_before(b"ram", name, k) {
         if is_number(c) {
-            return or_bad_number(ram_line(b, c, k));
+            return or_bad_number(ram_line_probe(b, c, k));
         }
     }
     read_place(word)

@@ -4,7 +4,7 @@ ghost use Rattle.std.specs.List.{list_all};
 ghost use Rattle.mcs_lines.specs.RefusalNumbers.{line_fault_number};
 ghost use Rattle.mcs_lines.specs.LineRequests.{request_of, request_of_words, trace_request};
 ghost use Rattle.mcs_lines.specs.ReadNumbers.{or_bad_number};
-ghost use Rattle.mcs_lines.specs.Requests.{cycles_of, listing, request_of_word, with_numbers};
+ghost use Rattle.mcs_lines.specs.Requests.{cycles_asked, listing, request_of_word, with_numbers};
 ghost use Rattle.mcs_lines.specs.Words.{is_plain_byte};
 ghost use Rattle.mcs_model.specs.TextLines.{words_of};
 
@@ -130,7 +130,7 @@ pub(crate) fn or_bad_number(request: Option<Request>) -> Request
 
 /// A number of cycles, 1 to [`RUN_CYCLES`].
 fn cycles(word: &[u8]) -> Option<u32>
-    ensures { result ≡ cycles_of word.now }
+    ensures { result ≡ cycles_asked word.now }
 {
     let n = number_within(word, RUN_CYCLES)?;
     if n == 0 { None } else { Some(n) }

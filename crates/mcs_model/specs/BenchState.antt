@@ -6,11 +6,11 @@ use Rattle.mcs_model.specs.Bus.{BusState, zero_bus}
 pub record BenchState : Type 0 where
   -- the registers of the 4004
   pub processor : Regs
-  -- the board and what its chips hold
+  -- the board, what its chips hold, its keys and the TEST pin
   pub bus : BusState
   -- the breakpoints, rising
   pub breakpoints : List ℕ
-  -- the watched RAM characters, each where `ram_place` says, rising
+  -- the watched RAM characters, each by its index (`ram_index`), rising
   pub watches : List ℕ
   -- how many commands were accepted
   pub seq : ℕ

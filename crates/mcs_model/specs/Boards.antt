@@ -17,10 +17,11 @@ use Rattle.mcs_model.specs.declared.limits.TheConstants.{ROMS, BANKS, BANK_CHIPS
 abbrev pub masks_on : BoardParts → ℕ → Option (List LineMask)
 masks_on b chip = slice_index_or b.roms chip None
 
--- whether line k of a ROM is an input line of the board
+-- whether line k, 0 to 3, of a ROM is an input line; false where the board lacks the ROM
 abbrev pub input_on : BoardParts → ℕ → ℕ → Bool
 input_on b chip k = elim (masks_on b chip) [ Some mask ↦ is_input (mask_at mask k) | None ↦ false ]
 
+-- what `chain_part` gives past the last chain: without bits; its two lines mean nothing
 abbrev pub no_chain : ChainPart
 no_chain = record { clock = Rom 0 0; data_in = Rom 0 0; chips = 0 }
 
@@ -52,7 +53,8 @@ in_range (Rom chip k) = nat_lt chip ROMS && nat_lt k 4
 in_range (Ram bank chip k) = nat_lt bank BANKS && nat_lt chip BANK_CHIPS && nat_lt k 4
 in_range (Chain n i) = nat_lt n CHAINS && nat_lt i CHAIN_BITS
 
--- whether the board has a line: its ROM, its RAM chip, or its chain with that many bits
+-- whether the board has a line: line k, 0 to 3, of a ROM or RAM chip that it has, or bit i of a
+-- chain that has more than i bits
 abbrev pub exists_on : BoardParts → Line → Bool
 exists_on b (Rom chip k) = is_some (masks_on b chip) && nat_lt k 4
 exists_on b (Ram bank chip k) = nat_lt chip (slice_index b.banks bank) && nat_lt k 4
@@ -88,7 +90,8 @@ any_line p b = any_chain_line p b || any_column p b || any_lamp p b
 abbrev pub is_chain_size : ChainPart → Bool
 is_chain_size c = nat_lt 0 c.chips && nat_le c.chips CHAIN_CHIPS
 
--- whether the numbers of a key matrix are in their ranges: 1 to 10 rows, at least one column
+-- whether the numbers of a key matrix are in their ranges: chain 0 to 3, first bit 0 to 79, 1 to 10
+-- rows, at least one column (at most 8 by its type)
 abbrev pub is_matrix_size : KeyMatrix → Bool
 is_matrix_size m =
     nat_lt m.chain CHAINS && nat_lt m.first CHAIN_BITS && nat_lt 0 m.rows && nat_le m.rows KEY_ROWS
@@ -144,8 +147,8 @@ has_key b row column =
 abbrev pub key_count : BoardParts → ℕ
 key_count b = elim b.keys [ Some m ↦ m.rows * length m.columns.items | None ↦ 0 ]
 
-abbrev pub key_place : BoardParts → ℕ → ℕ → ℕ
-key_place b row column = elim b.keys [ Some m ↦ row * length m.columns.items + column | None ↦ 0 ]
+abbrev pub key_index : BoardParts → ℕ → ℕ → ℕ
+key_index b row column = elim b.keys [ Some m ↦ row * length m.columns.items + column | None ↦ 0 ]
 
 -- the lengths of the lists of all parts, by their types
 pub record IsSized (b : BoardParts) : Type 0 where

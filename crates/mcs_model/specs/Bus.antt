@@ -6,15 +6,17 @@ use Rattle.std.specs.Prelude.{ℕ, ◌+◌, ◌*◌, ◌/◌, List, [], replicat
 use Rattle.mcs_model.specs.declared.board.BoardParts.{BoardParts}
 use Rattle.mcs_model.specs.Boards.{empty_parts}
 
+-- The lengths, and the zeros of what is absent, are told as they are in every valid state
+-- (`IsInRange` and `IsAbsentZero` of Validity); reads of what is absent give 0 by them alone.
 pub record BusState : Type 0 where
   pub board : BoardParts
   -- the bytes of the ROMs, by address: 4,096, those of absent ROMs 0
   pub rom : List ℕ
-  -- the RAM characters, each where `ram_place` says: 2,048, absent ones 0
+  -- the RAM characters, each where `ram_index` says: 2,048, absent ones 0
   pub ram : List ℕ
-  -- the status characters, each where `status_place` says: 512, absent ones 0
+  -- the status characters, each where `status_index` says: 512, absent ones 0
   pub status : List ℕ
-  -- the port latches of the RAM chips, each where `ram_port_place` says: 32, absent ones 0
+  -- the port latches of the RAM chips, each where `ram_port_index` says: 32, absent ones 0
   pub ram_ports : List ℕ
   -- the port latches of the ROMs: 16, absent ones and the bits of input lines 0
   pub rom_ports : List ℕ
@@ -71,19 +73,19 @@ after_src s bank byte =
     else record s { rom_src = byte }
 
 -- where the character of a bank and an SRC byte stands
-abbrev pub ram_place : ℕ → ℕ → ℕ
-ram_place bank src = bank * 256 + src
+abbrev pub ram_index : ℕ → ℕ → ℕ
+ram_index bank src = bank * 256 + src
 
 -- the selected character of a bank (4002 data sheet); an absent one reads 0 (our own choice)
 unfoldable pub ram_of : BusState → ℕ → ℕ
-ram_of s bank = slice_index s.ram (ram_place bank (src_of s bank))
+ram_of s bank = slice_index s.ram (ram_index bank (src_of s bank))
 
 -- a RAM character is written, by its bank and its SRC byte (4002 data sheet); lost where the chip
 -- is absent (our own choice)
 unfoldable pub with_ram : BusState → ℕ → ℕ → ℕ → BusState
 with_ram s bank src n =
     if has_chip s bank src
-    then record s { ram = slice_set s.ram (ram_place bank src) n }
+    then record s { ram = slice_set s.ram (ram_index bank src) n }
     else s
 
 -- a write to the selected character of a bank
@@ -91,24 +93,24 @@ unfoldable pub after_ram : BusState → ℕ → ℕ → BusState
 after_ram s bank n = with_ram s bank (src_of s bank) n
 
 -- where status character k of the register with SRC upper nibble `high` of a bank stands
-abbrev pub status_place : ℕ → ℕ → ℕ → ℕ
-status_place bank high k = bank * 64 + (high * 4 + k)
+abbrev pub status_index : ℕ → ℕ → ℕ → ℕ
+status_index bank high k = bank * 64 + (high * 4 + k)
 
 -- status character k of the selected register of a bank (4002 data sheet); an absent one reads 0
 -- (our own choice)
 unfoldable pub status_of : BusState → ℕ → ℕ → ℕ
-status_of s bank k = slice_index s.status (status_place bank (src_of s bank / 16) k)
+status_of s bank k = slice_index s.status (status_index bank (src_of s bank / 16) k)
 
 -- where the port latch of a RAM chip stands, by its bank and its number
-abbrev pub ram_port_place : ℕ → ℕ → ℕ
-ram_port_place bank chip = bank * 4 + chip
+abbrev pub ram_port_index : ℕ → ℕ → ℕ
+ram_port_index bank chip = bank * 4 + chip
 
 -- a status character is written, by its bank, the upper nibble of its SRC byte and k (4002 data
 -- sheet); lost where the chip is absent (our own choice)
 unfoldable pub with_status : BusState → ℕ → ℕ → ℕ → ℕ → BusState
 with_status s bank high k n =
     if nat_lt (high / 4) (chips_of s bank)
-    then record s { status = slice_set s.status (status_place bank high k) n }
+    then record s { status = slice_set s.status (status_index bank high k) n }
     else s
 
 -- a write to status character k of the selected register of a bank

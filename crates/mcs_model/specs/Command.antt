@@ -15,9 +15,9 @@ use Rattle.mcs_model.specs.declared.refusals.BenchFault.TheVariants.{NoKey, NoRo
 use Rattle.mcs_model.specs.declared.regs.Regs.{Regs}
 use Rattle.mcs_model.specs.Boards.{has_key, masks_on}
 use Rattle.mcs_model.specs.Listed.{is_listed, with_listed, without_listed}
-use Rattle.mcs_model.specs.Bus.{BusState, has_chip, chips_of, ram_place, with_ram, with_status}
+use Rattle.mcs_model.specs.Bus.{BusState, has_chip, chips_of, ram_index, with_ram, with_status}
 use Rattle.mcs_model.specs.BenchState.{BenchState, new_regs}
-use Rattle.mcs_model.specs.Places.{with_rom_byte, with_rom_bytes, with_key, after_reset, after_wire}
+use Rattle.mcs_model.specs.ChipWrites.{with_rom_byte, with_rom_bytes, with_key, after_reset, after_wire}
 use Rattle.mcs_model.specs.Running.{Machine, Stops, run_length, after_run, run_stop, step_length, after_step, step_stop}
 
 -- ---- which commands are accepted
@@ -51,7 +51,7 @@ own_refusal s (Break at) =
     then None
     else Some BreaksFull
 own_refusal s (Watch bank src) =
-    if is_listed s.watches (ram_place bank src) || nat_lt (length s.watches) WATCHES
+    if is_listed s.watches (ram_index bank src) || nat_lt (length s.watches) WATCHES
     then None
     else Some WatchesFull
 own_refusal s _ = None
@@ -104,9 +104,9 @@ after_change s (Test bit) = with_bus s (record s.bus { test = bit })
 after_change s Reset = with_machine s (new_regs, after_reset s.bus)
 after_change s (Break at) = record s { breakpoints = with_listed s.breakpoints at }
 after_change s (Unbreak at) = record s { breakpoints = without_listed s.breakpoints at }
-after_change s (Watch bank src) = record s { watches = with_listed s.watches (ram_place bank src) }
+after_change s (Watch bank src) = record s { watches = with_listed s.watches (ram_index bank src) }
 after_change s (Unwatch bank src) =
-    record s { watches = without_listed s.watches (ram_place bank src) }
+    record s { watches = without_listed s.watches (ram_index bank src) }
 
 -- the state after an accepted command: each raises the count by one, also where nothing else
 -- changes

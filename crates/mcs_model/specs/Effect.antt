@@ -21,17 +21,17 @@ with_acc s n = record s { acc = n }
 abbrev pub with_sum : Regs → ℕ → Regs
 with_sum s x = record s { acc = x % 16; cy = x / 16 }
 
--- word w on the page of an address
+-- the address of word w on the page of an address: for JCN, ISZ, FIN and JIN of the one after the
+-- instruction's words (Manual, these at the end of a page)
 abbrev pub address_beside : ℕ → ℕ → ℕ
 address_beside address w = word_on_page (page_of address) w
 
--- the counter set to a word on its own page: after an instruction's words that is the page of the
--- next instruction (Manual, JCN, ISZ, FIN and JIN at the end of a page)
+-- the counter set to a word on its own page; it already stands after the instruction's words
 abbrev pub with_word : Regs → ℕ → Regs
 with_word s w = record s { pc = address_beside s.pc w }
 
 -- JCN: whether the jump is taken. Condition bit 2 asks for an accumulator of 0, bit 1 for a carry
--- of 1, bit 0 for a TEST of 0, and bit 3 inverts the answer.
+-- of 1, bit 0 for a TEST of 0; one that is so is enough, and bit 3 inverts the answer.
 abbrev pub is_taken : ℕ → Regs → ℕ → Bool
 is_taken condition s test =
     let holds =
@@ -65,8 +65,8 @@ after_bbl s =
 abbrev pub after_rar : Regs → Regs
 after_rar s = record s { acc = 8 * s.cy + s.acc / 2; cy = s.acc % 2 }
 
--- DAA: 6 is added where the carry is 1 or the accumulator is above 9; the carry is set and never
--- cleared
+-- DAA: 6 is added where the carry is 1 or the accumulator is above 9; the carry becomes 1 where
+-- that passes 15, and is never cleared
 abbrev pub after_daa : Regs → Regs
 after_daa s =
     if s.cy == 1 || nat_lt 9 s.acc
@@ -152,7 +152,7 @@ bus_after _ _ m = m
 abbrev pub after_words : Op → Regs → Regs
 after_words op s = record s { pc = (s.pc + word_count_of op) % 4096; owed = cycles_of op - 1 }
 
--- processor and bus after an instruction
+-- processor and bus after the first cycle of an instruction, in which it does all its work
 abbrev pub effect : Op → Regs → BusState → Regs × BusState
 effect op s m = (registers_after op (after_words op s) m, bus_after op s m)
 

@@ -10,7 +10,7 @@ use Rattle.mcs_model.specs.declared.board.KeyMatrix.{KeyMatrix}
 use Rattle.mcs_model.specs.declared.board.Line.{Line}
 use Rattle.mcs_model.specs.declared.board.Line.TheVariants.{Rom, Ram, Chain}
 use Rattle.mcs_model.specs.Boards.{masks_on, input_on, chain_part, chain_count}
-use Rattle.mcs_model.specs.Bus.{BusState, src_of, has_chip, ram_port_place}
+use Rattle.mcs_model.specs.Bus.{BusState, src_of, has_chip, ram_port_index}
 
 abbrev pub bit_when : Bool → ℕ
 bit_when b = if b then 1 else 0
@@ -19,7 +19,7 @@ bit_when b = if b then 1 else 0
 abbrev pub chain_bit : BusState → ℕ → ℕ → ℕ
 chain_bit s n i = slice_index (slice_index_or s.chains n []) i
 
--- whether a column is line k of a ROM
+-- whether a line is line k of a ROM
 abbrev pub is_rom_line : ℕ → ℕ → Line → Bool
 is_rom_line chip k (Rom c j) = c == chip && j == k
 is_rom_line chip k _ = false
@@ -49,7 +49,7 @@ is_pulled s chip k =
 -- the bit that the latch of a port line holds
 unfoldable pub latch_of : BusState → Line → ℕ
 latch_of s (Rom c k) = bit_of (slice_index s.rom_ports c) k
-latch_of s (Ram b c k) = bit_of (slice_index s.ram_ports (ram_port_place b c)) k
+latch_of s (Ram b c k) = bit_of (slice_index s.ram_ports (ram_port_index b c)) k
 latch_of s _ = 0
 
 -- the level of a line: the latch bit of an output line, the bit of a chain, and at an input line
@@ -79,22 +79,23 @@ chains_clocked before s = record s {
   chains = table_of (chain_count s.board) (λ i. chain_clocked s i (slice_index before i) (slice_index_or s.chains i []));
 }
 
+-- one port latch set, nothing being clocked: by the number of the ROM, by `ram_port_index`
 abbrev pub with_rom_ports_at : BusState → ℕ → ℕ → BusState
 with_rom_ports_at s c n = record s { rom_ports = slice_set s.rom_ports c n }
 
 abbrev pub with_ram_ports_at : BusState → ℕ → ℕ → BusState
 with_ram_ports_at s i n = record s { ram_ports = slice_set s.ram_ports i n }
 
--- a write to the port of the selected RAM chip of a bank (4002 data sheet, WMP); one to an absent
--- chip is lost (our own choice)
+-- a write to the port of the selected RAM chip of a bank (4002 data sheet, WMP), and the shift of
+-- each chain whose clock line it raises; one to an absent chip is lost (our own choice)
 unfoldable pub after_ram_port : BusState → ℕ → ℕ → BusState
 after_ram_port s bank n =
     if has_chip s bank (src_of s bank)
-    then chains_clocked (clock_levels s) (with_ram_ports_at s (ram_port_place bank (src_of s bank / 64)) n)
+    then chains_clocked (clock_levels s) (with_ram_ports_at s (ram_port_index bank (src_of s bank / 64)) n)
     else s
 
--- a write to the port of the selected ROM (4001 data sheet, WRR); its latch keeps 0 at input lines,
--- and a write to an absent ROM is lost (our own choice)
+-- a write to the port of the selected ROM (4001 data sheet, WRR), and those shifts; its latch keeps
+-- 0 at input lines, and a write to an absent ROM is lost (our own choice)
 unfoldable pub after_rom_port : BusState → ℕ → BusState
 after_rom_port s n =
     elim (masks_on s.board (s.rom_src / 16)) [

@@ -9,7 +9,7 @@ pub mod Boards
 pub mod Bus
 pub mod Levels
 pub mod Listed
-pub mod Places
+pub mod ChipWrites
 pub mod BenchState
 pub mod Validity
 pub mod RefusalNumbers

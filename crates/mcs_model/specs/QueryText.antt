@@ -7,8 +7,8 @@ use Rattle.mcs_model.specs.declared.query.Query.{Query}
 use Rattle.mcs_model.specs.declared.query.Query.TheVariants as query
 use Rattle.mcs_model.specs.declared.regs.Regs.{Regs}
 use Rattle.mcs_model.specs.declared.limits.TheConstants.{BANKS, ROMS}
-use Rattle.mcs_model.specs.Boards.{chain_bits, chain_count, key_place, masks_on}
-use Rattle.mcs_model.specs.Bus.{BusState, chips_of, ram_port_place}
+use Rattle.mcs_model.specs.Boards.{chain_bits, chain_count, key_index, masks_on}
+use Rattle.mcs_model.specs.Bus.{BusState, chips_of, ram_port_index}
 use Rattle.mcs_model.specs.TextLines.{line_feed}
 use Rattle.mcs_model.specs.BenchState.{BenchState}
 use Rattle.mcs_model.specs.Levels.{chain_bit, level, port_at}
@@ -30,11 +30,11 @@ abbrev pub or_dash : List ℕ → List ℕ
 or_dash [] = codes "-"
 or_dash bytes = bytes
 
--- that many numbers from a place on
+-- that many numbers from an index on
 abbrev pub stretch : List ℕ → ℕ → ℕ → List ℕ
 stretch items from count = take count (drop from items)
 
--- the registers of the processor but its return addresses, and the TEST pin
+-- the registers of the processor but for its return addresses; also the TEST pin (`test`)
 abbrev pub registers_text : Regs → ℕ → List ℕ
 registers_text registers test =
     codes "acc " ++ digit_text registers.acc
@@ -74,7 +74,7 @@ register_line s bank chip r =
 abbrev pub ram_port_text : List ℕ → BusState → ℕ → ℕ → List ℕ
 ram_port_text out s bank chip =
     digit_text bank ++ codes "." ++ digit_text chip ++ out
-    ++ digit_text (slice_index s.ram_ports (ram_port_place bank chip))
+    ++ digit_text (slice_index s.ram_ports (ram_port_index bank chip))
 
 -- a RAM chip: its four registers, and its port
 abbrev pub chip_lines : BusState → ℕ → ℕ → List (List ℕ)
@@ -128,7 +128,7 @@ rom_port_texts rom out read s chip =
 -- the key of a row and a column, where it is down
 abbrev pub key_item : BusState → ℕ → ℕ → List (List ℕ)
 key_item s row column =
-    if slice_index s.keys (key_place s.board row column) == 1
+    if slice_index s.keys (key_index s.board row column) == 1
     then (digit_text row ++ codes "." ++ digit_text column) ∷ []
     else []
 
@@ -155,7 +155,7 @@ abbrev pub spaced_or_dash : List (List ℕ) → List ℕ
 spaced_or_dash [] = codes " -"
 spaced_or_dash items = spaced items
 
--- the SRC byte that the ROMs keep, and those of the banks, rising
+-- the SRC byte that the ROMs keep, and those of the banks that have chips, by rising bank
 abbrev pub src_line : BusState → List ℕ
 src_line s =
     codes "src " ++ hex_2 s.rom_src ++ spaced (flat_map (bank_items s) (range_with_len 0 BANKS))
@@ -205,7 +205,7 @@ ram_items s bank = map (ram_port_text (codes ".") s bank) (range_with_len 0 (chi
 abbrev pub chain_item : BusState → ℕ → List ℕ
 chain_item s n = map (λ i. hex_digit (chain_bit s n i)) (range_with_len 0 (chain_bits s.board n))
 
--- `state`: all that is not ROM or RAM, each part as a key and one word
+-- `state`: all but the board and the contents of ROM and RAM, each part as its name and one word
 abbrev pub state_text : BenchState → List ℕ
 state_text s =
     codes "state " ++ seq_text s.seq
@@ -222,7 +222,7 @@ state_text s =
     ++ codes " breaks " ++ one_word (map address_text s.breakpoints)
     ++ codes " watches " ++ one_word (map watch_text s.watches)
 
--- the answer to a query
+-- what a query is answered, without the last line feed
 abbrev pub text_of_query : Query → BenchState → List ℕ
 text_of_query query.Lamps s = lamps_text s.bus
 text_of_query query.Regs s = regs_text s.processor s.bus.test

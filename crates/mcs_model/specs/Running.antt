@@ -64,7 +64,7 @@ abbrev pub run_stop : Stops → ℕ → Machine → Stop
 run_stop stops n s = unwrap_or (stop_after stops n s (run_length stops n s)) Ended
 
 -- whether a step stops after k cycles, at the machine s, and why: at its start where no cycle can
--- follow, else after the instruction
+-- follow, else after the first cycle that leaves none owed
 abbrev pub step_at : ℕ → Machine → Option Stop
 step_at zero s = if is_outside s then Some Outside else None
 step_at (suc k) s = if s.0.owed == 0 then Some Ended else None

@@ -27,7 +27,8 @@ row upper lower op = record { upper = upper; lower = lower; op = op }
 abbrev pub bare : ℕ → ℕ → Op → Row
 bare upper lower op = row upper (Only lower) (λ _ _. op)
 
--- the operand in the lower nibble of a code: a value, a register or a page; or a pair
+-- the operand in the lower nibble of a code: a condition, a register, a page or a value; or a pair,
+-- in the upper three bits of that nibble
 abbrev pub nibble_in : ℕ → ℕ
 nibble_in code = code % 16
 
@@ -101,7 +102,7 @@ row_of code = find (covers (code / 16) (code % 16)) rows
 unfoldable pub instruction_of : ℕ → ℕ → Option Op
 instruction_of first second = option_map (λ (r : Row). r.op first second) (row_of first)
 
--- the column "words": how many words an instruction has
+-- how many words an instruction has: its code, and the word after it where `rows` uses that
 abbrev pub word_count_of : Op → ℕ
 word_count_of (Jcn _ _) = 2
 word_count_of (Fim _ _) = 2
@@ -110,7 +111,7 @@ word_count_of (Jms _ _) = 2
 word_count_of (Isz _ _) = 2
 word_count_of _ = 1
 
--- the column "cycles": how many instruction cycles it takes
+-- how many instruction cycles it takes: one for each word, but two for FIN
 abbrev pub cycles_of : Op → ℕ
 cycles_of (Fin _) = 2
 cycles_of op = word_count_of op

@@ -1,7 +1,7 @@
 -- The lines of a text, and the words of a line: of a source text, and of what the shell reads. (Our
 -- own choice.)
 use Rattle.std.specs.Prelude.{ℕ, ◌==◌, ◌||◌, Bool, true, false, List, [], ◌∷◌, ◌++◌, filter, length, nat_lt}
-use Rattle.std.specs.List.{slice_split}
+use Rattle.std.specs.List.{flat_map, slice_split}
 use Rattle.std.specs.Str.Lines.{strip_carriage_return}
 
 -- the byte that ends a line
@@ -11,9 +11,13 @@ line_feed = 10
 abbrev pub is_line_feed : ℕ → Bool
 is_line_feed b = b == line_feed
 
--- a line, ended by its line feed
+-- bytes, and the line feed that ends their last line
 abbrev pub as_line : List ℕ → List ℕ
 as_line bytes = bytes ++ line_feed ∷ []
+
+-- lines as a text, each ended by its line feed
+abbrev pub text_of : List (List ℕ) → List ℕ
+text_of lines = flat_map as_line lines
 
 -- what follows the last line feed: a line where the text ends there (`whole`) and it has bytes;
 -- else none

@@ -7,7 +7,7 @@ use Rattle.mcs_model.specs.declared.board.BoardParts.{BoardParts}
 use Rattle.mcs_model.specs.declared.limits.TheConstants.{ACCEPTED_COMMANDS, BREAKPOINTS, WATCHES}
 use Rattle.mcs_model.specs.declared.regs.Regs.{Regs}
 use Rattle.mcs_model.specs.Boards.{IsSized, board_fault_of, masks_on, chain_bits, chain_count, key_count}
-use Rattle.mcs_model.specs.Bus.{BusState, ram_place, ram_port_place, status_place, chips_of}
+use Rattle.mcs_model.specs.Bus.{BusState, ram_index, ram_port_index, status_index, chips_of}
 use Rattle.mcs_model.specs.BenchState.{BenchState}
 
 -- that many numbers, each below a limit
@@ -24,7 +24,8 @@ pub record IsValidBoard (b : BoardParts) : Type 0 where
 
 -- ---- what the chips hold
 
--- each place holds a number of its kind, and there are as many places as the board gives
+-- each number is of its kind; of chains, their bits and keys there are as many as the board has, of
+-- all else as many as a board can have
 pub record IsInRange (s : BusState) : Type 0 where
   pub rom : AreBelow 4096 256 s.rom
   pub ram : AreBelow 2048 16 s.ram
@@ -44,16 +45,16 @@ pub record IsInRange (s : BusState) : Type 0 where
 pub record IsAbsentZero (s : BusState) : Type 0 where
   pub rom : (at : ℕ) → masks_on s.board (at / 256) ≡ None → slice_index s.rom at ≡ 0
   pub ram : (bank src : ℕ) → src < 256 → chips_of s bank ≤ src / 64 →
-      slice_index s.ram (ram_place bank src) ≡ 0
+      slice_index s.ram (ram_index bank src) ≡ 0
   pub status : (bank high k : ℕ) → high < 16 → k < 4 → chips_of s bank ≤ high / 4 →
-      slice_index s.status (status_place bank high k) ≡ 0
+      slice_index s.status (status_index bank high k) ≡ 0
   pub ram_ports : (bank chip : ℕ) → chip < 4 → chips_of s bank ≤ chip →
-      slice_index s.ram_ports (ram_port_place bank chip) ≡ 0
+      slice_index s.ram_ports (ram_port_index bank chip) ≡ 0
   pub rom_ports : (chip : ℕ) → MatchOption (masks_on s.board chip) (slice_index s.rom_ports chip ≡ 0)
       (λ mask. latch_value mask (slice_index s.rom_ports chip) ≡ slice_index s.rom_ports chip)
   pub ram_src : (bank : ℕ) → chips_of s bank ≡ 0 → slice_index s.ram_src bank ≡ 0
 
--- a board and what its chips hold
+-- a board, what its chips hold, its keys and the TEST pin
 pub record IsValidBus (s : BusState) : Type 0 where
   pub board : IsValidBoard s.board
   pub in_range : IsInRange s
@@ -78,10 +79,10 @@ pub record AreBreakpoints (items : List ℕ) : Type 0 where
   pub addresses : All (λ a. a < 4096) items
   pub rising : IsStrictlyIncreasing items
 
--- at most 8 places of RAM characters, rising
+-- at most 8 indices of RAM characters (`ram_index`), rising
 pub record AreWatches (items : List ℕ) : Type 0 where
   pub few : length items ≤ WATCHES
-  pub places : All (λ a. a < 2048) items
+  pub indices : All (λ a. a < 2048) items
   pub rising : IsStrictlyIncreasing items
 
 pub record IsValid (s : BenchState) : Type 0 where

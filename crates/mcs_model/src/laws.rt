@@ -1,6 +1,6 @@
 //! Laws of the definitions, each proved as the contract of a function that does nothing.
 ghost use Rattle.std.specs.Prelude.{[], ◌∷◌, ◌≡◌, true};
-ghost use Rattle.mcs_model.specs.declared.limits.TheConstants.{ACCEPTED_COMMANDS, BANKS, BANK_CHIPS, BREAKPOINTS, CHAINS, CHAIN_BITS, CHAIN_CHIPS, CHAIN_PLACES, INPUT_BYTES, KEYS, KEY_COLUMNS, KEY_ROWS, LAMPS, LINE_BYTES, LISTING_LINES, NAMES, NAME_BYTES, REPLAY_CYCLES, ROMS, RUN_CYCLES, TEXT_BYTES, WATCHES};
+ghost use Rattle.mcs_model.specs.declared.limits.TheConstants.{ACCEPTED_COMMANDS, BANKS, BANK_CHIPS, BREAKPOINTS, CHAINS, CHAIN_BITS, CHAIN_CHIPS, CHAIN_SOCKETS, INPUT_BYTES, KEYS, KEY_COLUMNS, KEY_ROWS, LAMPS, LINE_BYTES, LISTING_LINES, NAMES, NAME_BYTES, REPLAY_CYCLES, ROMS, RUN_CYCLES, TEXT_BYTES, WATCHES};
 ghost use Rattle.mcs_model.specs.declared.refusal_numbers.TheConstants.{BAD_COUNT, BAD_NUMBER, BAD_STATEMENT, BAD_TOML, BAD_VALUE, BREAKS_FULL, CLOSED, DAMAGED, DEVICE, DOUBLE_CHIP, DOUBLE_NAME, LINE_TOO_LONG, MISSING_KEY, NOT_ASCII, NOT_A_COMMAND, NOT_A_SESSION, NOT_BLANK, NO_END, NO_KEY, NO_MEMORY, NO_ROM, NO_SUCH_LINE, NO_SUCH_PLACE, OUT_OF_RANGE, OVERLAP, PAST_END, TEXT_TOO_LONG, TOO_MANY_NAMES, TOO_MANY_PARTS, UNKNOWN_KEY, UNKNOWN_NAME, WATCHES_FULL, WORN, WRONG_DIRECTION, WRONG_PAGE};
 ghost use Rattle.mcs_model.specs.Laws.{LeavesOut, RunsCompose, is_unambiguous, outside_codes};
 ghost use Rattle.mcs_model.specs.Table.{rows};
@@ -39,7 +39,7 @@ pub fn refusal_numbers_are()
 
 /// The limits of a board, of debugging, of runs, of a session, and of texts.
 pub fn limits_are()
-    ensures boards { ROMS ∷ BANKS ∷ BANK_CHIPS ∷ CHAINS ∷ CHAIN_CHIPS ∷ CHAIN_BITS ∷ CHAIN_PLACES
+    ensures boards { ROMS ∷ BANKS ∷ BANK_CHIPS ∷ CHAINS ∷ CHAIN_CHIPS ∷ CHAIN_BITS ∷ CHAIN_SOCKETS
         ∷ KEY_ROWS ∷ KEY_COLUMNS ∷ KEYS ∷ LAMPS ∷ []
         ≡ 16 ∷ 8 ∷ 4 ∷ 4 ∷ 8 ∷ 80 ∷ 80 ∷ 10 ∷ 8 ∷ 80 ∷ 64 ∷ [] }
     ensures debugging { BREAKPOINTS ∷ WATCHES ∷ [] ≡ 32 ∷ 8 ∷ [] }

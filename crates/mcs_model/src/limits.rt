@@ -19,7 +19,7 @@ pub const CHAIN_CHIPS: u8 = 8;
 pub const CHAIN_BITS: u8 = 10 * CHAIN_CHIPS;
 
 /// Places for the bits of a chain.
-pub const CHAIN_PLACES: usize = CHAIN_BITS as usize;
+pub const CHAIN_SOCKETS: usize = CHAIN_BITS as usize;
 
 /// Rows of a key matrix.
 pub const KEY_ROWS: u8 = 10;

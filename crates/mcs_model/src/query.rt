@@ -19,6 +19,6 @@ pub enum Query {
     Ports,
     /// How many commands were accepted.
     Seq,
-    /// All that is not ROM or RAM, in one line.
+    /// All but the board and the contents of ROM and RAM, in one line.
     State,
 }

@@ -28,7 +28,8 @@ mask_of c =
     else if c == 49 then Some One
     else None
 
--- the mask of line k
+-- the mask of line k, 0 to 3, of a ROM's four masks, line 0 first (board texts and session files
+-- write line 3 first)
 abbrev pub mask_at : List LineMask → ℕ → LineMask
 mask_at mask k = slice_index_or mask k Input
 

@@ -6,7 +6,7 @@ use Rattle.mcs_disk.specs.declared.memory.MemDisk.{MemDisk}
 use Rattle.mcs_page.specs.Page.{IsServedWhole, ResumesSession}
 use Rattle.mcs_session.specs.KeptCommands.{RecordsCommands, IsOpenOnHonestDisk}
 use Rattle.mcs_session.specs.SessionState.{SessionView}
-use Rattle.mcs_shell.proofs.Steps.{carries_unhalted}
+use Rattle.mcs_shell.proofs.Exchanges.{carries_unhalted}
 use Rattle.mcs_shell.specs.Transcript.{acknowledged_commands, in_turn}
 use Rattle.mcs_shell.specs.Shell.{RanShell}
 use Rattle.mcs_shell.specs.ShellState.{ShellState}

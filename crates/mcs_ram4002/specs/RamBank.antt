@@ -35,7 +35,7 @@ blank_bank wired =
 
 -- ---- writes
 
--- whether a write names a place of a bank
+-- whether a write is within a bank
 abbrev pub IsInBank : BankWrite → Type 0
 IsInBank (Character src n) = Unit {0}
 IsInBank (Status high k n) = k < 4

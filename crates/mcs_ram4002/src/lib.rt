@@ -1,7 +1,7 @@
 //! The 4002: RAM chips, and the banks that they form. A chip keeps two characters a byte.
 //!
 //! A bank by itself is what a processor sees: `src`, `read`, `write`, `read_status`, `write_status` and `write_port` go to
-//! what the last SRC selects. A rig asks and writes by place instead (`at`, `status_at`, `port`, `store`), as whoever looks
+//! what the last SRC selects. A rig asks and writes by index instead (`at`, `status_at`, `port`, `store`), as whoever looks
 //! at a board does: so what SRC selects is said once there, of the state of all banks.
 #![tactic(auto)]
 
@@ -11,7 +11,7 @@ ghost use Rattle.mcs_ram4002.specs.RamBank.{BankState, half_of, cells_of, main_c
 use mcs_nibble::Nibble;
 use std::marker::Model;
 
-/// One write to a bank: the place, and what it holds from then on.
+/// One write to a bank: where, and what stands there from then on.
 #[derive(Clone, Copy)]
 pub enum BankWrite {
     /// The character of an SRC byte.

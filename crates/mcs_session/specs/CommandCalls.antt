@@ -1,4 +1,4 @@
--- What the calls of an open session answer, and what they do to the disk.
+-- What `apply` and `settle` of a session answer, and what they do to the disk.
 use Rattle.std.specs.Prelude.{◌≡◌, ◌+◌, min, Bool, true, false, ℕ, List, None, Some, Result, Ok, Err}
 use Rattle.mcs_disk.specs.Disk.{DiskState, most_faults, bytes_of, time_of}
 use Rattle.mcs_disk.specs.Stretches.{Either, LeavesOnly}

@@ -1,4 +1,4 @@
--- What the fields of a session keep, and what its steps do.
+-- What the fields of a session keep, and what its parts do.
 use Rattle.std.specs.Prelude.{◌≡◌, ◌+◌, ◌≤◌, ℕ, List, [], Bool, IsTrue, Result, length, if◌then◌else◌}
 use Rattle.mcs_disk.specs.Disk.{DiskState, bytes_of, time_of}
 use Rattle.mcs_disk.specs.Changes.{Changes}

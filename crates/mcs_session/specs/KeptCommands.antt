@@ -28,9 +28,10 @@ pub record StandsForPrefix
 
 -- ---- a run
 
--- From the state s on the commands `done` were acknowledged. All of `reached`, which are these and
--- then `failed`, may have reached the disk. (Which `failed` are, say those that cite this: none in
--- `KeepsAllCommands`, in `ClosesSession` of mcs_shell the one that the device failed at.)
+-- What a disk keeps of commands from the state s on: `done`, with the moments at which they were
+-- acknowledged, and then `failed`, which may have reached it besides; together they are `reached`.
+-- Which commands these are, say those that cite this: in `KeepsAllCommands` none is in `failed`, in
+-- `ClosesSession` of mcs_shell the one that the device failed at.
 pub record KeepsCommands
     (old new : DiskState) (s : BenchState) (done reached : List Command) : Type 0 where
   pub acknowledged : Acknowledgements old new done
@@ -54,8 +55,8 @@ pub record KeepsAllCommands
 abbrev pub IsOpenOnHonestDisk : Premise
 IsOpenOnHonestDisk a = IsTrue a.live × a.disk.honest
 
--- The session accepted these commands in turn, and recorded them. `Given` is the premise of what
--- the disk keeps.
+-- From a to b these commands were done, each accepted in its turn, and no fault was counted. That
+-- the disk recorded and keeps them is said under the premise `Given` alone.
 pub record RecordsCommands
     (Given : Premise) (a b : SessionState) (commands : List Command) : Type 0 where
   pub live : b.live ≡ a.live

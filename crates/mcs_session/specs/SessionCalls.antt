@@ -17,27 +17,28 @@ pub record CreatesSession (old new : DiskState) : Type 0 where
   pub later : IsLater old new
 
 -- whatever a power cut of this stretch leaves is an image that the disk had before, or stands for
--- this state
+-- this state by either version
 abbrev pub LeavesOldOrState : DiskState → DiskState → BenchState → Type 0
 LeavesOldOrState old new s =
     LeavesOnly old new (Either (images_of old) (λ file. StandsByEither file s))
 
--- What opening a session in this state did: a file of version 2 is not written; one of version 1 is
--- replaced by a snapshot of version 2.
+-- What opening a session in this state did: a file of version 2 is not written; in one of version 1
+-- a snapshot of version 2 takes the place of the contents.
 pub record MigratesSession (old new : DiskState) (s : BenchState) : Type 0 where
   pub leaves : LeavesOldOrState old new s
   pub rests : StandsFor (bytes_of old) s → AddsNoImage old new
   pub migrated : StandsForLifted (bytes_of old) s → HoldsState (bytes_of new) s
 
 -- a file of version 1 stood for a state, and whatever a power cut since leaves is an image from
--- before, or stands for that state (`RefusalLeaves`: the device failed as the file was replaced)
+-- before, or stands for that state by either version (`RefusalLeaves`: the device failed as the
+-- contents were replaced)
 pub record FailsMigrating (old new : DiskState) : Type 0 where
   pub state : BenchState
   pub stands : StandsForLifted (bytes_of old) state
   pub leaves : LeavesOldOrState old new state
 
--- what a refused `open` did to the disk: reads and syncs alone, except for a device fault while a
--- file of version 1 was replaced
+-- what a refused `open` did to the disk: reads and syncs alone, except for a device fault while the
+-- contents of a file of version 1 were replaced
 abbrev pub RefusalLeaves : OpenFault → DiskState → DiskState → Type 0
 RefusalLeaves open_fault.Device old new = AddsNoImage old new ⊎ FailsMigrating old new
 RefusalLeaves fault old new = AddsNoImage old new

@@ -14,10 +14,10 @@ use Rattle.mcs_shell.specs.Headline.{AnswersInTurn}
 use Rattle.mcs_shell.specs.Serving.{LeavesSession}
 use Rattle.mcs_shell.specs.Shell.{RanShell, ShellRun}
 use Rattle.mcs_shell.specs.ShellState.{ShellState, shell_state}
-use Rattle.mcs_shell.specs.Transcript.{Step, acknowledged_commands, halt_after, halt_of, in_turn, inputs_in, is_device_fault, reached_commands}
+use Rattle.mcs_shell.specs.Transcript.{Exchange, acknowledged_commands, halt_after, halt_of, in_turn, inputs_in, is_device_fault, reached_commands}
 use Rattle.mcs_shell.proofs.InTurn.{answers_of_run}
 use Rattle.mcs_shell.proofs.Looping.{either_end}
-use Rattle.mcs_shell.proofs.StepLists.{has_failed}
+use Rattle.mcs_shell.proofs.ExchangeLists.{has_failed}
 
 -- ---- what a step ends is no read
 
@@ -26,7 +26,7 @@ unread_one false o end faults e = let is : WriteFault ≡ end = cc e in subst (�
 unread_one true Device end faults e = let is : DeviceFault ≡ end = cc e in subst (λ (v : ShellEnd). faults_read v faults ≡ faults) is refl
 unread_one true o end faults e = absurd (cc e)
 
-pub unread : (xs : List Step) (end : ShellEnd) (faults : KnownFaults) → halt_after xs ≡ Some end → faults_read end faults ≡ faults
+pub unread : (xs : List Exchange) (end : ShellEnd) (faults : KnownFaults) → halt_after xs ≡ Some end → faults_read end faults ≡ faults
 unread [] end faults e = absurd (cc e)
 unread (x ∷ xs) end faults e = elim (either_end (halt_of x.whole x.outcome) (halt_after xs) end e) [
   | inl h ↦ unread_one x.whole x.outcome end faults h
@@ -52,7 +52,7 @@ true_later : (b c : Bool) → c ≡ true → (b || c) ≡ true
 true_later true c e = refl
 true_later false c e = e
 
-device_failed : (xs : List Step) → halt_after xs ≡ Some DeviceFault → has_failed xs ≡ true
+device_failed : (xs : List Exchange) → halt_after xs ≡ Some DeviceFault → has_failed xs ≡ true
 device_failed [] e = absurd (cc e)
 device_failed (x ∷ xs) e = elim (either_end (halt_of x.whole x.outcome) (halt_after xs) DeviceFault e) [
   | inl h ↦ true_first (is_device_fault x.outcome) (has_failed xs) (device_one x.whole x.outcome h)

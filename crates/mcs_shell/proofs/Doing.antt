@@ -25,11 +25,11 @@ use Rattle.mcs_shell.specs.ShellState.{ShellState}
 use Rattle.mcs_shell.specs.RefusalNumbers.{session_fault_number}
 use Rattle.mcs_answers.specs.AnswerTexts.{no_text, ok_text}
 use Rattle.mcs_shell.specs.Transcript.{IsPossibleOutcome, accepted_commands, answer, asked_command, change_answer, acknowledged_commands, halt_of, is_device_fault, plain_answer, reached_commands, takes_memory}
-use Rattle.mcs_shell.specs.Serving.{LeavesSession, ServesInputs, ServesSteps, WroteBytes}
+use Rattle.mcs_shell.specs.Serving.{LeavesSession, ServesInputs, ServesExchanges, WroteBytes}
 use Rattle.mcs_shell.specs.ServedPieces.{AnsweredInput, IsIntact, outcome_of}
 use Rattle.mcs_session.proofs.Keeping.{acknowledged_keeps, failed_keeps, stays_keeps}
 use Rattle.mcs_shell.proofs.Carrying.{carries_nothing}
-use Rattle.mcs_shell.proofs.StepLists.{or_no, or_none}
+use Rattle.mcs_shell.proofs.ExchangeLists.{or_no, or_none}
 
 abbrev pub at : Bool → BenchState → DiskState → SessionState
 at live s d = record { disk = d; live = live; state = s }
@@ -198,7 +198,7 @@ leaves_as Given f g a b cs ds rs qs e k l h =
     subst (λ (v : Bool). LeavesSession Given v a b cs rs) (sym e) (subst (λ (v : List Command). LeavesSession Given g a b v rs) (sym k) (subst (λ (v : List Command). LeavesSession Given g a b ds v) (sym l) h))
 
 serves_one : (a b : ShellState) (i : Input) (o : Outcome) (told : List ℕ) (whole : Bool) → AnsweredInput a.session i o told b.session → WroteBytes whole a.out b.out told
-    → ServesSteps IsIntact a (record { input = i; outcome = o; whole = whole } ∷ []) b
+    → ServesExchanges IsIntact a (record { input = i; outcome = o; whole = whole } ∷ []) b
 serves_one a b i o told whole h sent =
     let s = a.session.state in
     let P : List ℕ → Type 0 = λ v. WroteBytes whole a.out b.out v in

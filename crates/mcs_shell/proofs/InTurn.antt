@@ -14,7 +14,7 @@ use Rattle.mcs_shell.specs.Headline.{AnswersInTurn}
 use Rattle.mcs_shell.specs.Serving.{WroteBytes, WroteAnswers}
 use Rattle.mcs_shell.specs.Shell.{RanShell}
 use Rattle.mcs_shell.specs.ShellState.{KnownBytes, ShellState}
-use Rattle.mcs_shell.specs.Transcript.{ArePossibleSteps, Step, answer, acknowledged_commands, halt_after, halt_of, in_turn}
+use Rattle.mcs_shell.specs.Transcript.{ArePossibleExchanges, Exchange, answer, acknowledged_commands, halt_after, halt_of, in_turn}
 
 -- of these bytes some were written, and the others were not, which are none unless a write failed
 record AnswersTold (old new : KnownBytes) (bytes : List ℕ) (halted : Option ShellEnd) : Type 0 where
@@ -24,12 +24,12 @@ record AnswersTold (old new : KnownBytes) (bytes : List ℕ) (halted : Option Sh
   pub parts : told ++ left_out ≡ bytes
   pub all_told : halted ≢ Some WriteFault → left_out ≡ []
 
-cut_later : (whole : Bool) (o : Outcome) (rest : List Step) → (rest ≢ [] → halt_of whole o ≡ None) → halt_after rest ≡ Some WriteFault → option_or (halt_of whole o) (halt_after rest) ≡ Some WriteFault
+cut_later : (whole : Bool) (o : Outcome) (rest : List Exchange) → (rest ≢ [] → halt_of whole o ≡ None) → halt_after rest ≡ Some WriteFault → option_or (halt_of whole o) (halt_after rest) ≡ Some WriteFault
 cut_later whole o [] goes cut = absurd (cc cut)
 cut_later whole o (x ∷ rest) goes cut = ap (λ (h : Option ShellEnd). option_or h (halt_after (x ∷ rest))) (goes (λ e. absurd (cc e))) ∙ cut
 
 -- one answer, and then the others
-told_first : (s : BenchState) (whole : Bool) (o : Outcome) (rest : List Step) (old middle new : KnownBytes) (bytes : List ℕ) → WroteBytes whole old middle bytes → (rest ≢ [] → halt_of whole o ≡ None) → WroteAnswers s rest middle new
+told_first : (s : BenchState) (whole : Bool) (o : Outcome) (rest : List Exchange) (old middle new : KnownBytes) (bytes : List ℕ) → WroteBytes whole old middle bytes → (rest ≢ [] → halt_of whole o ≡ None) → WroteAnswers s rest middle new
     → AnswersTold middle new (in_turn answer s rest) (halt_after rest) → AnswersTold old new (bytes ++ in_turn answer s rest) (option_or (halt_of whole o) (halt_after rest))
 told_first s true o rest old middle new bytes wrote goes others t = record {
   told = bytes ++ t.told;
@@ -47,7 +47,7 @@ told_first s false o [] old middle new bytes wrote goes others t = record {
 }
 told_first s false o (x ∷ rest) old middle new bytes wrote goes others t = absurd (cc (goes (λ e. absurd (cc e))))
 
-told_all : (live : Bool) (s : BenchState) (met : List Step) (old new : KnownBytes) → ArePossibleSteps live s met → WroteAnswers s met old new → AnswersTold old new (in_turn answer s met) (halt_after met)
+told_all : (live : Bool) (s : BenchState) (met : List Exchange) (old new : KnownBytes) → ArePossibleExchanges live s met → WroteAnswers s met old new → AnswersTold old new (in_turn answer s met) (halt_after met)
 told_all live s [] old new may wrote = record { told = []; left_out = []; written = subst (λ (v : KnownBytes). Appends old v []) (sym wrote) (Appends-nil old); parts = refl; all_told = λ uncut. refl }
 told_all live s (x ∷ rest) old new may wrote =
     let t = fold s (acknowledged_commands s x.input x.outcome) in
@@ -79,7 +79,7 @@ not_begun : (end : ShellEnd) (r r' : KnownBytes) (a b : ShellState) (ran : RanSh
 not_begun end r r' a b ran cut none by =
     let s = a.session.state in
     let some : WroteBytes false a.out ran.began.started (session_text s) = subst (λ (v : Bool). WroteBytes v a.out ran.began.started (session_text s)) cut ran.began.wrote in
-    let then : b.out ≡ ran.began.started = subst (λ (v : List Step). WroteAnswers s v ran.began.started b.out) none ran.served.serves.wrote in
+    let then : b.out ≡ ran.began.started = subst (λ (v : List Exchange). WroteAnswers s v ran.began.started b.out) none ran.served.serves.wrote in
     record {
       not_met = ran.served.not_met;
       spelled = ran.served.spelled;
@@ -88,7 +88,7 @@ not_begun end r r' a b ran cut none by =
       told = take some.count (session_text s);
       left_out = drop some.count (session_text s);
       written = subst (λ (v : KnownBytes). Appends a.out v (take some.count (session_text s))) (sym then) some.got;
-      parts = take-append-drop some.count (session_text s) ∙ sym (append-nil (session_text s)) ∙ ap (λ (v : List Step). session_text s ++ in_turn answer s v) (sym none);
+      parts = take-append-drop some.count (session_text s) ∙ sym (append-nil (session_text s)) ∙ ap (λ (v : List Exchange). session_text s ++ in_turn answer s v) (sym none);
       all_told = λ x z. absurd (by x z);
     }
 

@@ -3,8 +3,8 @@ pub mod LineFeeds
 pub mod ShortLines
 pub mod PlainText
 pub mod ByAddress
-pub mod StepLists
-pub mod Steps
+pub mod ExchangeLists
+pub mod Exchanges
 pub mod Doing
 pub mod Looping
 pub mod Surviving

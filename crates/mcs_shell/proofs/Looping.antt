@@ -27,10 +27,10 @@ use Rattle.mcs_shell.specs.Serving.{GotFirstBytes, LeavesSession, ServesInputs, 
 use Rattle.mcs_shell.specs.ServedPieces.{IsIntact, ServesBytes}
 use Rattle.mcs_shell.specs.Shell.{EndsBy, ReadInput, ReadsLittleAhead, RanShellGiven, ReadBytes, inputs_read}
 use Rattle.mcs_shell.specs.ShellState.{KnownBytes, ShellState, with_written}
-use Rattle.mcs_shell.specs.Transcript.{Step, acknowledged_commands, answered_steps, halt_after, halt_of, in_turn, inputs_in, reached_commands}
+use Rattle.mcs_shell.specs.Transcript.{Exchange, acknowledged_commands, answered_exchanges, halt_after, halt_of, in_turn, inputs_in, reached_commands}
 use Rattle.mcs_shell.proofs.LineFeeds.{after-cut, after-empty, after-whole, at_dots}
-use Rattle.mcs_shell.proofs.StepLists.{answered_all, halt-append, has_failed, some_apart}
-use Rattle.mcs_shell.proofs.Steps.{feeds_more, feeds_nothing, meets_nothing, serves_more}
+use Rattle.mcs_shell.proofs.ExchangeLists.{answered_all, halt-append, has_failed, some_apart}
+use Rattle.mcs_shell.proofs.Exchanges.{feeds_more, feeds_nothing, meets_nothing, serves_more}
 
 -- ---- inputs of the bytes that were read
 
@@ -48,7 +48,7 @@ meets_then whole a b c l k bytes halted x y = record {
   spelled = x.spelled [] whole
       ∙ ap (λ v. inputs_in x.met ++ v) (x.all_met refl [] whole ∙ y.spelled)
       ∙ sym (append_assoc (inputs_in x.met) (inputs_in y.met) y.not_met)
-      ∙ ap (λ v. v ++ y.not_met) (sym (map-append (λ (z : Step). z.input) x.met y.met));
+      ∙ ap (λ v. v ++ y.not_met) (sym (map-append (λ (z : Exchange). z.input) x.met y.met));
   all_met = y.all_met;
 }
 
@@ -101,29 +101,29 @@ cut_is_met : (a b : ShellState) (line : Pending) (bytes : List ℕ) (x : ServesB
 cut_is_met a b line bytes x = from_fresh bytes false ∙ x.spelled [] false ∙ ap (λ v. inputs_in x.met ++ v) (x.all_met refl [] false ∙ after-cut line (x.no_feed refl)) ∙ append-nil (inputs_in x.met)
 
 -- what was answered begins with what the bytes before those read ahead spell
-near_behind : (a b : ShellState) (line : Pending) (bytes ahead : List ℕ) (x : ServesBytes a b nothing_pending line bytes None) (ys : List Step) → length ahead ≤ CHUNK_BYTES → ReadsLittleAhead (bytes ++ ahead) (inputs_in (answered_steps (x.met ++ ys)))
+near_behind : (a b : ShellState) (line : Pending) (bytes ahead : List ℕ) (x : ServesBytes a b nothing_pending line bytes None) (ys : List Exchange) → length ahead ≤ CHUNK_BYTES → ReadsLittleAhead (bytes ++ ahead) (inputs_in (answered_exchanges (x.met ++ ys)))
 near_behind a b line bytes ahead x ys few = record {
   before = bytes;
   ahead = ahead;
   parts = refl;
   few = few;
-  more = inputs_in (answered_steps ys);
+  more = inputs_in (answered_exchanges ys);
   answered_are =
-      ap inputs_in (filter-append (λ (z : Step). z.whole) x.met ys ∙ ap (λ v. v ++ answered_steps ys) (answered_all x.met x.halts))
-      ∙ map-append (λ (z : Step). z.input) x.met (answered_steps ys)
-      ∙ ap (λ v. v ++ inputs_in (answered_steps ys)) (sym (cut_is_met a b line bytes x));
+      ap inputs_in (filter-append (λ (z : Exchange). z.whole) x.met ys ∙ ap (λ v. v ++ answered_exchanges ys) (answered_all x.met x.halts))
+      ∙ map-append (λ (z : Exchange). z.input) x.met (answered_exchanges ys)
+      ∙ ap (λ v. v ++ inputs_in (answered_exchanges ys)) (sym (cut_is_met a b line bytes x));
 }
 
-near_whole : (a b : ShellState) (line : Pending) (bytes : List ℕ) (x : ServesBytes a b nothing_pending line bytes None) (ys : List Step) → ReadsLittleAhead bytes (inputs_in (answered_steps (x.met ++ ys)))
-near_whole a b line bytes x ys = let P : List ℕ → Type 0 = λ v. ReadsLittleAhead v (inputs_in (answered_steps (x.met ++ ys))) in subst P (append-nil bytes) (near_behind a b line bytes [] x ys (omega arith))
+near_whole : (a b : ShellState) (line : Pending) (bytes : List ℕ) (x : ServesBytes a b nothing_pending line bytes None) (ys : List Exchange) → ReadsLittleAhead bytes (inputs_in (answered_exchanges (x.met ++ ys)))
+near_whole a b line bytes x ys = let P : List ℕ → Type 0 = λ v. ReadsLittleAhead v (inputs_in (answered_exchanges (x.met ++ ys))) in subst P (append-nil bytes) (near_behind a b line bytes [] x ys (omega arith))
 
 -- a shell that had no memory did not begin
-begun_has_memory : (end : ShellEnd) (bytes : List ℕ) (whole : Bool) (met : List Step) (halted : Option ShellEnd) → EndsBy end true bytes whole met halted → end ≡ NoMemory → ⊥
+begun_has_memory : (end : ShellEnd) (bytes : List ℕ) (whole : Bool) (met : List Exchange) (halted : Option ShellEnd) → EndsBy end true bytes whole met halted → end ≡ NoMemory → ⊥
 begun_has_memory end bytes whole met halted ends is = let P : ShellEnd → Type 0 = λ e. EndsBy e true bytes whole met halted in let h : EndsBy NoMemory true bytes whole met halted = subst P is ends in absurd (cc h.0)
 
 -- the loop has nothing to write first
 ran_loop : (end : ShellEnd) (r r' : KnownBytes) (a c : ShellState) (halted : Option ShellEnd) (read : ReadInput r r') (m : ServesInputs IsIntact (inputs_read read) a c halted)
-    → ReadsLittleAhead read.bytes (inputs_in (answered_steps m.met)) → EndsBy end true read.bytes read.ended m.met halted → RanShellGiven IsIntact [] end r r' a c
+    → ReadsLittleAhead read.bytes (inputs_in (answered_exchanges m.met)) → EndsBy end true read.bytes read.ended m.met halted → RanShellGiven IsIntact [] end r r' a c
 ran_loop end r r' a c halted read m near ends = record {
   read = read;
   began = record { whole = true; started = a.out; wrote = Appends-nil a.out };
@@ -171,7 +171,7 @@ ran_whole end r r' r'' a b c line chunk total most halted x small y m ends =
     ran_loop end r r'' a c halted (record { bytes = x.bytes; consumed = last_read r r' r'' most x.bytes chunk x.consumed y; within = omega (arith, below); ended = true; input_ended = λ e. (below, y.at_end refl) })
     (met_all true a b c line x.bytes halted x.fed m) (near_whole a b line x.bytes x.fed m.met) ends
 
-ends_one : (going : Bool) (o : Outcome) (end : ShellEnd) (bytes : List ℕ) (whole : Bool) (met : List Step) → halt_of going o ≡ Some end → EndsBy end true bytes whole met (Some end)
+ends_one : (going : Bool) (o : Outcome) (end : ShellEnd) (bytes : List ℕ) (whole : Bool) (met : List Exchange) → halt_of going o ≡ Some end → EndsBy end true bytes whole met (Some end)
 ends_one false o end bytes whole met e = let is : WriteFault ≡ end = cc e in subst (λ (v : ShellEnd). EndsBy v true bytes whole met (Some v)) is (inl (refl, refl))
 ends_one true Device end bytes whole met e = let is : DeviceFault ≡ end = cc e in subst (λ (v : ShellEnd). EndsBy v true bytes whole met (Some v)) is (refl, refl)
 ends_one true o end bytes whole met e = absurd (cc e)
@@ -181,7 +181,7 @@ either_end None k end e = inr e
 either_end (Some x) k end e = inl e
 
 -- what a step ends is a write or the device
-ends_halted : (xs : List Step) (end : ShellEnd) (bytes : List ℕ) (whole : Bool) (met : List Step) → halt_after xs ≡ Some end → EndsBy end true bytes whole met (Some end)
+ends_halted : (xs : List Exchange) (end : ShellEnd) (bytes : List ℕ) (whole : Bool) (met : List Exchange) → halt_after xs ≡ Some end → EndsBy end true bytes whole met (Some end)
 ends_halted [] end bytes whole met e = absurd (cc e)
 ends_halted (x ∷ xs) end bytes whole met e = elim (either_end (halt_of x.whole x.outcome) (halt_after xs) end e) [
   | inl h ↦ ends_one x.whole x.outcome end bytes whole met h

@@ -22,6 +22,7 @@ may_answer state_of before now i o told answered stood stands = record {
     before = before;
     input = i;
     outcome = o;
+    possible = answered.may;
     is = answered.told_is;
     leaves = leaves_under (is_device_fault o) (session_state state_of before) (session_state state_of now) (acknowledged_commands before.state i o) (reached_commands before.state i o)
         (λ given. record { honest = given; stands = stood given.0 given.1 }) answered.leaves;

@@ -10,7 +10,7 @@ use Rattle.mcs_shell.specs.Serving.{LeavesSession}
 use Rattle.mcs_shell.specs.Shell.{ShellRun}
 use Rattle.mcs_shell.specs.ShellState.{shell_state}
 use Rattle.mcs_shell.proofs.InTurn.{answers_of_run}
-use Rattle.mcs_shell.proofs.StepLists.{has_failed, reached_all}
+use Rattle.mcs_shell.proofs.ExchangeLists.{has_failed, reached_all}
 
 kept_by : (failed : Bool) (a b : SessionState) (cs rs : List Command) → (failed ≡ false → rs ≡ cs) → IsOpenOnHonestDisk a → LeavesSession IsOpenOnHonestDisk failed a b cs rs → KeepsCommands a.disk b.disk a.state cs rs
 kept_by false a b cs rs same given x = subst (λ (v : List Command). KeepsCommands a.disk b.disk a.state cs v) (sym (same refl)) (x.kept given).kept

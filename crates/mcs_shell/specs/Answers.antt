@@ -7,18 +7,19 @@ use Rattle.mcs_session.specs.SessionState.{SessionView, session_state}
 use Rattle.mcs_session.specs.StandsFor.{DiskStandsFor}
 use Rattle.mcs_shell.specs.Inputs.{Input}
 use Rattle.mcs_shell.specs.Serving.{LeavesSession}
-use Rattle.mcs_shell.specs.Transcript.{acknowledged_commands, answer, is_device_fault, reached_commands}
+use Rattle.mcs_shell.specs.Transcript.{IsPossibleOutcome, acknowledged_commands, answer, is_device_fault, reached_commands}
 use Rattle.mcs_shell.specs.declared.ends.Outcome.{Outcome}
 
--- These bytes are what is answered to some input with some outcome in a session `before`, which
--- that leaves as it is now: no call on the disk came after it. So a command that is answered `ok`
--- is done and recorded, and on an honest disk the clock stands at its moment (`clock` of
--- `KeepsAllCommands`). That the input was read and met says `RanShell`.
+-- These bytes are what is answered to some input with some outcome, which is a possible one, in a
+-- session `before`, which that leaves as it is now. Where it was open, on an honest disk, `ok` is
+-- of a command that is recorded, and no call came since (`clock` of `KeepsAllCommands`). That the
+-- input was read and met says `RanShell`.
 pub record AnswersJustNow {D : Type 0} (state_of : D → DiskState) (now : SessionView D)
     (bytes : List ℕ) : Type 0 where
   pub before : SessionView D
   pub input : Input
   pub outcome : Outcome
+  pub possible : IsPossibleOutcome before.live before.state input outcome
   pub is : bytes ≡ answer before.state input outcome
   pub leaves : LeavesSession IsOpenOnHonestDisk (is_device_fault outcome)
       (session_state state_of before) (session_state state_of now)

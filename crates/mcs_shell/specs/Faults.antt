@@ -64,7 +64,7 @@ HasNotFailed None new = ⊥
 HasNotFailed (Some n) new = (new ≡ Some n) × (n < most_faults)
 
 -- in this run no call of the reader, of the writer or of the disk failed, and the shell had memory
--- to begin
+-- to begin (the four counts are its streams', which a `ShellRun` does not have)
 pub record RanWithoutFault {D : Type 0} {state_of : D → DiskState} (run : ShellRun state_of) : Type 0 where
   pub read : KnownFaults
   pub read' : KnownFaults

@@ -16,21 +16,21 @@ use Rattle.mcs_shell.specs.declared.ends.ShellEnd.{ShellEnd}
 use Rattle.mcs_shell.specs.declared.ends.ShellEnd.TheVariants.{WriteFault, DeviceFault, NoMemory}
 use Rattle.mcs_shell.specs.Shell.{ReadInput, ShellRun, inputs_read}
 use Rattle.mcs_shell.specs.ShellState.{KnownBytes, ShellState, shell_state}
-use Rattle.mcs_shell.specs.Transcript.{ArePossibleSteps, Step, answer, acknowledged_commands, in_turn, inputs_in, reached_commands}
+use Rattle.mcs_shell.specs.Transcript.{ArePossibleExchanges, Exchange, answer, acknowledged_commands, in_turn, inputs_in, reached_commands}
 
 -- ---- what a run answered
 
 -- A run met the first inputs among those that the bytes which it read spell: all of them, unless a
 -- write or the device failed, or the shell had no memory to begin. It wrote the first line of a
 -- session and then their answers, each by the state after the commands that were answered `ok`
--- before it; a failed write and lack of memory alone cut that off at its end.
+-- before it; a failed write, and lack of memory to begin, alone cut that off at its end.
 pub record AnswersInTurn
     (end : ShellEnd) {reader reader' : KnownBytes} (read : ReadInput reader reader')
-    (a b : ShellState) (met : List Step) : Type 0 where
+    (a b : ShellState) (met : List Exchange) : Type 0 where
   pub not_met : List Input
   pub spelled : inputs_read read ≡ inputs_in met ++ not_met
   pub all_met : end ≢ WriteFault → end ≢ DeviceFault → end ≢ NoMemory → not_met ≡ []
-  pub may : ArePossibleSteps a.session.live a.session.state met
+  pub may : ArePossibleExchanges a.session.live a.session.state met
   pub told : List ℕ
   pub left_out : List ℕ
   pub written : Appends a.out b.out told
@@ -47,8 +47,8 @@ abbrev pub reached_in : {D : Type 0} {state_of : D → DiskState} → ShellRun s
 reached_in run = in_turn reached_commands run.before.state run.ran.served.met
 
 -- The answers of a run are those of the inputs that it met, in turn. The commands that it answered
--- `ok` have their moments, and besides them at most the one that it answered `no 53` may have
--- reached the disk (`state_of` is what contracts see of its disk).
+-- `ok` have their moments; `reached_in` are these, and then at most the one that it answered `no
+-- 53` (`state_of` is what contracts see of its disk).
 pub record AnswersAndAcknowledges
     {D : Type 0} {state_of : D → DiskState} (run : ShellRun state_of) : Type 0 where
   pub answers : AnswersInTurn run.end run.ran.read
@@ -61,10 +61,10 @@ pub record AnswersAndAcknowledges
 
 -- ---- what is found again
 
--- A power cut at any time of a run left a disk (`found_of` is what contracts see of one): opened,
--- it gives the bench as it is after a prefix of the commands answered `ok` and the one answered `no
--- 53`, and the prefix holds each one that had its moment by that time. Opening it is refused for
--- lack of memory and for a device fault alone.
+-- A power cut at some moment since `time`, in a run or at its end, left a disk (`found_of` is what
+-- contracts see of one): opened, it gives the bench as it is after a prefix of the commands
+-- answered `ok` and the one answered `no 53`, and the prefix holds each one that had its moment by
+-- that time. Opening it is refused for lack of memory and for a device fault alone.
 pub record SurvivesPowerCuts
     {D E : Type 0} {state_of : D → DiskState} (found_of : E → DiskState) (run : ShellRun state_of)
     (moments : List ℕ) : Type 0 where

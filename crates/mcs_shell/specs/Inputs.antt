@@ -1,6 +1,6 @@
 -- The inputs that bytes spell: lines first, and then lines in groups. (Our own choice.)
 use Rattle.std.specs.Prelude.{◌||◌, Bool, true, false, not, ℕ, List, [], ◌∷◌, ◌++◌, length, codes, nat_lt, nat_le, if◌then◌else◌, Option, Some, None}
-use Rattle.std.specs.List.{before_first, flat_map, list_all, list_any, slice_split}
+use Rattle.std.specs.List.{before_first, list_all, list_any, slice_split}
 use Rattle.std.specs.Str.{bytes_eq}
 use Rattle.mcs_model.specs.declared.limits.TheConstants.{LINE_BYTES, TEXT_BYTES}
 use Rattle.mcs_lines.specs.declared.requests.TextKind.{TextKind}
@@ -10,9 +10,10 @@ use Rattle.mcs_shell.specs.declared.texts.TextFault.{TextFault}
 use Rattle.mcs_shell.specs.declared.texts.TextFault.TheVariants.{NoEnd, TextTooLong, HasLongLine, HasBadByte}
 use Rattle.mcs_lines.specs.LineRequests.{request_of}
 use Rattle.mcs_lines.specs.Words.{is_plain_byte}
-use Rattle.mcs_model.specs.TextLines.{as_line, is_line_feed, lines}
+use Rattle.mcs_model.specs.TextLines.{is_line_feed, lines, text_of}
 
--- what a line outside a text asks for, a text, or a text that is refused whatever its lines say
+-- what a line outside a text asks for (none that begins a text), a text, or a text that is refused
+-- whatever its lines say
 pub data Input : Type 0 where
   Line : Request → Input
   Text : TextKind → List ℕ → Input
@@ -31,7 +32,8 @@ is_short line = nat_le (length line) LINE_BYTES
 abbrev pub is_text_byte : ℕ → Bool
 is_text_byte b = is_line_feed b || is_plain_byte b
 
--- why a text that has an end is refused whatever its lines say, if it is: the first of these
+-- why a text that has an end is refused whatever its lines say, if it is: it is too long, else a
+-- line of it is, else it has a bad byte
 unfoldable pub text_fault_of : List ℕ → Option TextFault
 text_fault_of text =
     if nat_lt TEXT_BYTES (length text) then Some TextTooLong
@@ -54,14 +56,16 @@ text_begun (Begin kind) = Some kind
 text_begun request = None
 
 -- A text, by the lines after the one that began it: it is those before the first that is a dot,
--- each followed by a line feed. Where none is a dot it has no end, if input ended there.
+-- each followed by a line feed. Without a dot it is refused (no end) if input ended (`whole`), else
+-- it is no input yet.
 abbrev pub text_input : Bool → TextKind → List (List ℕ) → List Input
 text_input whole kind ls =
     if list_any is_dot_line ls
-    then judged_text kind (flat_map as_line (before_first is_dot_line ls)) ∷ []
+    then judged_text kind (text_of (before_first is_dot_line ls)) ∷ []
     else if whole then BadText NoEnd ∷ [] else []
 
--- the inputs that lines spell; `in_text` says that those up to the first dot are a text's
+-- the inputs that lines spell; `in_text`: those up to the first dot are a text's, whose input
+-- `text_input` gave; `whole`: input ended after them
 unfoldable pub inputs_of_lines : Bool → Bool → List (List ℕ) → List Input
 inputs_of_lines whole in_text [] = []
 inputs_of_lines whole true (l ∷ ls) = inputs_of_lines whole (not (is_dot_line l)) ls

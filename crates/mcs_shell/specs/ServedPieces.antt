@@ -12,9 +12,9 @@ use Rattle.mcs_shell.specs.declared.ends.Outcome.TheVariants.{Plain, Device, Clo
 use Rattle.mcs_shell.specs.Inputs.{Input}
 use Rattle.mcs_shell.specs.LineFeeds.{HasNoFeed}
 use Rattle.mcs_shell.specs.Pending.{Pending, inputs_after}
-use Rattle.mcs_shell.specs.Serving.{LeavesSession, ServesSteps}
+use Rattle.mcs_shell.specs.Serving.{LeavesSession, ServesExchanges}
 use Rattle.mcs_shell.specs.ShellState.{ShellState}
-use Rattle.mcs_shell.specs.Transcript.{IsPossibleOutcome, Step, acknowledged_commands, answer, halt_after, inputs_in, is_device_fault, reached_commands}
+use Rattle.mcs_shell.specs.Transcript.{IsPossibleOutcome, Exchange, acknowledged_commands, answer, halt_after, inputs_in, is_device_fault, reached_commands}
 
 -- what each input of a run hands on to the next: the premise of the run, and that the disk stands
 -- for the state
@@ -42,8 +42,8 @@ pub record AnsweredInput
 -- spell were met: all, where nothing halted the shell, and what is unfinished then is `q`.
 pub record ServesBytes
     (a b : ShellState) (p q : Pending) (bytes : List ℕ) (halted : Option ShellEnd) : Type 0 where
-  pub met : List Step
-  pub serves : ServesSteps IsIntact a met b
+  pub met : List Exchange
+  pub serves : ServesExchanges IsIntact a met b
   pub halts : halt_after met ≡ halted
   -- however the bytes go on
   pub not_met : List ℕ → Bool → List Input

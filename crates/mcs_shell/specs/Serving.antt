@@ -10,7 +10,7 @@ use Rattle.mcs_shell.specs.declared.ends.ShellEnd.{ShellEnd}
 use Rattle.mcs_shell.specs.Inputs.{Input}
 use Rattle.mcs_session.specs.SessionState.{Premise, SessionState}
 use Rattle.mcs_shell.specs.ShellState.{KnownBytes, ShellState}
-use Rattle.mcs_shell.specs.Transcript.{ArePossibleSteps, Step, answer, acknowledged_commands, halt_after, in_turn, inputs_in, is_device_fault, reached_commands}
+use Rattle.mcs_shell.specs.Transcript.{ArePossibleExchanges, Exchange, answer, acknowledged_commands, halt_after, in_turn, inputs_in, is_device_fault, reached_commands}
 use Rattle.mcs_session.specs.KeptCommands.{RecordsCommands, KeepsCommands}
 
 -- ---- an answer
@@ -26,8 +26,8 @@ abbrev pub WroteBytes : Bool → KnownBytes → KnownBytes → List ℕ → Type
 WroteBytes true old new bytes = Appends old new bytes
 WroteBytes false old new bytes = GotFirstBytes old new bytes
 
--- what the writer got of the answers to these steps, in turn
-abbrev pub WroteAnswers : BenchState → List Step → KnownBytes → KnownBytes → Type 0
+-- what the writer got of the answers of these exchanges, in turn
+abbrev pub WroteAnswers : BenchState → List Exchange → KnownBytes → KnownBytes → Type 0
 WroteAnswers s [] old new = new ≡ old
 WroteAnswers s (x ∷ rest) old new =
     (middle : KnownBytes) × WroteBytes x.whole old middle (answer s x.input x.outcome)
@@ -56,13 +56,13 @@ LeavesSession Given true a b done reached = ClosesSession Given a b done reached
 
 -- ---- inputs in turn
 
--- From a on these steps were made, in turn, and left b. `Given` is the premise of what the
+-- From a on these exchanges were made, in turn, and left b. `Given` is the premise of what the
 -- disk keeps.
-pub record ServesSteps
-    (Given : Premise) (a : ShellState) (met : List Step) (b : ShellState) : Type 0 where
-  pub may : ArePossibleSteps a.session.live a.session.state met
+pub record ServesExchanges
+    (Given : Premise) (a : ShellState) (met : List Exchange) (b : ShellState) : Type 0 where
+  pub may : ArePossibleExchanges a.session.live a.session.state met
   pub wrote : WroteAnswers a.session.state met a.out b.out
-  pub leaves : LeavesSession Given (list_any (λ (x : Step). is_device_fault x.outcome) met)
+  pub leaves : LeavesSession Given (list_any (λ (x : Exchange). is_device_fault x.outcome) met)
       a.session b.session
       (in_turn acknowledged_commands a.session.state met)
       (in_turn reached_commands a.session.state met)
@@ -71,8 +71,8 @@ pub record ServesSteps
 pub record ServesInputs
     (Given : Premise) (asked : List Input) (a b : ShellState)
     (halted : Option ShellEnd) : Type 0 where
-  pub met : List Step
-  pub serves : ServesSteps Given a met b
+  pub met : List Exchange
+  pub serves : ServesExchanges Given a met b
   pub halts : halt_after met ≡ halted
   pub not_met : List Input
   pub spelled : asked ≡ inputs_in met ++ not_met

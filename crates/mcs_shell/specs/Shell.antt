@@ -8,7 +8,7 @@ use Rattle.mcs_shell.specs.Inputs.{Input, inputs}
 use Rattle.mcs_disk.specs.Disk.{DiskState}
 use Rattle.mcs_session.specs.SessionState.{Premise, SessionView}
 use Rattle.mcs_shell.specs.ShellState.{KnownBytes, ShellState, shell_state, with_written}
-use Rattle.mcs_shell.specs.Transcript.{Step, answered_steps, inputs_in}
+use Rattle.mcs_shell.specs.Transcript.{Exchange, answered_exchanges, inputs_in}
 use Rattle.mcs_answers.specs.AnswerTexts.{session_text}
 use Rattle.mcs_session.specs.KeptCommands.{IsOpenOnHonestDisk}
 use Rattle.mcs_shell.specs.Serving.{ServesInputs, WroteBytes}
@@ -44,12 +44,12 @@ pub record Began (first_line : List ℕ) (out : KnownBytes) : Type 0 where
   pub wrote : WroteBytes whole out started first_line
 
 -- The first line was not written whole; then nothing was read or done.
-abbrev pub IsNotBegun : Bool → List ℕ → List Step → Type 0
+abbrev pub IsNotBegun : Bool → List ℕ → List Exchange → Type 0
 IsNotBegun begun bytes met = (begun ≡ false) × (bytes ≡ []) × (met ≡ [])
 
 -- What a run is by its end: whether its first line was written whole, the bytes that were read and
 -- whether input ended after them, the inputs that were met, and what halted it.
-abbrev pub EndsBy : ShellEnd → Bool → List ℕ → Bool → List Step → Option ShellEnd → Type 0
+abbrev pub EndsBy : ShellEnd → Bool → List ℕ → Bool → List Exchange → Option ShellEnd → Type 0
 EndsBy End begun bytes ended met halted = (begun ≡ true) × (ended ≡ true) × (halted ≡ None)
 EndsBy ReadFault begun bytes ended met halted =
     (begun ≡ true) × (ended ≡ false) × (halted ≡ None) × (length bytes < INPUT_BYTES)
@@ -70,7 +70,7 @@ pub record RanShellGiven
   pub began : Began first_line a.out
   pub halted : Option ShellEnd
   pub served : ServesInputs Given (inputs_read read) (with_written a began.started) b halted
-  pub near : ReadsLittleAhead read.bytes (inputs_in (answered_steps served.met))
+  pub near : ReadsLittleAhead read.bytes (inputs_in (answered_exchanges served.met))
   pub ends : EndsBy end began.whole read.bytes read.ended served.met halted
   pub unwritten : end ≡ NoMemory → b.out ≡ a.out
 

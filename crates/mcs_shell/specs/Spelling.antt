@@ -31,7 +31,8 @@ abbrev pub load_command : Result (List (ℕ × ℕ)) (ℕ × SourceFault) → Re
 load_command (Ok pairs) = Ok (command.Load (by_address pairs))
 load_command (Err at) = Err (Program (at.0) (at.1))
 
--- what a text comes to: a command, which is done, or lines, which are told while nothing is done
+-- what a text comes to: a command to do, or lines (bytes, with line feeds), which are told while
+-- nothing is done
 pub data TextMeaning : Type 0 where
   Does : Command → TextMeaning
   Tells : List ℕ → TextMeaning

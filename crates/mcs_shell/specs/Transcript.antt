@@ -56,7 +56,8 @@ IsPossibleOutcome live s i Device = (accepted_commands s (asked_command i) ≢ [
 IsPossibleOutcome live s i Closed = (asked_command i ≢ None) × (live ≡ false)
 IsPossibleOutcome live s i NoMemory = takes_memory i ≡ true
 
--- the command that was answered `ok`, as a list: empty where there is none
+-- the command that was answered `ok`, even if that did not go out whole, as a list: empty where
+-- there is none
 unfoldable pub acknowledged_commands : BenchState → Input → Outcome → List Command
 acknowledged_commands s i Plain = accepted_commands s (asked_command i)
 acknowledged_commands s i o = []
@@ -106,24 +107,24 @@ answer s i NoMemory = no_text NO_MEMORY
 -- ---- inputs in turn
 
 -- an input that was met, what came of it, and whether its answer went out whole
-pub record Step : Type 0 where
+pub record Exchange : Type 0 where
   pub input : Input
   pub outcome : Outcome
   pub whole : Bool
 
 -- those whose answers went out whole
-abbrev pub answered_steps : List Step → List Step
-answered_steps met = filter (λ (x : Step). x.whole) met
+abbrev pub answered_exchanges : List Exchange → List Exchange
+answered_exchanges met = filter (λ (x : Exchange). x.whole) met
 
 -- the inputs alone
-abbrev pub inputs_in : List Step → List Input
-inputs_in met = map (λ (x : Step). x.input) met
+abbrev pub inputs_in : List Exchange → List Input
+inputs_in met = map (λ (x : Exchange). x.input) met
 
 -- What each input gives by the state that it meets, in turn: `in_turn answer` are the answers,
 -- `in_turn acknowledged_commands` the commands answered `ok`, and `in_turn reached_commands` those
 -- that may have reached the disk.
 abbrev pub in_turn : {A : Type 0} → (BenchState → Input → Outcome → List A) → BenchState
-    → List Step → List A
+    → List Exchange → List A
 in_turn f s [] = []
 in_turn f s (x ∷ rest) =
     f s x.input x.outcome ++ in_turn f (fold s (acknowledged_commands s x.input x.outcome)) rest
@@ -134,8 +135,8 @@ halt_of false o = Some WriteFault
 halt_of true Device = Some DeviceFault
 halt_of true o = None
 
--- the end that one of these steps made, if one did
-abbrev pub halt_after : List Step → Option ShellEnd
+-- the end that one of these exchanges made, if one did
+abbrev pub halt_after : List Exchange → Option ShellEnd
 halt_after [] = None
 halt_after (x ∷ rest) = option_or (halt_of x.whole x.outcome) (halt_after rest)
 
@@ -144,10 +145,10 @@ abbrev pub is_device_fault : Outcome → Bool
 is_device_fault Device = true
 is_device_fault o = false
 
--- each outcome is one that may come of its input in its turn, and the shell goes on after each but
--- the last
-abbrev pub ArePossibleSteps : Bool → BenchState → List Step → Type 0
-ArePossibleSteps live s [] = Unit {0}
-ArePossibleSteps live s (x ∷ rest) =
+-- each outcome is one that may come of its input in its turn, and none but the last may halt the
+-- shell
+abbrev pub ArePossibleExchanges : Bool → BenchState → List Exchange → Type 0
+ArePossibleExchanges live s [] = Unit {0}
+ArePossibleExchanges live s (x ∷ rest) =
     IsPossibleOutcome live s x.input x.outcome × (rest ≢ [] → halt_of x.whole x.outcome ≡ None)
-    × ArePossibleSteps live (fold s (acknowledged_commands s x.input x.outcome)) rest
+    × ArePossibleExchanges live (fold s (acknowledged_commands s x.input x.outcome)) rest

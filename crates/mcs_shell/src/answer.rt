@@ -56,7 +56,7 @@ impl Answer {
     }
 
     /// Tells a word, a number and a line feed.
-    pub(crate) fn tell_number(&mut self, word: &[u8], n: u32)
+    pub(crate) fn set_number(&mut self, word: &[u8], n: u32)
         requires { length word.now ≤ 20 }
         ensures { self.new ≡ word.now ++ as_line (decimal n) }
     {
@@ -66,18 +66,18 @@ impl Answer {
     }
 
     /// Tells a refusal by its number.
-    pub(crate) fn tell_refusal(&mut self, number: u8)
+    pub(crate) fn set_refusal(&mut self, number: u8)
         ensures { self.new ≡ no_text number }
     {
-        self.tell_number(b"no ", u32::from(number));
+        self.set_number(b"no ", u32::from(number));
     }
 
     /// Tells why a text spells nothing.
-    pub(crate) fn tell_text_refusal(&mut self, refusal: TextRefusal)
+    pub(crate) fn set_text_refusal(&mut self, refusal: TextRefusal)
         ensures { self.new ≡ text_refusal refusal }
     {
         match refusal {
-            TextRefusal::Wiring(fault) => self.tell_refusal(fault.number()),
+            TextRefusal::Wiring(fault) => self.set_refusal(fault.number()),
             TextRefusal::Program(line, fault) => {
                 self.long = None;
                 self.short.clear();
@@ -87,7 +87,7 @@ impl Answer {
     }
 
     /// Tells of an accepted command, by its reply and the bench after it.
-    pub(crate) fn tell_reply(&mut self, reply: &Reply, bench: &Bench)
+    pub(crate) fn set_reply(&mut self, reply: &Reply, bench: &Bench)
         ensures { self.new ≡ ok_text reply.now bench.now }
     {
         self.long = None;
@@ -96,7 +96,7 @@ impl Answer {
     }
 
     /// Tells what a query asks of the state.
-    pub(crate) fn tell_query(&mut self, query: Query, bench: &Bench)
+    pub(crate) fn set_query(&mut self, query: Query, bench: &Bench)
         ensures { self.new ≡ query_answer query bench.now }
     {
         self.long = None;
@@ -106,7 +106,7 @@ impl Answer {
 
     /// Tells a listing of the ROM. It fails where memory is refused, and then nothing is said of
     /// what is told.
-    pub(crate) fn tell_listing(
+    pub(crate) fn set_listing(
         &mut self,
         alloc: Global,
         from: Addr,
@@ -122,7 +122,7 @@ impl Answer {
 
     /// Tells the wiring of the board. It fails where memory is refused, and then nothing is said of
     /// what is told.
-    pub(crate) fn tell_board(&mut self, alloc: Global, bench: &Bench) -> Result<(), AllocError>
+    pub(crate) fn set_board(&mut self, alloc: Global, bench: &Bench) -> Result<(), AllocError>
         ensures { OnOk result (self.new ≡ board_answer bench.now) }
     {
         self.short.clear();
@@ -132,7 +132,7 @@ impl Answer {
 
     /// Tells how often each address would be begun at in a run of at most `n` cycles. It fails where memory is refused, and
     /// then nothing is said of what is told.
-    pub(crate) fn tell_count(
+    pub(crate) fn set_count(
         &mut self,
         alloc: Global,
         n: u32,
@@ -147,7 +147,7 @@ impl Answer {
 
     /// Tells what a run of at most `n` cycles would change at places. It fails where memory is refused, and then nothing is
     /// said of what is told.
-    pub(crate) fn tell_trace(
+    pub(crate) fn set_trace(
         &mut self,
         alloc: Global,
         n: u32,
@@ -163,7 +163,7 @@ impl Answer {
     }
 
     /// Tells lines, each of which has its line feed.
-    pub(crate) fn tell_lines(&mut self, lines: Vec<u8>)
+    pub(crate) fn set_lines(&mut self, lines: Vec<u8>)
         ensures { self.new ≡ lines.items }
     {
         self.short.clear();

@@ -41,11 +41,11 @@ fn answer_change<D: Disk + Drop>(
 {
     match session.apply(command) {
         Ok(reply) => {
-            answer.tell_reply(&reply, session.bench());
+            answer.set_reply(&reply, session.bench());
             Outcome::Plain
         }
         Err(fault) => {
-            answer.tell_refusal(session_number(fault));
+            answer.set_refusal(session_number(fault));
             outcome_of(fault)
         }
     }
@@ -60,7 +60,7 @@ fn unless_refused(told: Result<(), AllocError>, answer: &mut Answer) -> Outcome
     match told {
         Ok(()) => Outcome::Plain,
         Err(_) => {
-            answer.tell_refusal(refusal_numbers::NO_MEMORY);
+            answer.set_refusal(refusal_numbers::NO_MEMORY);
             Outcome::NoMemory
         }
     }
@@ -81,27 +81,27 @@ pub(crate) fn answer_request<D: Disk + Drop>(
     match request {
         Request::Nothing => Outcome::Plain,
         Request::Refused(fault) => {
-            answer.tell_refusal(fault.number());
+            answer.set_refusal(fault.number());
             Outcome::Plain
         }
         Request::Ask(query) => {
-            answer.tell_query(*query, session.bench());
+            answer.set_query(*query, session.bench());
             Outcome::Plain
         }
         Request::Listing(from, lines) => {
-            let told = answer.tell_listing(alloc, *from, *lines, session.bench());
+            let told = answer.set_listing(alloc, *from, *lines, session.bench());
             unless_refused(told, answer)
         }
         Request::Board => {
-            let told = answer.tell_board(alloc, session.bench());
+            let told = answer.set_board(alloc, session.bench());
             unless_refused(told, answer)
         }
         Request::Count(n) => {
-            let told = answer.tell_count(alloc, *n, session.bench());
+            let told = answer.set_count(alloc, *n, session.bench());
             unless_refused(told, answer)
         }
         Request::Trace(n, probes) => {
-            let told = answer.tell_trace(alloc, *n, probes.as_slice(), session.bench());
+            let told = answer.set_trace(alloc, *n, probes.as_slice(), session.bench());
             unless_refused(told, answer)
         }
         Request::Change(command) => answer_change(command, session, answer),
@@ -121,21 +121,21 @@ pub(crate) fn answer_text<D: Disk + Drop>(
         answer.new (session_state D.state session.new) }
 {
     if let Some(fault) = text_fault(text) {
-        answer.tell_refusal(fault.number());
+        answer.set_refusal(fault.number());
         return Outcome::Plain;
     }
     match read_text(alloc, kind, as_text(text)) {
         Ok(Ok(TextMeaning::Does(command))) => answer_change(&command, session, answer),
         Ok(Ok(TextMeaning::Tells(lines))) => {
-            answer.tell_lines(lines);
+            answer.set_lines(lines);
             Outcome::Plain
         }
         Ok(Err(refusal)) => {
-            answer.tell_text_refusal(refusal);
+            answer.set_text_refusal(refusal);
             Outcome::Plain
         }
         Err(AllocError) => {
-            answer.tell_refusal(refusal_numbers::NO_MEMORY);
+            answer.set_refusal(refusal_numbers::NO_MEMORY);
             Outcome::NoMemory
         }
     }

@@ -7,7 +7,7 @@ ghost use Rattle.mcs_host.specs.FileDisk.{IsUncalled};
 ghost use Rattle.mcs_host.specs.declared.file_disk.FileDisk.{FileDisk};
 ghost use Rattle.mcs_host.specs.declared.file_fault.FileFault.{FileFault};
 ghost use Rattle.mcs_shell.specs.Faults.{streams_view};
-ghost use Rattle.mcs_shell.specs.Program.{IsBegunOn, IsRefusedBy, RanTo, RanWithStatus, ServedChosenSession, ServedBySomeArguments, ServedSession};
+ghost use Rattle.mcs_shell.specs.Program.{IsBegunOn, IsRefusedBy, RanOverStreams, RanWithStatus, ServedChosenSession, ServedBySomeArguments, ServedSession};
 ghost use Rattle.mcs_shell.specs.RefusalNumbers.{begin_fault_number};
 
 use crate::ends::{ShellEnd, status};
@@ -96,7 +96,7 @@ pub fn refuse_arguments(rt: &HostRuntime, fault: ArgumentsFault) -> io::Result<E
 
 /// Why there is no session.
 #[derive(Drop)]
-pub struct Refused<D: Disk + Drop> {
+pub struct NotBegun<D: Disk + Drop> {
     /// Why.
     pub fault: BeginFault,
     /// The disk that was opened for it, as the refusal left it; `None` where none was.
@@ -109,7 +109,7 @@ pub fn session_on<D: Disk + Drop>(
     alloc: Global,
     choice: &Choice,
     opened: Result<D, FileFault>,
-) -> Result<Session<D>, Refused<D>>
+) -> Result<Session<D>, NotBegun<D>>
     ensures begun { IfOk opened (λ disk. IfOk result (λ session.
         IsBegunOn D.state choice.now disk session)) }
     ensures refused { IfOk opened (λ disk. IfErr result (λ refused.
@@ -121,7 +121,7 @@ pub fn session_on<D: Disk + Drop>(
     let disk = match opened {
         Ok(disk) => disk,
         Err(fault) => {
-            return Err(Refused {
+            return Err(NotBegun {
                 fault: BeginFault::File(fault),
                 disk: None,
             });
@@ -130,14 +130,14 @@ pub fn session_on<D: Disk + Drop>(
     match choice {
         Choice::New(_) => match Session::create(alloc, disk) {
             Ok(session) => Ok(session),
-            Err((fault, left)) => Err(Refused {
+            Err((fault, left)) => Err(NotBegun {
                 fault: BeginFault::Create(fault),
                 disk: Some(left),
             }),
         },
         Choice::Open(_) => match Session::open(alloc, disk) {
             Ok(session) => Ok(session),
-            Err((fault, left)) => Err(Refused {
+            Err((fault, left)) => Err(NotBegun {
                 fault: BeginFault::Open(fault),
                 disk: Some(left),
             }),
@@ -146,7 +146,10 @@ pub fn session_on<D: Disk + Drop>(
 }
 
 /// Makes or opens the session in a file, or tells why there is none.
-pub fn session_in(rt: &HostRuntime, choice: &Choice) -> Result<Session<FileDisk>, Refused<FileDisk>>
+pub fn session_in(
+    rt: &HostRuntime,
+    choice: &Choice,
+) -> Result<Session<FileDisk>, NotBegun<FileDisk>>
     ensures begun { IfOk result (λ session. (disk : FileDisk) × IsUncalled (as_disk disk)
         × IsBegunOn as_disk choice.now disk session) }
     ensures refused { IfErr result (λ refused.
@@ -176,7 +179,7 @@ pub fn serve<R: InputSource, W: AnswerSink, D: Disk + Drop>(
         (streams_view R.remaining R.faults W.contents W.faults reader.old writer.old)
         (streams_view R.remaining R.faults W.contents W.faults reader.new writer.new)
         session.old session.new) }
-    ensures untold { OnErr result (RanTo D.state ShellEnd.NoMemory
+    ensures untold { OnErr result (RanOverStreams D.state ShellEnd.NoMemory
         (streams_view R.remaining R.faults W.contents W.faults reader.old writer.old)
         (streams_view R.remaining R.faults W.contents W.faults reader.new writer.new)
         session.old session.new) }
@@ -206,7 +209,7 @@ pub fn serve_begun<R: InputSource, W: AnswerSink, D: Disk + Drop>(
     reader: &mut R,
     writer: &mut W,
     choice: &Choice,
-    begun: Result<Session<D>, Refused<D>>,
+    begun: Result<Session<D>, NotBegun<D>>,
 ) -> Ended<D>
     ensures served { IfOk begun (λ before. IsSomeAnd result.session (λ after.
         ServedSession D.state result.status

@@ -96,7 +96,7 @@ pub(crate) fn serve_no_end<W: AnswerSink, D: Disk + Drop>(
     ensures counted { W.faults writer.new ≡ faults_written (result_err result) (W.faults writer.old) }
 {
     let mut answer = Answer::new();
-    answer.tell_refusal(TextFault::NoEnd.number());
+    answer.set_refusal(TextFault::NoEnd.number());
     let _bench = session.bench();
     deliver(Outcome::Plain, &answer, writer, session)
 }

@@ -146,7 +146,7 @@ pub fn run_shell<R: InputSource, W: AnswerSink, D: Disk + Drop>(
         return ShellEnd::NoMemory;
     };
     let mut first = Answer::new();
-    first.tell_number(b"session ", seq);
+    first.set_number(b"session ", seq);
     match first.send(session, writer) {
         Err(WriteStopped) => ShellEnd::WriteFault,
         Ok(()) => run_loop(alloc, buffer.as_mut_slice(), reader, writer, session),

@@ -99,16 +99,17 @@ abbrev pub is_known_name : Option (List ℕ) → Names → Bool
 is_known_name None names = false
 is_known_name (Some w) names = is_known w names
 
--- fault 33 of class one: an `ORG` or a `NAME = NUMBER` outside the addresses
-abbrev pub is_bad_statement : Option Statement → Bool
-is_bad_statement (Some (Origin n)) = not (nat_lt n 4096)
-is_bad_statement s = false
+-- fault 33 of class one: the number of an `ORG` or of a `NAME = NUMBER` is above 4095
+abbrev pub is_bad_origin : Option Statement → Bool
+is_bad_origin (Some (Origin n)) = not (nat_lt n 4096)
+is_bad_origin s = false
 
-abbrev pub is_bad_place : SourceLine → Bool
-is_bad_place (Define w n) = not (nat_lt n 4096)
-is_bad_place (Code label s) = is_bad_statement s
+abbrev pub has_bad_number : SourceLine → Bool
+has_bad_number (Define w n) = not (nat_lt n 4096)
+has_bad_number (Code label s) = is_bad_origin s
 
--- fault 36: a label at 4096, or a byte at 4096 or later
+-- fault 36: a label at 4096, or a byte at 4096 or later (`at` is above 4096 only where an earlier
+-- line has a fault)
 abbrev pub passes_end : SourceLine → ℕ → Bool
 passes_end (Define w n) at = false
 passes_end (Code label s) at =
@@ -119,7 +120,7 @@ passes_end (Code label s) at =
 abbrev pub fault_one : ℕ → Names → Option SourceLine → Option SourceFault
 fault_one at names None = Some BadStatement
 fault_one at names (Some line) =
-    if is_bad_place line then Some OutOfRange else
+    if has_bad_number line then Some OutOfRange else
     if is_known_name (defined_name line) names then Some DoubleName else
     if is_some (defined_name line) && nat_le NAMES (length names) then Some TooManyNames else
     if passes_end line at then Some PastEnd else None

@@ -1,6 +1,5 @@
--- What the tokens of a line say. A line is an optional label, an optional statement and an optional
--- comment, or a definition of a name. (Our own choice, with the operands of the MCS-4 Users
--- Manual.)
+-- What the tokens of a line say: an optional label and an optional statement, or a definition of a
+-- name. A comment is no token. (Our own choice, with the operands of the MCS-4 Users Manual.)
 use Rattle.std.specs.Prelude.{ℕ, ◌-◌, Bool, false, not, ◌&&◌, ◌||◌, List, [], ◌∷◌, Option, Some, None, is_some, nat_le, ◌==◌, if◌then◌else◌, codes, length}
 use Rattle.std.specs.Str.{str_eq_ignore_ascii_case}
 use Rattle.std.specs.Char.{is_ascii_digit, is_ascii_uppercase, is_ascii_lowercase}
@@ -20,8 +19,8 @@ pub data Operand : Type 0 where
   Number : ℕ → Operand
   Name : List ℕ → Operand
 
--- a statement as it is written; `Whole` is an instruction that needs no name's value, with its
--- registers or pair
+-- a statement as it is written, its operands in that order; `Whole` is an instruction none of whose
+-- operands is a value, with its registers or pair
 pub data Statement : Type 0 where
   Origin : ℕ → Statement
   Data : List Operand → Statement
@@ -31,7 +30,7 @@ pub data Statement : Type 0 where
   Jcn : Operand → Operand → Statement
   Isz : ℕ → Operand → Statement
 
--- a letter or `_`
+-- whether a word begins with a letter or `_`
 abbrev pub begins_name : List ℕ → Bool
 begins_name [] = false
 begins_name (b ∷ word) = (is_ascii_uppercase b || is_ascii_lowercase b) || b == 95
@@ -42,12 +41,12 @@ up_to_15 (d ∷ []) = if is_ascii_digit d then Some (d - 48) else None
 up_to_15 (t ∷ d ∷ []) = if t == 49 && is_in_range 48 53 d then Some (d - 38) else None
 up_to_15 ds = None
 
--- `R0` to `R15`
+-- the number of `R0` to `R15`, or `r0` to `r15`
 abbrev pub register_named : List ℕ → Option ℕ
 register_named (b ∷ ds) = if b == 82 || b == 114 then up_to_15 ds else None
 register_named [] = None
 
--- `P0` to `P7`
+-- the same of `P0` to `P7`, or `p0` to `p7`
 abbrev pub pair_named : List ℕ → Option ℕ
 pair_named (b ∷ d ∷ []) = if (b == 80 || b == 112) && is_in_range 48 55 d then Some (d - 48) else None
 pair_named word = None
@@ -149,7 +148,7 @@ pub data SourceLine : Type 0 where
   Code : Option (List ℕ) → Option Statement → SourceLine
   Define : List ℕ → ℕ → SourceLine
 
--- what follows a label, or the whole line where there is none
+-- the line that has this label, if any, and then these tokens
 abbrev pub rest_of : Option (List ℕ) → List Token → Option SourceLine
 rest_of label [] = Some (Code label None)
 rest_of label (t ∷ ts) = statement_of (t ∷ ts) >>= λ s. Some (Code label (Some s))

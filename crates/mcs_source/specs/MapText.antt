@@ -2,15 +2,14 @@
 -- for each name. (Our own choice.)
 use Rattle.std.specs.Prelude.{ℕ, ◌+◌, List, [], ◌∷◌, ◌++◌, length, map, codes, nat_lt, if◌then◌else◌}
 use Rattle.std.specs.Fmt.{decimal}
-use Rattle.std.specs.List.{flat_map}
 use Rattle.mcs_model.specs.QueryText.{address_text}
-use Rattle.mcs_model.specs.TextLines.{as_line}
+use Rattle.mcs_model.specs.TextLines.{as_line, text_of}
 use Rattle.mcs_source.specs.declared.survey.Span.{Span}
 use Rattle.mcs_source.specs.Survey.{Survey}
 
 -- an address, or the place after the last one
-abbrev pub place_text : ℕ → List ℕ
-place_text at = if nat_lt at 4096 then address_text at else codes "1000"
+abbrev pub address_or_end_text : ℕ → List ℕ
+address_or_end_text at = if nat_lt at 4096 then address_text at else codes "1000"
 
 -- how many rows of each kind follow
 abbrev pub head_row : ℕ → ℕ → List ℕ
@@ -19,7 +18,7 @@ head_row lines names = codes "map lines " ++ decimal lines ++ codes " names " ++
 -- a line of the source by its number, with where it stands and how many bytes it spells
 abbrev pub line_row : ℕ → Span → List ℕ
 line_row number s =
-    codes "line " ++ decimal number ++ codes " " ++ place_text s.at ++ codes " " ++ decimal s.size
+    codes "line " ++ decimal number ++ codes " " ++ address_or_end_text s.at ++ codes " " ++ decimal s.size
 
 -- these lines, the first of them with this number
 abbrev pub line_rows : ℕ → List Span → List (List ℕ)
@@ -28,15 +27,11 @@ line_rows number (s ∷ spans) = line_row number s ∷ line_rows (number + 1) sp
 
 -- a name and its value
 abbrev pub name_row : List ℕ × ℕ → List ℕ
-name_row name = codes "name " ++ name.0 ++ codes " " ++ place_text name.1
-
--- each row ends with LF
-abbrev pub rows_text : List (List ℕ) → List ℕ
-rows_text rows = flat_map as_line rows
+name_row name = codes "name " ++ name.0 ++ codes " " ++ address_or_end_text name.1
 
 -- the whole; lines count from 1
 unfoldable pub survey_text : Survey → List ℕ
 survey_text s =
     as_line (head_row (length s.spans) (length s.names))
-    ++ rows_text (line_rows 1 s.spans)
-    ++ rows_text (map name_row s.names)
+    ++ text_of (line_rows 1 s.spans)
+    ++ text_of (map name_row s.names)

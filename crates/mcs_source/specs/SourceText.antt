@@ -1,8 +1,7 @@
 -- The text of one instruction, and the source of a range of a ROM. (Our own choice.)
 use Rattle.std.specs.Prelude.{◌≡◌, ℕ, zero, suc, ◌+◌, ◌-◌, ◌/◌, ◌%◌, List, [], ◌∷◌, ◌++◌, length, take, drop, codes, Option, Ok}
 use Rattle.std.specs.Option.{option_to_list}
-use Rattle.std.specs.List.{flat_map}
-use Rattle.mcs_model.specs.TextLines.{as_line}
+use Rattle.mcs_model.specs.TextLines.{text_of}
 use Rattle.mcs_model.specs.Images.{from_address}
 use Rattle.mcs_source.specs.Assembly.{assembly_of_text}
 use Rattle.mcs_source.specs.Text.{address, op_at, piece_size, piece_text}
@@ -24,7 +23,7 @@ origin_text at = codes "ORG " ++ address (at / 256) (at % 256)
 
 -- the source of some bytes that stand from an address on: the `ORG` line, and a line for each piece
 abbrev pub source_of : ℕ → List ℕ → List ℕ
-source_of from bytes = flat_map as_line (origin_text from ∷ piece_texts (length bytes) from bytes)
+source_of from bytes = text_of (origin_text from ∷ piece_texts (length bytes) from bytes)
 
 abbrev pub range : List ℕ → ℕ → ℕ → List ℕ
 range rom from to = take (to - from) (drop from rom)

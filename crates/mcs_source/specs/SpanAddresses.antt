@@ -4,5 +4,5 @@ use Rattle.std.specs.List.{range_with_len}
 use Rattle.mcs_source.specs.declared.survey.Span.{Span}
 
 -- the addresses of the bytes that a line with this span spells
-abbrev pub addresses : Span → List ℕ
-addresses s = range_with_len s.at s.size
+abbrev pub addresses_of_span : Span → List ℕ
+addresses_of_span s = range_with_len s.at s.size

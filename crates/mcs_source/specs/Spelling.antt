@@ -10,7 +10,8 @@ one code = code ∷ []
 abbrev pub two : ℕ → ℕ → List ℕ
 two code second = code ∷ second ∷ []
 
--- the words that spell an instruction; `decoded` reads them back
+-- the words that spell an instruction; where its operands are in their ranges, `instruction_of` of
+-- `Table` reads it back from them
 abbrev pub spelling : Op → List ℕ
 spelling Nop = one 0x00
 spelling (Jcn c b) = two (0x10 + c) b

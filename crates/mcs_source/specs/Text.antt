@@ -1,17 +1,16 @@
 -- The text of an instruction at an address, and the listing of a ROM.
 -- (Names and operands: MCS-4 Users Manual, instruction set. Their spelling: our own choice.)
 use Rattle.std.specs.Prelude.{ℕ, zero, suc, ◌+◌, ◌-◌, ◌/◌, ◌%◌, List, [], ◌∷◌, ◌++◌, length, drop, codes, Option, Some, None, nat_lt, nat_le, if◌then◌else◌}
-use Rattle.std.specs.List.{flat_map}
 use Rattle.std.specs.Fmt.{decimal}
 use Rattle.mcs_model.specs.declared.op.Op.{Op}
 use Rattle.mcs_model.specs.declared.op.Op.TheVariants.{Jcn, Fim, Src, Fin, Jin, Jun, Jms, Inc, Isz, Add, Sub, Ld, Xch, Bbl, Ldm}
 use Rattle.mcs_model.specs.QueryText.{hex_2, hex_digit}
-use Rattle.mcs_model.specs.TextLines.{as_line}
+use Rattle.mcs_model.specs.TextLines.{text_of}
 use Rattle.mcs_model.specs.Table.{instruction_of, word_count_of}
 use Rattle.mcs_source.specs.Assembly.{near_page}
 use Rattle.mcs_source.specs.InstructionNames.{name}
 
--- the three digits of an address, by its page and its word
+-- the three digits of an address, by its page and its lower eight bits
 abbrev pub address_digits : ℕ → ℕ → List ℕ
 address_digits page word = hex_digit page ∷ hex_2 word
 
@@ -46,17 +45,18 @@ operands at o = []
 abbrev pub instruction_text : ℕ → Op → List ℕ
 instruction_text at o = name o ++ operands at o
 
--- the instruction of some bytes, where it lies in them whole; a code outside the table, and a first
--- word whose second word lies past the end, is a byte
+-- the instruction read from byte b and the bytes `rest` after it, where it lies in them whole; None
+-- where the piece is the byte: outside the table, or its second word is past the end
 abbrev pub whole_or_byte : Option Op → ℕ → List ℕ → Option Op
 whole_or_byte None b rest = None
 whole_or_byte (Some o) b rest = if nat_le (word_count_of o) (1 + length rest) then Some o else None
 
+-- the byte after the first; 0 where there is none, which `whole_or_byte` leaves without effect
 abbrev pub second_word : List ℕ → ℕ
 second_word [] = 0
 second_word (c ∷ rest) = c
 
--- the instruction whose first word is `b`, before the rest of the bytes
+-- the instruction that b begins, where `rest` are the bytes after it; None where b is a byte alone
 unfoldable pub op_at : ℕ → List ℕ → Option Op
 op_at b rest = whole_or_byte (instruction_of b (second_word rest)) b rest
 
@@ -105,4 +105,4 @@ listing_lines (suc most) at (b ∷ rest) =
 -- the listing of a ROM from an address on: that many lines, or fewer where address FFF comes first;
 -- each ends with LF
 abbrev pub listing_text : List ℕ → ℕ → ℕ → List ℕ
-listing_text rom from lines = flat_map as_line (listing_lines lines from (drop from rom))
+listing_text rom from lines = text_of (listing_lines lines from (drop from rom))

@@ -3,7 +3,7 @@ ghost use Rattle.std.specs.Prelude.{◌≡◌, ℕ, List, Ok, map};
 ghost use Rattle.std.specs.List.{flat_map};
 ghost use Rattle.mcs_source.specs.Assembly.{assembly_of_text};
 ghost use Rattle.mcs_source.specs.Survey.{Survey, survey_of_text};
-ghost use Rattle.mcs_source.specs.SpanAddresses.{addresses};
+ghost use Rattle.mcs_source.specs.SpanAddresses.{addresses_of_span};
 
 /// Where the statement of a line stands, or would stand, and how many bytes the line spells.
 #[derive(Clone, Copy, Debug, PartialEq, Eq)]
@@ -18,5 +18,5 @@ pub struct Span {
 /// spans, one after the other. It holds for each text; the function does nothing.
 pub fn spans_law()
     ensures { (text : List ℕ) (pairs : List (ℕ × ℕ)) (survey : Survey) → assembly_of_text text ≡ Ok pairs
-        → survey_of_text text ≡ Ok survey → map (λ p. p.0) pairs ≡ flat_map addresses survey.spans }
+        → survey_of_text text ≡ Ok survey → map (λ p. p.0) pairs ≡ flat_map addresses_of_span survey.spans }
 {}

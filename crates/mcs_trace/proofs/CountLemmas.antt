@@ -8,7 +8,7 @@ use Rattle.mcs_cpu4004.specs.InstructionRan.{InstructionRan}
 use Rattle.mcs_bench.specs.Runs.{GoesOn, RanTo}
 use Rattle.mcs_ahead.specs.Ahead.{Begun, begins, begun_within, cycle_at, is_at, jumps, jumps_at, runs_at}
 use Rattle.mcs_trace.specs.declared.counting.Counts.{Counts}
-use Rattle.mcs_trace.specs.Counted.{IsCounted, IsTally, with_one}
+use Rattle.mcs_trace.specs.Counted.{IsCounted, IsTally, one_more}
 use Rattle.mcs_trace.proofs.Steps.{begun-on, one-behind, rests}
 use Rattle.mcs_trace.proofs.Tallies.{begun_at, counted-more, counted-few, one-when, tally-more}
 
@@ -25,12 +25,12 @@ same-both true false true = refl
 same-both true false false = refl
 same-both false x y = refl
 
-runs-more : (k m : ℕ) (s : Machine) (xs : List ℕ) (b : Bool) (place : ℕ) → place < 4096 → begun_within m s ≡ begun_within k s ++ begun_at s k → b ≡ begins (cycle_at s k) → place ≡ (after_cycles k s).0.pc → IsTally xs (runs_at (begun_within k s)) → IsTally (with_one xs b place) (runs_at (begun_within m s))
+runs-more : (k m : ℕ) (s : Machine) (xs : List ℕ) (b : Bool) (place : ℕ) → place < 4096 → begun_within m s ≡ begun_within k s ++ begun_at s k → b ≡ begins (cycle_at s k) → place ≡ (after_cycles k s).0.pc → IsTally xs (runs_at (begun_within k s)) → IsTally (one_more xs b place) (runs_at (begun_within m s))
 runs-more k m s xs b place l on eb ep t =
     tally-more xs b place (runs_at (begun_within k s)) (runs_at (begun_within m s)) l t
     (λ at h. rw (eb, ep) (counted-more k m s (is_at at) on))
 
-jumps-more : (k m : ℕ) (s : Machine) (xs : List ℕ) (b : Bool) (place : ℕ) → place < 4096 → begun_within m s ≡ begun_within k s ++ begun_at s k → b ≡ (begins (cycle_at s k) && jumps (cycle_at s k)) → place ≡ (after_cycles k s).0.pc → IsTally xs (jumps_at (begun_within k s)) → IsTally (with_one xs b place) (jumps_at (begun_within m s))
+jumps-more : (k m : ℕ) (s : Machine) (xs : List ℕ) (b : Bool) (place : ℕ) → place < 4096 → begun_within m s ≡ begun_within k s ++ begun_at s k → b ≡ (begins (cycle_at s k) && jumps (cycle_at s k)) → place ≡ (after_cycles k s).0.pc → IsTally xs (jumps_at (begun_within k s)) → IsTally (one_more xs b place) (jumps_at (begun_within m s))
 jumps-more k m s xs b place l on eb ep t =
     tally-more xs b place (jumps_at (begun_within k s)) (jumps_at (begun_within m s)) l t
     (λ at h. rw (eb, ep) (counted-more k m s (λ x. is_at at x && jumps x) on ∙ ap (λ v. jumps_at (begun_within k s) at + one-when v) (same-both (begins (cycle_at s k)) (is_at at (cycle_at s k)) (jumps (cycle_at s k)))))
@@ -59,13 +59,13 @@ tally-none s p xs e = rw e (record {
   each = λ at h. get_or-replicate {A = ℕ} 4096 at 0 0 h;
 })
 
-pub runs-next : (left k d : ℕ) (s t u : Machine) (before : Regs) (xs ys : List ℕ) → t ≡ after_cycles k s → InstructionRan left t u d → 0 < d → before ≡ t.0 → before.pc < 4096 → ys ≡ with_one xs (before.owed == 0) before.pc → IsTally xs (runs_at (begun_within k s)) → IsTally ys (runs_at (begun_within (k + d) s))
+pub runs-next : (left k d : ℕ) (s t u : Machine) (before : Regs) (xs ys : List ℕ) → t ≡ after_cycles k s → InstructionRan left t u d → 0 < d → before ≡ t.0 → before.pc < 4096 → ys ≡ one_more xs (before.owed == 0) before.pc → IsTally xs (runs_at (begun_within k s)) → IsTally ys (runs_at (begun_within (k + d) s))
 runs-next left k d s t u before xs ys at ran some e l new told =
     let same : before ≡ (after_cycles k s).0 = e ∙ ap (λ (m : Machine). m.0) at in
     subst (λ v. IsTally v (runs_at (begun_within (k + d) s))) (sym new)
     (runs-more k (k + d) s xs (before.owed == 0) before.pc l (begun-on left k d s t u at ran some) (ap (λ (r : Regs). r.owed == 0) same) (ap (λ (r : Regs). r.pc) same) told)
 
-pub jumps-next : (left k d : ℕ) (s t u : Machine) (before after : Regs) (xs ys : List ℕ) → t ≡ after_cycles k s → InstructionRan left t u d → 0 < d → before ≡ t.0 → after ≡ u.0 → before.pc < 4096 → ys ≡ with_one xs (before.owed == 0 && not (after.pc == (before.pc + 2) % 4096)) before.pc → IsTally xs (jumps_at (begun_within k s)) → IsTally ys (jumps_at (begun_within (k + d) s))
+pub jumps-next : (left k d : ℕ) (s t u : Machine) (before after : Regs) (xs ys : List ℕ) → t ≡ after_cycles k s → InstructionRan left t u d → 0 < d → before ≡ t.0 → after ≡ u.0 → before.pc < 4096 → ys ≡ one_more xs (before.owed == 0 && not (after.pc == (before.pc + 2) % 4096)) before.pc → IsTally xs (jumps_at (begun_within k s)) → IsTally ys (jumps_at (begun_within (k + d) s))
 jumps-next left k d s t u before after xs ys at ran some e f l new told =
     let same : before ≡ (after_cycles k s).0 = e ∙ ap (λ (m : Machine). m.0) at in
     let later : after.pc ≡ (after_cycles (k + 1) s).0.pc = ap (λ (r : Regs). r.pc) f ∙ ap (λ (m : Machine). m.0.pc) (rests left d t u ran some) ∙ ap (λ (m : Machine). m.0.pc) (one-behind k s t at) in

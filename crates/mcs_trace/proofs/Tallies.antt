@@ -10,7 +10,7 @@ use Rattle.std.proofs.lemmas.List.Sums.{sum_by-append, count_by-le-length}
 use Rattle.mcs_model.specs.Running.{Machine}
 use Rattle.mcs_model.proofs.ListLemmas.{range_more}
 use Rattle.mcs_ahead.specs.Ahead.{Begun, begins, begun_within, cycle_at}
-use Rattle.mcs_trace.specs.Counted.{IsTally, with_one}
+use Rattle.mcs_trace.specs.Counted.{IsTally, one_more}
 
 -- the instruction that a cycle begins, if it begins one
 abbrev pub begun_at : Machine → ℕ → List Begun
@@ -61,7 +61,7 @@ pub counted-few : (k : ℕ) (s : Machine) (p : Begun → Bool) → count_by p (b
 counted-few k s p = let a = count_by-le-length p (begun_within k s) in let b = begun-few k s in omega arith
 
 -- one more at a place
-with-one-at : (xs : List ℕ) (b : Bool) (place at : ℕ) → place < length xs → get_or (with_one xs b place) at 0 ≡ get_or xs at 0 + one-when (b && eqb place at)
+with-one-at : (xs : List ℕ) (b : Bool) (place at : ℕ) → place < length xs → get_or (one_more xs b place) at 0 ≡ get_or xs at 0 + one-when (b && eqb place at)
 with-one-at xs false place at l = omega arith
 with-one-at xs true place at l =
     elim (cases_eq at place) [
@@ -69,12 +69,12 @@ with-one-at xs true place at l =
       | inr ne ↦ (let f : eqb place at ≡ false = grind (arith, nat_tests) in rw f (get_or-set_other xs place at (get_or xs place 0 + 1) 0 ne ∙ omega arith))
     ]
 
-with-one-length : (xs : List ℕ) (b : Bool) (place : ℕ) → length (with_one xs b place) ≡ length xs
+with-one-length : (xs : List ℕ) (b : Bool) (place : ℕ) → length (one_more xs b place) ≡ length xs
 with-one-length xs true place = length-set xs place (get_or xs place 0 + 1)
 with-one-length xs false place = refl
 
 -- a tally with one more
-pub tally-more : (xs : List ℕ) (b : Bool) (place : ℕ) (f g : ℕ → ℕ) → place < 4096 → IsTally xs f → ((at : ℕ) → at < 4096 → g at ≡ f at + one-when (b && eqb place at)) → IsTally (with_one xs b place) g
+pub tally-more : (xs : List ℕ) (b : Bool) (place : ℕ) (f g : ℕ → ℕ) → place < 4096 → IsTally xs f → ((at : ℕ) → at < 4096 → g at ≡ f at + one-when (b && eqb place at)) → IsTally (one_more xs b place) g
 tally-more xs b place f g l t more = record {
   len = with-one-length xs b place ∙ t.len;
   each = λ at h. with-one-at xs b place at (let len = t.len in omega arith) ∙ ap (λ m. m + one-when (b && eqb place at)) (t.each at h) ∙ sym (more at h);

@@ -4,9 +4,9 @@ use Rattle.mcs_model.specs.Running.{Machine, Stops, run_length, run_stop}
 use Rattle.mcs_ahead.specs.Ahead.{begun_in, runs_at, jumps_at}
 use Rattle.mcs_trace.specs.declared.counting.Counts.{Counts}
 
--- one more at a place, where it is to be counted
-abbrev pub with_one : List ℕ → Bool → ℕ → List ℕ
-with_one xs counts at = if counts then slice_set xs at (slice_index xs at + 1) else xs
+-- one more at an index, where `counts` says so
+abbrev pub one_more : List ℕ → Bool → ℕ → List ℕ
+one_more xs counts at = if counts then slice_set xs at (slice_index xs at + 1) else xs
 
 -- for each address what is counted of it
 pub record IsTally (xs : List ℕ) (count : ℕ → ℕ) : Type 0 where

@@ -2,7 +2,7 @@
 ghost use Rattle.std.specs.Prelude.{◌≡◌, ◌<◌, ◌+◌, ◌%◌, ◌==◌, ◌&&◌, not, IfOk, length, slice_index, slice_set, replicate};
 ghost use Rattle.mcs_model.specs.Command.{machine_of, stops_of};
 ghost use Rattle.mcs_bench.specs.Runs.{stop_by};
-ghost use Rattle.mcs_trace.specs.Counted.{IsCounted, with_one};
+ghost use Rattle.mcs_trace.specs.Counted.{IsCounted, one_more};
 
 use mcs_bench::Bench;
 use mcs_model::regs::Regs;
@@ -45,9 +45,9 @@ fn note(runs: &mut Vec<u32>, jumps: &mut Vec<u32>, before: &Regs, after: &Regs)
     requires jumps { length jumps.old.items ≡ 4096 }
     requires few_jumps { slice_index jumps.old.items before.now.pc < u32.MAX }
     ensures runs { runs.new.items
-        ≡ with_one runs.old.items (before.now.owed == 0) before.now.pc }
+        ≡ one_more runs.old.items (before.now.owed == 0) before.now.pc }
     ensures jumps { jumps.new.items
-        ≡ with_one jumps.old.items
+        ≡ one_more jumps.old.items
         (before.now.owed == 0 && not (after.now.pc == (before.now.pc + 2) % 4096)) before.now.pc }
 {
     if before.owed != 0 {

@@ -1,4 +1,5 @@
--- Version 1 of what commands do: the commands except for those that watch.
+-- Version 1 of what commands do. It lacks watching, and boards that are not small: of a command
+-- that it lacks (`in_version_1`), all else here is without meaning.
 use Rattle.std.specs.Prelude.{Bool, true, false, ◌+◌, ◌==◌, ◌&&◌, ◌||◌, length, Option, Some, None, nat_lt, nat_le, slice_set, if◌then◌else◌}
 use Rattle.std.specs.List.{list_any}
 use Rattle.mcs_model.specs.declared.command.Command.{Command}
@@ -16,7 +17,7 @@ use Rattle.mcs_model.specs.Listed.{is_listed, with_listed, without_listed}
 use Rattle.mcs_model.specs.Bus.{BusState, with_ram, with_status}
 use Rattle.mcs_model.specs.Command.{lacks_rom, place_refusal}
 use Rattle.mcs_model.specs.BenchState.{new_regs}
-use Rattle.mcs_model.specs.Places.{with_rom_byte, with_rom_bytes, with_key, after_reset, after_wire}
+use Rattle.mcs_model.specs.ChipWrites.{with_rom_byte, with_rom_bytes, with_key, after_reset, after_wire}
 use Rattle.mcs_model.specs.Running.{Machine, step_length, after_step, step_stop}
 use Rattle.mcs_version1.specs.Boards.{is_small}
 use Rattle.mcs_version1.specs.BenchState.{BenchState1}

@@ -1,5 +1,5 @@
--- A state of version 1 as one of the last version, and that commands and queries do not tell the
--- two apart.
+-- A state of version 1 as one of version 2, and that commands and queries do not tell the two
+-- apart.
 use Rattle.std.specs.Prelude.{◌≡◌, [], IsTrue, List}
 use Rattle.mcs_model.specs.declared.command.Command.{Command}
 use Rattle.mcs_model.specs.declared.query.Query.{Query}
@@ -25,7 +25,8 @@ lift_query (Ram bank) = asked.Ram bank
 lift_query Breaks = asked.Breaks
 lift_query Seq = asked.Seq
 
--- a command of version 1 on a state of version 1
+-- a command of version 1: at the state carried over it is refused, done and answered as version 1
+-- did at this state
 pub record IsLifted (s : BenchState1) (c : Command) : Type 0 where
   pub refusal : refusal (lift s) c ≡ refusal_1 s c
   pub after : lift (after_1 s c) ≡ after (lift s) c

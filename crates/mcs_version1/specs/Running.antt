@@ -14,7 +14,7 @@ stop_at_1 breaks n k s =
     else if k == n then Some Ended
     else None
 
--- how many cycles a run of n cycles takes: the least k at which it stops
+-- how many cycles a run of n cycles from the machine s takes: the least k at which it stops
 abbrev pub run_length_1 : List ℕ → ℕ → Machine → ℕ
 run_length_1 breaks n s =
     unwrap_or (find (λ k. is_some (stop_at_1 breaks n k (after_cycles k s))) (range_with_len 0 (n + 1))) n

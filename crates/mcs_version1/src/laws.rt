@@ -2,13 +2,13 @@
 ghost use Rattle.mcs_version1.specs.Boards.{SmallBoards};
 ghost use Rattle.mcs_version1.specs.Lift.{CommandsLift, FoldsLift, QueriesLift};
 
-/// What version 1 refuses, does and answers at a command is what the last version does at the lifted state.
+/// What version 1 refuses, does and answers at a command is what version 2 does at the lifted state.
 pub fn commands_lift()
     ensures each { CommandsLift }
     ensures folds { FoldsLift }
 {}
 
-/// What version 1 tells of a state is what the last version tells of the lifted state.
+/// What version 1 tells of a state is what version 2 tells of the lifted state.
 pub fn queries_lift()
     ensures { QueriesLift }
 {}

@@ -1,4 +1,4 @@
-//! Version 1 of a bench: its definitions, and that what it did is what the last version does.
+//! Version 1 of a bench: its definitions, and that what it did is what version 2 does.
 #![tactic(auto)]
 
 pub mod laws;

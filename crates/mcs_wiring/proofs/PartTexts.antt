@@ -14,8 +14,8 @@ use Rattle.std.proofs.lemmas.List.Concat.{flat_map-append}
 use Rattle.mcs_model.specs.declared.board.BoardParts.{BoardParts}
 use Rattle.mcs_model.specs.declared.limits.TheConstants.{ROMS, BANKS}
 use Rattle.mcs_model.specs.Boards.{masks_on}
-use Rattle.mcs_model.specs.TextLines.{as_line}
-use Rattle.mcs_wiring.specs.BoardText.{quoted_name, rom_lines, bank_lines, chain_lines, matrix_lines, lamp_lines, text_of, board_text}
+use Rattle.mcs_model.specs.TextLines.{as_line, text_of}
+use Rattle.mcs_wiring.specs.BoardText.{quoted_name, rom_lines, bank_lines, chain_lines, matrix_lines, lamp_lines, board_text}
 use Rattle.mcs_wiring.specs.Flaws.{roms_text, rams_text}
 use Rattle.mcs_model.proofs.ListLemmas.{range_more}
 

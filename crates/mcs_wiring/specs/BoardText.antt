@@ -10,7 +10,7 @@ use Rattle.mcs_model.specs.declared.board.KeyMatrix.{KeyMatrix}
 use Rattle.mcs_model.specs.declared.board.Line.{Line}
 use Rattle.mcs_model.specs.declared.limits.TheConstants.{ROMS, BANKS}
 use Rattle.mcs_model.specs.Boards.{masks_on}
-use Rattle.mcs_model.specs.TextLines.{as_line}
+use Rattle.mcs_model.specs.TextLines.{line_feed, text_of}
 use Rattle.mcs_wiring.specs.LineNames.{line_name, port_name}
 
 -- `key = value`
@@ -66,10 +66,6 @@ board_lines b =
     ++ (option_map_or matrix_lines b.keys []
     ++ flat_map lamp_lines b.lamps.items)))
 
--- lines as a text, each ended by LF
-abbrev pub text_of : List (List ℕ) → List ℕ
-text_of lines = flat_map as_line lines
-
 -- the text of a board
 abbrev pub board_text : BoardParts → List ℕ
 board_text b = text_of (board_lines b)
@@ -80,4 +76,4 @@ abbrev pub query_lines : BoardParts → List (List ℕ)
 query_lines b = codes "board" ∷ board_lines b
 
 abbrev pub query_text : BoardParts → List ℕ
-query_text b = join_with_byte 10 (query_lines b)
+query_text b = join_with_byte line_feed (query_lines b)

@@ -12,7 +12,8 @@ use Rattle.mcs_wiring.specs.declared.sections.Flaw.{Flaw}
 use Rattle.mcs_wiring.specs.declared.sections.Flaw.TheVariants.{UnknownKey, MissingKey, BadValue}
 use Rattle.mcs_wiring.specs.declared.sections.Section.{Section}
 use Rattle.mcs_wiring.specs.RefusalNumbers.{refusal_of}
-use Rattle.mcs_wiring.specs.BoardText.{rom_lines, bank_lines, text_of}
+use Rattle.mcs_wiring.specs.BoardText.{rom_lines, bank_lines}
+use Rattle.mcs_model.specs.TextLines.{text_of}
 use Rattle.mcs_wiring.specs.Wiring.{has_other_key, lacks_key, is_malformed, values_at, column_values, has_double_chip, parts_in}
 
 -- whether a value in the place of a section's table has a flaw

@@ -29,5 +29,5 @@ table_keys Lamp = codes "line" ∷ []
 abbrev pub is_board_key : List ℕ → Bool
 is_board_key key = list_any (λ s. bytes_eq key (section_key s)) sections
 
-abbrev pub is_section_key : Section → List ℕ → Bool
-is_section_key s key = list_any (bytes_eq key) (table_keys s)
+abbrev pub is_table_key : Section → List ℕ → Bool
+is_table_key s key = list_any (bytes_eq key) (table_keys s)

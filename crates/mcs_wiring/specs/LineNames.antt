@@ -1,4 +1,5 @@
--- How a board text names a line of the board, and the port of a ROM (our own choice).
+-- How a board text names a line of the board, and writes the masks of a ROM's port. (Our own
+-- choice.)
 use Rattle.std.specs.Prelude.{ℕ, ◌+◌, ◌*◌, ◌-◌, ◌&&◌, not, List, [], ◌∷◌, ◌++◌, length, Option, Some, None, nat_lt, ◌==◌, if◌then◌else◌, codes, take, drop}
 use Rattle.std.specs.List.{position_or_len, before_first, after_first}
 use Rattle.std.specs.Str.{bytes_eq}
@@ -38,6 +39,7 @@ parts_around_dot text =
     if nat_lt (position_or_len (λ b. b == 46) text) (length text)
     then Some (before_first (λ b. b == 46) text, after_first (λ b. b == 46) text) else None
 
+-- the line that stands after `rom`, after `ram` and after `chain`
 abbrev pub rom_line_named : List ℕ → Option Line
 rom_line_named text =
     parts_around_dot text >>= (λ (p : List ℕ × List ℕ).
@@ -78,7 +80,7 @@ line_name (Chain n i) = codes "chain" ++ (decimal n ++ (codes "." ++ decimal i))
 
 -- ---- ports: four characters, line 3 first
 
--- the masks of a port, line 0 first, that a text names
+-- the masks, line 0 first, that the text of a port writes
 abbrev pub masks_named : List ℕ → Option (List LineMask)
 masks_named (c3 ∷ c2 ∷ c1 ∷ c0 ∷ []) =
     mask_of c0 >>= (λ m0.
@@ -87,7 +89,7 @@ masks_named (c3 ∷ c2 ∷ c1 ∷ c0 ∷ []) =
     mask_of c3 >>= (λ m3. Some (m0 ∷ m1 ∷ m2 ∷ m3 ∷ [])))))
 masks_named text = None
 
--- the name of a port
+-- the text of a port with these masks (line 0 first): its four characters, line 3 first
 abbrev pub port_name : List LineMask → List ℕ
 port_name masks =
     mask_character (mask_at masks 3) ∷ mask_character (mask_at masks 2)

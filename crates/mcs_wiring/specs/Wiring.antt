@@ -17,7 +17,7 @@ use Rattle.mcs_wiring.specs.declared.fault.WiringFault.TheVariants.{BadToml, Unk
 use Rattle.mcs_wiring.specs.declared.sections.Numbered.{Numbered}
 use Rattle.mcs_wiring.specs.declared.sections.Section.{Section}
 use Rattle.mcs_wiring.specs.declared.sections.Section.TheVariants.{Rom, Ram, Chain, Keys, Lamp}
-use Rattle.mcs_wiring.specs.Format.{sections, section_key, table_keys, is_board_key, is_section_key}
+use Rattle.mcs_wiring.specs.Format.{sections, section_key, table_keys, is_board_key, is_table_key}
 use Rattle.mcs_wiring.specs.LineNames.{line_named, masks_named}
 use Rattle.mcs_model.specs.Options.{◌>>=◌}
 
@@ -54,7 +54,7 @@ any_section p ms = list_any (λ s. list_any (p s) (section_values s ms)) section
 -- ---- 21: a key that is not known, at the top or in a table that stands in its place
 
 abbrev pub has_other_key : Section → Data → Bool
-has_other_key s (table ms) = list_any (λ key. not (is_section_key s key)) (keys_of ms)
+has_other_key s (table ms) = list_any (λ key. not (is_table_key s key)) (keys_of ms)
 has_other_key s d = false
 
 abbrev pub has_unknown_key : Members → Bool
@@ -123,10 +123,11 @@ matrix_in ms =
       columns = record { items = filter_map line_in (values_at (codes "columns") ms) };
     }))))
 
--- no array, an empty one, or one with something that is no line
+-- whether a value is no line
 abbrev pub is_no_line : Data → Bool
 is_no_line d = is_none (line_in d)
 
+-- no array, an empty one, or one with something that is no line
 abbrev pub are_bad_columns : List Data → Bool
 are_bad_columns [] = true
 are_bad_columns (d ∷ ds) = list_any is_no_line (d ∷ ds)
@@ -141,7 +142,8 @@ lamp_in ms = line_at (codes "line") ms
 abbrev pub part_of : {A : Type 0} → (Members → Option A) → Data → Option A
 part_of read d = as_table d >>= read
 
--- whether a value in the place of a section's table is none of it
+-- whether a value in the place of a section's table does not tell its part: it is no table, or
+-- lacks a value, or has one of another type or form or out of its range
 abbrev pub is_malformed : Section → Data → Bool
 is_malformed Rom d = is_none (part_of rom_in d)
 is_malformed Ram d = is_none (part_of ram_in d)
@@ -150,7 +152,8 @@ is_malformed Keys d =
     is_none (part_of matrix_in d) || option_map_or has_bad_columns (as_table d) true
 is_malformed Lamp d = is_none (part_of lamp_in d)
 
--- whether no array stands where a section has one
+-- whether a value stands there that is no array; and whether one does at a section's key (not at
+-- `keys`, where no array is wanted). That nothing stands there is no fault
 abbrev pub is_no_array : Option Data → Bool
 is_no_array None = false
 is_no_array (Some d) = is_none (as_array d)

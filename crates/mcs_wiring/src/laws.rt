@@ -8,8 +8,8 @@ ghost use Rattle.mcs_nibble.specs.declared.lines.LineMask.{LineMask};
 ghost use Rattle.mcs_wiring.specs.BoardText.{board_text, query_text};
 ghost use Rattle.mcs_wiring.specs.LineNames.{line_name, line_named, port_name, masks_named};
 
-/// The name of each line is read back as that line, and the name of each port as its masks. So no
-/// two lines, and no two ports, have one name.
+/// The name of each line is read back as that line, and the text of each port as its masks. So no
+/// two lines have one name, and no two lists of four masks one text.
 pub fn names_are_read_back()
     ensures lines { (line : Line) → in_range line ≡ true → line_named (line_name line) ≡ Some line }
     ensures ports { (m0 m1 m2 m3 : LineMask)

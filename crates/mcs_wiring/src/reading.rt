@@ -6,7 +6,7 @@ ghost use Rattle.toml.specs.Errors.{IsBlank};
 ghost use Rattle.toml.specs.View.{view, table_view};
 ghost use Rattle.mcs_nibble.specs.Tables.{table_of};
 ghost use Rattle.mcs_model.specs.Boards.{board_fault_of};
-ghost use Rattle.mcs_wiring.specs.Format.{sections, section_key, table_keys, is_board_key, is_section_key};
+ghost use Rattle.mcs_wiring.specs.Format.{sections, section_key, table_keys, is_board_key, is_table_key};
 ghost use Rattle.mcs_wiring.specs.Wiring.{has_unknown_key, has_missing_key, has_malformed_value, has_too_many, has_double, has_other_key, lacks_one_of, lacks_key, is_malformed, lacks_array, values_at, section_values, any_section, column_values, keys_table, matrix_in, roms_of, rams_of, parts_in, part_at, board_of_table, board_of_text, ReadsBoard};
 ghost use Rattle.mcs_wiring.specs.Flaws.{has_flaw, judgement_of, board_within_limits, IsWithinLimits};
 
@@ -32,7 +32,7 @@ fn has_other_board_key(table: &Table) -> bool
 /// Whether a table has a key that the tables of a section have not.
 fn has_key_beside(section: Section, table: &Table) -> bool
     ensures { result
-        ≡ list_any (λ key. not (is_section_key section (string_bytes key))) (keys table.now) }
+        ≡ list_any (λ key. not (is_table_key section (string_bytes key))) (keys table.now) }
 {
     table.keys().any(|key| !section.has_key(key.as_str()))
 }

@@ -1,6 +1,6 @@
 //! The sections of a board text.
 ghost use Rattle.std.specs.Prelude.{◌≡◌};
-ghost use Rattle.mcs_wiring.specs.Format.{is_section_key, section_key, is_board_key};
+ghost use Rattle.mcs_wiring.specs.Format.{is_table_key, section_key, is_board_key};
 
 /// A section of a board text: a key at the top, and the tables that stand there.
 #[derive(Clone, Copy)]
@@ -69,7 +69,7 @@ impl Section {
 
     /// Whether its tables have a key.
     pub(crate) fn has_key(self, key: &str) -> bool
-        ensures { result ≡ is_section_key self key.now }
+        ensures { result ≡ is_table_key self key.now }
     {
         match self {
             Section::Rom => matches!(key, "chip" | "port"),

@@ -3,7 +3,8 @@ ghost use Rattle.std.specs.Prelude.{◌≡◌, ◌<◌, ◌∷◌, [], ◌++◌,
 ghost use Rattle.std.specs.List.{flat_map, join_by};
 ghost use Rattle.std.specs.Option.{option_map_or};
 ghost use Rattle.mcs_nibble.specs.Ports.{mask_at, mask_character};
-ghost use Rattle.mcs_wiring.specs.BoardText.{quoted_name, rom_lines, bank_lines, chain_lines, matrix_lines, lamp_lines, text_of, board_text};
+ghost use Rattle.mcs_wiring.specs.BoardText.{quoted_name, rom_lines, bank_lines, chain_lines, matrix_lines, lamp_lines, board_text};
+ghost use Rattle.mcs_model.specs.TextLines.{text_of};
 ghost use Rattle.mcs_wiring.specs.Flaws.{roms_text, rams_text};
 
 use mcs_model::board::{Board, ChainPart, KeyMatrix, Line};

@@ -20,6 +20,8 @@ fn port_of_mixed_lines(rt: HostRuntime) -> Result<(), Fail> {
     }
     rom.write_port(Nibble::MAX);
     equal(&rt, rom.port().get(), 10);
+    rom.set_byte(0x80, 0xA5);
+    equal(&rt, [rom.byte(0x80), rom.byte(0x81)], [0xA5, 0]);
     rom.clear_port();
     rom.set_port(Nibble::MAX);
     for (k, bit) in [(0, 0), (1, 1), (2, 0), (3, 1)] {

@@ -101,7 +101,7 @@ fn pokes_into_each_place(rt: HostRuntime) {
 }
 
 #[test]
-fn a_load_has_a_map_of_its_addresses(rt: HostRuntime) {
+fn a_load_has_marks_of_its_addresses(rt: HostRuntime) {
     let mut want = [0; 516];
     want[0] = 2;
     want[1] = 0x01;

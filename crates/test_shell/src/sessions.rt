@@ -1,14 +1,11 @@
 //! Sessions on disks in memory, and what they answer.
-use crate::checks::equal;
 use mcs_disk::{Disk, MemDisk};
-use mcs_fixtures::streams::joined;
 use mcs_journal::FILE_SIZE;
 use mcs_session::session::Session;
 use mcs_shell::ends::ShellEnd;
 use mcs_shell::shell::run_shell;
 use std::alloc::Global;
 use std::io::Read;
-use std::process::Abort;
 use std::test::Fail;
 
 pub(crate) const SCRIPT: &[u8] = b"poke r5 9\nseq\nregs\n";
@@ -42,19 +39,4 @@ pub(crate) fn run<R: Read + Drop>(
 ) -> Result<(ShellEnd, Vec<u8>), Fail> {
     let mut session = new_session(alloc)?;
     Ok(serve(alloc, &mut reader, &mut session))
-}
-
-/// A new session answers the pieces of a script with these, and its shell comes to the end of input.
-pub(crate) fn expect_answers(
-    rt: &impl Abort,
-    alloc: Global,
-    script: &[&[u8]],
-    answers: &[&[u8]],
-) -> Result<(), Fail> {
-    let script = joined(alloc, script)?;
-    let wanted = joined(alloc, answers)?;
-    let (end, told) = run(alloc, script.as_slice())?;
-    equal(rt, end, ShellEnd::End);
-    equal(rt, told.as_slice(), wanted.as_slice());
-    Ok(())
 }

@@ -104,7 +104,7 @@ export class Answering {
    * @param {number} reference
    * @param {string} name
    */
-  placeOf(reference, name) {
+  placeOfVariable(reference, name) {
     const found = (this.scopes.variables(reference) || []).find((each) => each.name === name);
     return found ? found.place : "";
   }

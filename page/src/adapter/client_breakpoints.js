@@ -3,7 +3,7 @@
 
 import { readBoard } from "../bench/answers.js";
 import { hex } from "../bench/numbers.js";
-import { BreakpointList, MOST_BREAKPOINTS, MOST_ON, placeOfAddress, placeOfLine } from "../debug/breakpoints.js";
+import { BreakpointList, MOST_BREAKPOINTS, MOST_ON, instructionOfAddress, instructionOfLine } from "../debug/breakpoints.js";
 import { placeOf } from "../bench/places.js";
 import { listOf, needNumber, needText, textOrNone, wordsOf } from "./protocol.js";
 import * as say from "../words/adapter.js";
@@ -77,7 +77,7 @@ export class ClientBreakpoints {
   setLines(args, lineOf) {
     const { map } = this.session;
     return this.set("lines", listOf(args, "breakpoints").map((given) => {
-      const { line, address, words } = placeOfLine(lineOf(needNumber(given, "line")), map);
+      const { line, address, words } = instructionOfLine(lineOf(needNumber(given, "line")), map);
       return this.make({ ...partsOf(given), line, address, ...(address < 0 ? { words } : {}) });
     }));
   }
@@ -103,7 +103,7 @@ export class ClientBreakpoints {
     return this.set("addresses", listOf(args, "breakpoints").map((given) => {
       const wanted = addressOf(needText(given, "instructionReference")) + needNumber(given, "offset", 0);
       const isThere = wanted >= 0 && wanted <= 4095;
-      const { line, address } = isThere ? placeOfAddress(wanted, map) : { line: 0, address: -1 };
+      const { line, address } = isThere ? instructionOfAddress(wanted, map) : { line: 0, address: -1 };
       return this.make({ ...partsOf(given), line, address, ...(isThere ? {} : { words: say.ADDRESSES_ARE }) });
     }));
   }
@@ -180,7 +180,7 @@ export class ClientBreakpoints {
   async moveWithProgram() {
     const { map } = this.session;
     const moved = this.wanted.lines.filter((each) => {
-      const { line, address, words } = placeOfLine(Math.max(1, each.line), map);
+      const { line, address, words } = instructionOfLine(Math.max(1, each.line), map);
       const isOther = line !== each.line || address !== each.address;
       Object.assign(each, { line, address, words: address < 0 ? words : each.words });
       return isOther;

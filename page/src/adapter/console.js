@@ -108,9 +108,9 @@ export class Console {
   queue(keys) {
     const { queue } = this.session.debugger.session;
     for (const { press } of keys) {
-      const place = press.startsWith("press ") ? press.slice("press ".length) : press;
-      queue.press(place);
-      queue.release(place);
+      const key = press.startsWith("press ") ? press.slice("press ".length) : press;
+      queue.press(key);
+      queue.release(key);
     }
     return told(this.machine.isMoving ? "" : say.keysWait(keys.length));
   }

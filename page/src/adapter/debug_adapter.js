@@ -6,7 +6,7 @@
 
 import { hex } from "../bench/numbers.js";
 import { Face } from "../board/face.js";
-import { placeOfLine } from "../debug/breakpoints.js";
+import { instructionOfLine } from "../debug/breakpoints.js";
 import { KINDS } from "../words/debug.js";
 import { instructionsOf } from "../help/manual.js";
 import { Words } from "../bench/words.js";
@@ -275,7 +275,7 @@ export class DebugAdapter {
     const { answering, launched } = this.there;
     const name = needText(args, "name");
     const reference = needNumber(args, "variablesReference", 0);
-    const found = reference > 0 ? answering.placeOf(reference, name) : name;
+    const found = reference > 0 ? answering.placeOfVariable(reference, name) : name;
     const data = dataOf(found, launched.session);
     if (!data) return { dataId: null, description: say.noCharacter(name) };
     return { ...data, accessTypes: ["write"] };
@@ -290,7 +290,7 @@ export class DebugAdapter {
     const lines = [];
     for (let line = from; line <= to; line++) {
       const own = line + 1 - this.firstLine;
-      if (placeOfLine(own, session.map).line === own && session.map.addressOf(own) !== undefined) lines.push({ line });
+      if (instructionOfLine(own, session.map).line === own && session.map.addressOf(own) !== undefined) lines.push({ line });
     }
     return { breakpoints: lines };
   }
@@ -342,7 +342,7 @@ export class DebugAdapter {
   gotoTargets(args) {
     const { session } = this.there.launched;
     if (!this.there.answering.isProgram(fieldOf(args, "source"))) return { targets: [] };
-    const found = placeOfLine(needNumber(args, "line") + 1 - this.firstLine, session.map);
+    const found = instructionOfLine(needNumber(args, "line") + 1 - this.firstLine, session.map);
     if (found.address < 0) return { targets: [] };
     const label = session.map.nameOf(found.address) || hex(found.address, 3);
     const instructionPointerReference = referenceOf(found.address);
@@ -455,8 +455,8 @@ export class DebugAdapter {
   /** @param {any} args a key by its place, as a view of the board moves it */
   async changeKey(args) {
     const { machine, console: lines } = this.there;
-    const place = needText(args, "place");
-    await machine.quietly(() => changeKey(machine, lines, place, fieldOf(args, "isDown") === true));
+    const key = needText(args, "place");
+    await machine.quietly(() => changeKey(machine, lines, key, fieldOf(args, "isDown") === true));
     if (!machine.isMoving) await machine.stand();
     return {};
   }
@@ -476,7 +476,7 @@ export class DebugAdapter {
    * @returns {Ended}
    */
   standing(reason) {
-    return { reason, words: say.standsAt(this.there.launched.session.placeWords), id: 0 };
+    return { reason, words: say.standsAt(this.there.launched.session.counterWords), id: 0 };
   }
 
   /** @param {Ended} ended */

@@ -118,7 +118,7 @@ export class Machine {
     } catch (thrown) {
       const isPause = thrown instanceof Cancelled;
       if (!isPause) this.calls.output(`${wordsOf(thrown)}\n`, "stderr");
-      const words = isPause ? say.stoppedAt(this.session.placeWords) : wordsOf(thrown);
+      const words = isPause ? say.stoppedAt(this.session.counterWords) : wordsOf(thrown);
       ended = { reason: isPause ? "pause" : "exception", words, id: 0 };
     }
     this.isOpen = () => false;

@@ -127,9 +127,9 @@ function lamps({ session, face, board }) {
 /** @param {Seen} seen */
 function keys({ standing, face, board }) {
   const down = new Set(standing.ports.keys);
-  return keysOf(board, face).filter(({ legend }) => legend !== "").map(({ place, legend }) => {
-    const isDown = place.startsWith("test ") ? standing.registers.test === place[5] : down.has(place.replace(" ", "."));
-    return { ...variable(legend, isDown ? "down" : "up"), place: `key ${place}` };
+  return keysOf(board, face).filter(({ legend }) => legend !== "").map(({ key, legend }) => {
+    const isDown = key.startsWith("test ") ? standing.registers.test === key[5] : down.has(key.replace(" ", "."));
+    return { ...variable(legend, isDown ? "down" : "up"), place: `key ${key}` };
   });
 }
 

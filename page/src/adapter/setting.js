@@ -41,7 +41,7 @@ function linesFor(place, text, session) {
   if (place.startsWith("key ")) {
     const word = text.trim().toLowerCase();
     if (word !== "down" && word !== "up") throw new AdapterError(say.KEY_IS);
-    return `${lineOfChange({ place: place.slice(4), word: word === "down" ? "press" : "release" })}\n`;
+    return `${lineOfChange({ key: place.slice(4), word: word === "down" ? "press" : "release" })}\n`;
   }
   const value = valueOf(text, session);
   if (value > mostOf(place)) throw new AdapterError(say.holds(place, mostOf(place)));

@@ -15,7 +15,7 @@ import * as say from "../words/adapter.js";
  * @typedef {{ board?: string[], boardText?: string, lamps?: string, keys?: string[], test?: string, isRunning?: boolean }} ShownNews
  */
 
-const PLACE = /^(\d{1,3} \d{1,3}|test [01])$/;
+const KEY = /^(\d{1,3} \d{1,3}|test [01])$/;
 
 export class ShownBoard {
   /** @param {Machine} machine */
@@ -53,12 +53,12 @@ export class ShownBoard {
  * A key goes down, or up: at once where time stands, else when its turn comes.
  * @param {Machine} machine
  * @param {Console} lines
- * @param {string} place `0 2`, or `test 0`, the level of what is at TEST while it is down
+ * @param {string} key `0 2`, or `test 0`, the level of what is at TEST while it is down
  * @param {boolean} isDown
  */
-export async function changeKey(machine, lines, place, isDown) {
-  if (!PLACE.test(place)) fail(say.KEY_PLACE);
+export async function changeKey(machine, lines, key, isDown) {
+  if (!KEY.test(key)) fail(say.KEY_PLACE);
   const word = isDown ? "press" : "release";
-  if (machine.isMoving) machine.session.debugger.session.queue[word](place);
-  else await lines.served(`${lineOfChange({ word, place })}\n`);
+  if (machine.isMoving) machine.session.debugger.session.queue[word](key);
+  else await lines.served(`${lineOfChange({ word, key })}\n`);
 }

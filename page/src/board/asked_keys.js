@@ -3,7 +3,7 @@
 
 /**
  * @typedef {import("../worker/key_queue.js").Change} Change
- * @typedef {{ place: string, word: "press" | "release" | "forget" }} Asked
+ * @typedef {{ key: string, word: "press" | "release" | "forget" }} Asked
  */
 
 export class AskedKeys {
@@ -27,13 +27,13 @@ export class AskedKeys {
 
   /**
    * Whether a key will be down.
-   * @param {string} place
+   * @param {string} key
    * @param {boolean} isDown whether the bench tells that it is
    */
-  willBeDown(place, isDown) {
+  willBeDown(key, isDown) {
     /** @type {Asked[]} */
     const all = [...this.waiting, ...this.sent];
-    const last = all.filter((each) => each.place === place).pop();
+    const last = all.filter((each) => each.key === key).pop();
     return last && last.word !== "forget" ? last.word === "press" : isDown;
   }
 }

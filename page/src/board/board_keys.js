@@ -6,9 +6,9 @@ import * as say from "../words/board.js";
  * @typedef {import("../bench/answers.js").Board} Board
  * @typedef {import("./face.js").Face} Face
  *
- * A key of the board, or what is at its TEST pin, whose place is `test 0`, the level while it is pressed. `letter` is the character that
- * is typed for it, "" for none.
- * @typedef {{ place: string, legend: string, words: string, isNamed: boolean, isSwitch: boolean, letter: string }} BoardKey
+ * A key of the board, `key` as lines have it (`0 2`), or what is at its TEST pin, `test 0`, the level while it is pressed. `letter` is the
+ * character that is typed for it, "" for none.
+ * @typedef {{ key: string, legend: string, words: string, isNamed: boolean, isSwitch: boolean, letter: string }} BoardKey
  */
 
 const LETTERS = "1234567890qwertyuiopasdfghjklzxcvbnm";
@@ -39,12 +39,12 @@ export function keysOf(board, face) {
   };
   for (let row = 0; row < board.rows; row++) {
     for (let column = 0; column < board.columns; column++) {
-      const place = `${row} ${column}`;
-      const named = face.keys.get(place);
+      const key = `${row} ${column}`;
+      const named = face.keys.get(key);
       const legend = named ? named.text.replace(/_/g, " ") : `${row}.${column}`;
       const words = say.keyPlace(legend, row, column);
       const letter = legend === "" ? "" : take(legend, named ? named.text : "");
-      keys.push({ place, legend, words, isNamed: Boolean(named && legend), isSwitch: false, letter });
+      keys.push({ key, legend, words, isNamed: Boolean(named && legend), isSwitch: false, letter });
     }
   }
   return face.test ? [...keys, keyOfTest(face.test, take)] : keys;
@@ -57,7 +57,7 @@ export function keysOf(board, face) {
 function keyOfTest({ kind, name, level }, take) {
   const legend = name.replace(/_/g, " ");
   const words = say.keyAtTest(kind, legend);
-  return { place: `test ${level}`, legend, words, isNamed: true, isSwitch: kind === "switch", letter: take(legend, name) };
+  return { key: `test ${level}`, legend, words, isNamed: true, isSwitch: kind === "switch", letter: take(legend, name) };
 }
 
 /**

@@ -106,8 +106,8 @@ export function missingOf(face, board) {
   const add = (kind, line, words, ...about) => {
     faults.push({ line, words: said(words, ...about), isRefused: isRefused(kind) });
   };
-  for (const [place, { text, line }] of face.keys) {
-    const [row, column] = place.split(" ").map(Number);
+  for (const [key, { text, line }] of face.keys) {
+    const [row, column] = key.split(" ").map(Number);
     if (text === "" || (row < board.rows && column < board.columns)) continue;
     add("row", line, board.rows ? "key not there" : "no keys", text, row, column, board.rows, board.columns);
   }

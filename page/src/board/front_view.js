@@ -139,20 +139,21 @@ export class FrontView {
   }
 
   /**
-   * @param {BoardKey} key
+   * @param {BoardKey} boardKey
    * @returns {ShownKey}
    */
-  shownKey(key) {
-    const node = element("button", { type: "button", className: "key", disabled: key.legend === "" }, element("b", {}, key.legend));
-    node.classList.toggle("unnamed", !key.isNamed);
-    node.classList.toggle("long", key.legend.length > SHORT_LEGEND);
-    node.title = key.legend.length > SHORT_LEGEND ? key.legend : "";
-    node.classList.toggle("at-test", key.place.startsWith("test"));
-    node.classList.toggle("switch", key.isSwitch);
-    if (key.letter && key.letter !== key.legend) node.append(element("kbd", {}, key.letter));
-    node.setAttribute("aria-label", key.words);
-    this.listen(node, key);
-    return { ...key, button: node, down: pressedSwitch(node) };
+  shownKey(boardKey) {
+    const node = element("button", { type: "button", className: "key", disabled: boardKey.legend === "" },
+      element("b", {}, boardKey.legend));
+    node.classList.toggle("unnamed", !boardKey.isNamed);
+    node.classList.toggle("long", boardKey.legend.length > SHORT_LEGEND);
+    node.title = boardKey.legend.length > SHORT_LEGEND ? boardKey.legend : "";
+    node.classList.toggle("at-test", boardKey.key.startsWith("test"));
+    node.classList.toggle("switch", boardKey.isSwitch);
+    if (boardKey.letter && boardKey.letter !== boardKey.legend) node.append(element("kbd", {}, boardKey.letter));
+    node.setAttribute("aria-label", boardKey.words);
+    this.listen(node, boardKey);
+    return { ...boardKey, button: node, down: pressedSwitch(node) };
   }
 
   /** @param {string} marks a `*` for each lamp that is lit at this instant */
@@ -186,19 +187,19 @@ export class FrontView {
    */
   showKeys(down) {
     this.down = new Set(down);
-    for (const key of this.keys) key.down.set(this.isDown(key.place));
+    for (const shown of this.keys) shown.down.set(this.isDown(shown.key));
   }
 
   /** @param {string} level of the TEST pin */
   showTest(level) {
     if (this.level === level) return;
     this.level = level;
-    for (const key of this.keys) key.down.set(this.isDown(key.place));
+    for (const shown of this.keys) shown.down.set(this.isDown(shown.key));
   }
 
-  /** @param {string} place */
-  isDown(place) {
-    if (place.startsWith("test ")) return place === `test ${this.level}`;
-    return this.down.has(place.replace(" ", "."));
+  /** @param {string} key */
+  isDown(key) {
+    if (key.startsWith("test ")) return key === `test ${this.level}`;
+    return this.down.has(key.replace(" ", "."));
   }
 }

@@ -5,8 +5,8 @@
  *
  * What it calls: whether time runs; whether the bench tells a key to be down; changes of keys that wait for their time; and a change at
  * once, while time stands still.
- * @typedef {{ isRunning: () => boolean, isDown: (place: string) => boolean, press: (place: string) => void,
- *   release: (place: string) => void, change: (word: "press" | "release", place: string) => void,
+ * @typedef {{ isRunning: () => boolean, isDown: (key: string) => boolean, press: (key: string) => void,
+ *   release: (key: string) => void, change: (word: "press" | "release", key: string) => void,
  *   meant: (event: KeyboardEvent) => BoardKey | undefined }} PressingCalls
  */
 
@@ -39,37 +39,37 @@ export class Pressing {
 
   /**
    * @param {HTMLButtonElement} button
-   * @param {BoardKey} key
+   * @param {BoardKey} boardKey
    */
-  listen(button, key) {
-    const { place } = key;
+  listen(button, boardKey) {
+    const { key } = boardKey;
     let lifted = -Infinity;
     button.addEventListener("pointerdown", (event) => {
       if (event.button !== 0) return;
       event.preventDefault();
       button.setPointerCapture(event.pointerId);
-      if (event.pointerType === "touch") this.rest(event.pointerId, key);
-      else this.down(key, event.shiftKey);
+      if (event.pointerType === "touch") this.rest(event.pointerId, boardKey);
+      else this.down(boardKey, event.shiftKey);
     });
     button.addEventListener("pointerup", (event) => {
       lifted = event.timeStamp;
       // A tap was shorter than the time that tells it from a swipe.
-      if (this.lift(event.pointerId)) this.down(key, false);
-      this.up(place);
+      if (this.lift(event.pointerId)) this.down(boardKey, false);
+      this.up(key);
     });
     button.addEventListener("pointercancel", (event) => {
-      if (!this.lift(event.pointerId)) this.takeBack(place);
+      if (!this.lift(event.pointerId)) this.takeBack(key);
     });
-    button.addEventListener("lostpointercapture", () => this.up(place));
+    button.addEventListener("lostpointercapture", () => this.up(key));
     button.addEventListener("contextmenu", (event) => event.preventDefault());
-    button.addEventListener("keydown", (event) => this.activate(event, () => this.down(key, event.shiftKey)));
-    button.addEventListener("keyup", (event) => this.activate(event, () => this.up(place)));
+    button.addEventListener("keydown", (event) => this.activate(event, () => this.down(boardKey, event.shiftKey)));
+    button.addEventListener("keyup", (event) => this.activate(event, () => this.up(key)));
     // A click that is neither, as a screen reader makes it, is a short press.
     button.addEventListener("click", (event) => {
       if (event.detail !== 0 || event.timeStamp - lifted < TAP_TIME) return;
       if (event instanceof PointerEvent && event.pointerId > 0) return;
-      this.down(key, false);
-      this.up(place);
+      this.down(boardKey, false);
+      this.up(key);
     });
   }
 
@@ -87,12 +87,12 @@ export class Pressing {
   /**
    * A finger rests on a key: it is pressed in a moment, unless the browser takes the finger for a swipe.
    * @param {number} pointer
-   * @param {BoardKey} key
+   * @param {BoardKey} boardKey
    */
-  rest(pointer, key) {
+  rest(pointer, boardKey) {
     this.resting.set(pointer, window.setTimeout(() => {
       this.resting.delete(pointer);
-      this.down(key, false);
+      this.down(boardKey, false);
     }, SWIPE_TIME));
   }
 
@@ -107,49 +107,49 @@ export class Pressing {
 
   /**
    * A switch stays as a press puts it, and so does a key that is pressed with Shift.
-   * @param {Pick<BoardKey, "place" | "isSwitch">} key
+   * @param {Pick<BoardKey, "key" | "isSwitch">} boardKey
    * @param {boolean} hasShift
    */
-  down({ place, isSwitch }, hasShift) {
-    if (this.held.has(place)) return;
-    const isDown = this.calls.isDown(place);
+  down({ key, isSwitch }, hasShift) {
+    if (this.held.has(key)) return;
+    const isDown = this.calls.isDown(key);
     const { change, press, release } = this.calls;
     if (!this.calls.isRunning()) {
-      change(isDown ? "release" : "press", place);
-      this.held.set(place, { stays: true, takeBack: () => change(isDown ? "press" : "release", place) });
+      change(isDown ? "release" : "press", key);
+      this.held.set(key, { stays: true, takeBack: () => change(isDown ? "press" : "release", key) });
     } else if (isDown) {
       // It stayed down; this press lets it go.
-      release(place);
-      this.held.set(place, { stays: true, takeBack: () => press(place) });
+      release(key);
+      this.held.set(key, { stays: true, takeBack: () => press(key) });
     } else {
-      press(place);
-      this.held.set(place, { stays: hasShift || isSwitch, takeBack: () => release(place) });
+      press(key);
+      this.held.set(key, { stays: hasShift || isSwitch, takeBack: () => release(key) });
     }
   }
 
   /**
    * The finger was swiping: the key is as it was before.
-   * @param {string} place
+   * @param {string} key
    */
-  takeBack(place) {
-    const held = this.held.get(place);
-    this.held.delete(place);
+  takeBack(key) {
+    const held = this.held.get(key);
+    this.held.delete(key);
     if (held) held.takeBack();
   }
 
   /**
    * The finger goes. Where time stands still meanwhile, the key goes up when it runs on.
-   * @param {string} place
+   * @param {string} key
    */
-  up(place) {
-    const held = this.held.get(place);
+  up(key) {
+    const held = this.held.get(key);
     if (held === undefined) return;
-    this.held.delete(place);
-    if (!held.stays) this.calls.release(place);
+    this.held.delete(key);
+    if (!held.stays) this.calls.release(key);
   }
 
   allUp() {
-    for (const place of [...this.held.keys()]) this.up(place);
+    for (const key of [...this.held.keys()]) this.up(key);
   }
 
   /** The keys of the keyboard press the keys of the board, where nothing else on the page wants them. */
@@ -157,17 +157,17 @@ export class Pressing {
     /** @type {Map<string, string>} */
     const typedAt = new Map();
     addEventListener("keydown", (event) => {
-      const key = this.calls.meant(event);
-      if (!key) return;
+      const boardKey = this.calls.meant(event);
+      if (!boardKey) return;
       event.preventDefault();
       if (event.repeat || typedAt.has(event.code)) return;
-      typedAt.set(event.code, key.place);
-      this.down(key, false);
+      typedAt.set(event.code, boardKey.key);
+      this.down(boardKey, false);
     });
     addEventListener("keyup", (event) => {
-      const place = typedAt.get(event.code);
+      const key = typedAt.get(event.code);
       typedAt.delete(event.code);
-      if (place !== undefined) this.up(place);
+      if (key !== undefined) this.up(key);
     });
     // What goes up elsewhere is not told to this page.
     addEventListener("blur", () => {

@@ -2,11 +2,11 @@
 // that part, also where parts were dragged, so that it has to go back. Nothing here draws.
 
 /**
- * @typedef {import("./wiring.js").Place} Place
+ * @typedef {import("./wiring.js").Point} Point
  * @typedef {import("./wiring.js").Part} Part
  * @typedef {Pick<Part, "x" | "y" | "width" | "height">} Box
- * @typedef {{ from: Place, to: Place }} Ends
- * @typedef {[Place, Place, Place, Place]} Curve from a place to the last one, as a cubic of Bezier has them
+ * @typedef {{ from: Point, to: Point }} Ends
+ * @typedef {[Point, Point, Point, Point]} Curve from a point to the last one, as a cubic of Bezier has them
  */
 
 /** How far a wire between parts of one column goes out, and how far from a part one turns that goes round it. */
@@ -17,7 +17,7 @@ const BEND = 30;
 /** How far from a part a wire runs along it, and how far apart wires are that run there. */
 const LANE = 5;
 const LANES = [0, -2, 2, -4, 4];
-/** So many places of a curve are looked at. */
+/** So many points of a curve are looked at. */
 const LOOKS = 24;
 
 /**
@@ -32,8 +32,8 @@ function straight({ from, to }) {
 
 /**
  * A curve that is level at both ends.
- * @param {Place} from
- * @param {Place} to
+ * @param {Point} from
+ * @param {Point} to
  * @returns {Curve}
  */
 function level(from, to) {
@@ -42,21 +42,21 @@ function level(from, to) {
 }
 
 /**
- * A place of a curve.
+ * A point of a curve.
  * @param {Curve} curve
  * @param {number} part of it, 0 to 1
- * @returns {Place}
+ * @returns {Point}
  */
-export function placeOf(curve, part) {
+export function pointOf(curve, part) {
   const rest = 1 - part;
   const weights = [rest ** 3, 3 * rest ** 2 * part, 3 * rest * part ** 2, part ** 3];
-  /** @type {(of: (place: Place) => number) => number} */
-  const sum = (of) => curve.reduce((all, place, at) => all + weights[at] * of(place), 0);
+  /** @type {(of: (point: Point) => number) => number} */
+  const sum = (of) => curve.reduce((all, point, at) => all + weights[at] * of(point), 0);
   return { x: sum(({ x }) => x), y: sum(({ y }) => y) };
 }
 
 /**
- * @param {Place} place
+ * @param {Point} point
  * @param {Box} box
  */
 function isIn({ x, y }, box) {
@@ -69,7 +69,7 @@ function isIn({ x, y }, box) {
  * @param {Box} box
  */
 export function isBelow(curve, box) {
-  return Array.from({ length: LOOKS - 1 }, (_, at) => placeOf(curve, (at + 1) / LOOKS)).some((place) => isIn(place, box));
+  return Array.from({ length: LOOKS - 1 }, (_, at) => pointOf(curve, (at + 1) / LOOKS)).some((point) => isIn(point, box));
 }
 
 /**
@@ -98,7 +98,7 @@ function laneBeside({ from, to }, between) {
 }
 
 /**
- * The curves of a wire that turns at two places, and runs level between them.
+ * The curves of a wire that turns at two points, and runs level between them.
  * @param {Ends} ends
  * @param {number} y
  * @param {number} left
@@ -157,7 +157,7 @@ export function routeOf(ends, boxes, number) {
  * @param {Curve[]} curves
  */
 export function pathText(curves) {
-  /** @type {(place: Place) => string} */
+  /** @type {(point: Point) => string} */
   const told = ({ x, y }) => `${x} ${y}`;
-  return `M${told(curves[0][0])}${curves.map(([, ...places]) => `C${places.map(told).join(" ")}`).join("")}`;
+  return `M${told(curves[0][0])}${curves.map(([, ...points]) => `C${points.map(told).join(" ")}`).join("")}`;
 }

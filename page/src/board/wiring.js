@@ -27,10 +27,10 @@ import * as say from "../words/board.js";
  * the TEST pin, and the buzzer at a line of the board.
  * @typedef {{ names: string[], colours: string[], test: TestPin | null, buzzer: Buzzer | null }} Appearance
  *
- * @typedef {{ x: number, y: number }} Place
+ * @typedef {{ x: number, y: number }} Point
  *
  * Where parts stand that were dragged, by their names.
- * @typedef {Map<string, Place>} Moved
+ * @typedef {Map<string, Point>} Moved
  */
 
 export const PIN_STEP = 18;
@@ -90,7 +90,7 @@ class Uses {
     /** @type {Map<string, string[]>} */
     this.words = new Map();
     /** @type {Map<string, number>} at which of all uses a line is used first */
-    this.places = new Map();
+    this.order = new Map();
     board.chains.forEach(({ clock, data }, at) => {
       this.add(clock, say.clocksChain(at));
       this.add(data, say.isData(at));
@@ -111,7 +111,7 @@ class Uses {
    * @param {string} words
    */
   add(line, words) {
-    if (!this.words.has(line)) this.places.set(line, this.places.size);
+    if (!this.words.has(line)) this.order.set(line, this.order.size);
     this.words.set(line, [...(this.words.get(line) || []), words]);
   }
 
@@ -119,8 +119,8 @@ class Uses {
    * How far down a line is used: rows come first, then columns, then lamps.
    * @param {string} line
    */
-  placeOf(line) {
-    return this.places.get(line) || 0;
+  orderOf(line) {
+    return this.order.get(line) || 0;
   }
 
   /** @param {string} line */
@@ -207,7 +207,7 @@ function drawRam(column, bank, chip, uses) {
 function drawChain(column, { clock, data, chips }, at, uses) {
   const bits = Array.from({ length: BITS * chips }, (_, bit) => (
     { id: `chain${at}.${bit}`, line: `chain${at}.${bit}`, label: `bit ${bit}` }));
-  const used = bits.filter(({ line }) => uses.of(line).length > 0).sort((one, other) => uses.placeOf(one.line) - uses.placeOf(other.line));
+  const used = bits.filter(({ line }) => uses.of(line).length > 0).sort((one, other) => uses.orderOf(one.line) - uses.orderOf(other.line));
   const free = bits.filter(({ line }) => uses.of(line).length === 0).slice(0, FREE_BITS);
   const says = [say.clockIs(clock), say.dataIs(data), ...used.map(({ line, label }) => uses.say(label, line))];
   const inputs = [{ id: `clock ${at}`, line: clock, label: "clock" }, { id: `data ${at}`, line: data, label: "data" }];
@@ -290,10 +290,10 @@ function columnsOf(areUsed) {
  */
 function moveParts(parts, moved) {
   for (const part of parts) {
-    const place = moved.get(part.id);
-    if (!place) continue;
-    const [right, down] = [place.x - part.x, place.y - part.y];
-    Object.assign(part, place);
+    const point = moved.get(part.id);
+    if (!point) continue;
+    const [right, down] = [point.x - part.x, point.y - part.y];
+    Object.assign(part, point);
     for (const pin of part.pins) Object.assign(pin, { x: pin.x + right, y: pin.y + down });
   }
 }

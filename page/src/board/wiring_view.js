@@ -246,7 +246,7 @@ export class WiringView {
   /**
    * The wire that is being drawn, from a pin to where the pointer is.
    * @param {string} name of the pin, "" for no wire
-   * @param {import("./wiring.js").Place | null} to
+   * @param {import("./wiring.js").Point | null} to
    */
   drawPencil(name, to) {
     const pin = [...this.parts.values()].flatMap(({ pins }) => pins).find(({ id }) => id === name);
@@ -254,10 +254,10 @@ export class WiringView {
   }
 
   /**
-   * A place on the screen as one of the picture.
+   * A point on the screen as one of the picture.
    * @param {{ clientX: number, clientY: number }} event
    */
-  placeOf({ clientX, clientY }) {
+  pointOf({ clientX, clientY }) {
     const picture = this.root.querySelector("svg");
     const matrix = picture && picture.getScreenCTM();
     if (!matrix) return { x: 0, y: 0 };

@@ -9,7 +9,7 @@ import { LARGEST_PIECE, watcherOf } from "./goals.js";
 
 /**
  * @typedef {import("../worker/engine.js").Engine} Engine
- * @typedef {import("../worker/key_queue.js").Step} Step
+ * @typedef {import("../worker/key_queue.js").PlannedLine} PlannedLine
  * @typedef {import("./goals.js").Found} Found
  * @typedef {import("./goals.js").Goal} Goal
  * @typedef {import("./goals.js").Watcher} Watcher
@@ -72,27 +72,27 @@ export async function seek(engine, file, goal, goesOn, most, codes) {
 }
 
 /**
- * How many cycles the run of a step would do, 0 for a change of a key.
- * @param {Step} step
+ * How many cycles the run of a line would do, 0 for a change of a key.
+ * @param {PlannedLine} planned
  */
-export function cyclesOfStep({ line, change }) {
+export function cyclesOfLine({ line, change }) {
   return change ? 0 : Number(line.slice("run ".length));
 }
 
 /**
- * After how many cycles of the steps that come next a goal is reached; -1 where it is not, or where something else stops them before.
+ * After how many cycles of the lines that come next a goal is reached; -1 where it is not, or where something else stops them before.
  * @param {Engine} engine
  * @param {Uint8Array} file is left as it is
- * @param {Step[]} steps
+ * @param {PlannedLine[]} planned
  * @param {Watcher} watcher has seen all runs up to here
  */
-export function cyclesToGoal(engine, file, steps, watcher) {
-  const lines = steps.map((step) => (
-    step.change ? `${step.line}\n` : `${watcher.before(cyclesOfStep(step))}${step.line}\n${watcher.after}`));
+export function cyclesToGoal(engine, file, planned, watcher) {
+  const lines = planned.map((each) => (
+    each.change ? `${each.line}\n` : `${watcher.before(cyclesOfLine(each))}${each.line}\n${watcher.after}`));
   const answers = new Answers(engine.ask(file, watcher.first + lines.join("")).answers);
   if (watcher.first) answers.take();
   let done = 0;
-  for (const { change } of steps) {
+  for (const { change } of planned) {
     if (change) {
       answers.take();
       continue;
@@ -106,19 +106,19 @@ export function cyclesToGoal(engine, file, steps, watcher) {
 }
 
 /**
- * The steps up to so many cycles.
- * @param {Step[]} steps
+ * The lines up to so many cycles.
+ * @param {PlannedLine[]} planned
  * @param {number} cycles
- * @returns {Step[]}
+ * @returns {PlannedLine[]}
  */
-export function stepsUpTo(steps, cycles) {
-  /** @type {Step[]} */
+export function linesUpTo(planned, cycles) {
+  /** @type {PlannedLine[]} */
   const cut = [];
   let left = cycles;
-  for (const step of steps) {
-    const run = cyclesOfStep(step);
+  for (const each of planned) {
+    const run = cyclesOfLine(each);
     if (left === 0) break;
-    cut.push(run > left ? { line: `run ${left}`, change: null } : step);
+    cut.push(run > left ? { line: `run ${left}`, change: null } : each);
     left -= Math.min(run, left);
   }
   return cut;

@@ -2,12 +2,12 @@
 // found ahead, on a copy that has them as breakpoints, and that tells at each arrival what stands at the places they ask for.
 
 import { Answers, valuesOf } from "../worker/tracing.js";
-import { cyclesOfStep } from "./ahead.js";
+import { cyclesOfLine } from "./ahead.js";
 import { MOST_PLACES } from "./conditions.js";
 
 /**
  * @typedef {import("../worker/engine.js").Engine} Engine
- * @typedef {import("../worker/key_queue.js").Step} Step
+ * @typedef {import("../worker/key_queue.js").PlannedLine} PlannedLine
  *
  * `from`: it stops from this hit on; `holds` and `words` get what stands at its places; `words` is null where it stops.
  * @typedef {{ id: number, address: number, from: number, hits: number, places: string[], holds: (values: string[]) => boolean,
@@ -58,27 +58,27 @@ export class Arrivals {
   }
 
   /**
-   * Looks through the steps that come next.
+   * Looks through the lines that come next.
    * @param {Engine} engine
    * @param {Uint8Array} file is left as it is
-   * @param {Step[]} steps
+   * @param {PlannedLine[]} planned
    * @returns {Seen}
    */
-  look(engine, file, steps) {
+  look(engine, file, planned) {
     const seen = nothingSeen();
     if (this.isEmpty) return seen;
-    if (this.density === 0 && this.isQuiet(engine, file, steps)) return seen;
+    if (this.density === 0 && this.isQuiet(engine, file, planned)) return seen;
     if (this.copy.length !== file.length) this.copy = new Uint8Array(file.length);
     this.copy.set(file);
     let [lines, count, done] = [this.first, this.breakpoints.length, 0];
-    for (const step of steps) {
-      if (step.change) {
-        lines += `${step.line}\n`;
+    for (const each of planned) {
+      if (each.change) {
+        lines += `${each.line}\n`;
         count += 1;
         continue;
       }
       const before = done;
-      const ran = this.run(engine, this.copy, { lines, count, cycles: cyclesOfStep(step) },
+      const ran = this.run(engine, this.copy, { lines, count, cycles: cyclesOfLine(each) },
         (end, row, part) => end !== "break" || this.isStop(row, before + part, seen));
       if (ran < 0) return seen;
       done += ran;
@@ -91,18 +91,18 @@ export class Arrivals {
    * Whether there is no arrival at all: one question tells.
    * @param {Engine} engine
    * @param {Uint8Array} file
-   * @param {Step[]} steps
+   * @param {PlannedLine[]} planned
    */
-  isQuiet(engine, file, steps) {
-    const answers = engine.ask(file, this.first + steps.map(({ line }) => `${line}\n`).join("")).answers.slice(this.breakpoints.length);
-    return steps.every(({ change }, at) => change !== null || answers[at].endsWith(" end"));
+  isQuiet(engine, file, planned) {
+    const answers = engine.ask(file, this.first + planned.map(({ line }) => `${line}\n`).join("")).answers.slice(this.breakpoints.length);
+    return planned.every(({ change }, at) => change !== null || answers[at].endsWith(" end"));
   }
 
   /**
    * Goes through a run on a file that has the breakpoints; gives its cycles, -1 where a visit ends it.
    * @param {Engine} engine
    * @param {Uint8Array} file
-   * @param {{ lines: string, count: number, cycles: number }} step lines before it, how many answers they have, how many cycles it has
+   * @param {{ lines: string, count: number, cycles: number }} run lines before it, how many answers they have, how many cycles it has
    * @param {(end: string, row: string[], ran: number) => boolean} visit is told of each stop, by the word of its answer, what stands at
    *   `places` there, and how many cycles of the run were done; it says whether that is the end
    */

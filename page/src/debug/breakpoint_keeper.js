@@ -1,7 +1,7 @@
 // The breakpoints of the session that is shown: a list that moves with the source, and the bench, which has what the list has. Where the
 // bench tells of others (a line `break` that was typed, a session of mcs4) the list takes them.
 
-import { BreakpointList, MOST_BREAKPOINTS, MOST_ON, placeOfAddress, placeOfLine } from "./breakpoints.js";
+import { BreakpointList, MOST_BREAKPOINTS, MOST_ON, instructionOfAddress, instructionOfLine } from "./breakpoints.js";
 import { isSoft } from "./soft_breakpoints.js";
 import * as say from "../words/debug.js";
 
@@ -120,10 +120,10 @@ export class BreakpointKeeper {
       return;
     }
     const { map } = this;
-    const place = map ? placeOfAddress(address, map) : { line: 0, address, words: "" };
-    if (place.words) this.calls.tell(place.words);
-    if (place.line > 0 && this.list.atLine(place.line)) return;
-    this.list.add({ line: place.line, address: place.address });
+    const instruction = map ? instructionOfAddress(address, map) : { line: 0, address, words: "" };
+    if (instruction.words) this.calls.tell(instruction.words);
+    if (instruction.line > 0 && this.list.atLine(instruction.line)) return;
+    this.list.add({ line: instruction.line, address: instruction.address });
   }
 
   /** @param {number} address the bench has none there any more */
@@ -151,11 +151,11 @@ export class BreakpointKeeper {
       this.remove(own.id);
       return;
     }
-    const place = this.map ? placeOfLine(line, this.map) : { line, address: -1, words: this.wordsOfLater() };
-    if (place.words) this.calls.tell(place.words);
-    if (place.line !== line && this.list.atLine(place.line)) return;
-    if (this.map && place.address < 0) return;
-    this.add({ line: place.line, address: place.address });
+    const instruction = this.map ? instructionOfLine(line, this.map) : { line, address: -1, words: this.wordsOfLater() };
+    if (instruction.words) this.calls.tell(instruction.words);
+    if (instruction.line !== line && this.list.atLine(instruction.line)) return;
+    if (this.map && instruction.address < 0) return;
+    this.add({ line: instruction.line, address: instruction.address });
   }
 
   /**
@@ -164,8 +164,8 @@ export class BreakpointKeeper {
    */
   ofLine(line) {
     if (!this.list.atLine(line)) this.toggleLine(line);
-    const place = this.map ? placeOfLine(line, this.map).line : line;
-    return this.list.atLine(line) || this.list.atLine(place);
+    const next = this.map ? instructionOfLine(line, this.map).line : line;
+    return this.list.atLine(line) || this.list.atLine(next);
   }
 
   wordsOfLater() {
@@ -182,9 +182,9 @@ export class BreakpointKeeper {
       this.remove(own.id);
       return;
     }
-    const place = this.map ? placeOfAddress(address, this.map) : { line: 0, address, words: "" };
-    if (place.words) this.calls.tell(place.words);
-    this.add({ line: place.line, address: place.address });
+    const instruction = this.map ? instructionOfAddress(address, this.map) : { line: 0, address, words: "" };
+    if (instruction.words) this.calls.tell(instruction.words);
+    this.add({ line: instruction.line, address: instruction.address });
   }
 
   /** @param {Partial<KeptBreakpoint>} some */

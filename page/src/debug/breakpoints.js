@@ -172,7 +172,7 @@ export class BreakpointList {
     /** @type {Map<number, Breakpoint>} */
     const placed = new Map();
     for (const each of this.all) {
-      const found = each.line > 0 ? placeOfLine(each.line, map) : placeOfAddress(each.address, map);
+      const found = each.line > 0 ? instructionOfLine(each.line, map) : instructionOfAddress(each.address, map);
       if (found.words) words.push(found.words);
       const { line, address } = found;
       // Two that have come to one place are one.
@@ -241,7 +241,7 @@ function replacedLines({ from, to, text, removed = Array(to.line - from.line + 1
  * @param {number} line
  * @param {SourceMap} map
  */
-export function placeOfLine(line, map) {
+export function instructionOfLine(line, map) {
   const own = map.addressOf(line);
   if (own !== undefined) return { line, address: own, words: "" };
   for (let next = line + 1; next <= map.count; next++) {
@@ -259,11 +259,11 @@ export function placeOfLine(line, map) {
  * @param {number} address
  * @param {SourceMap} map
  */
-export function placeOfAddress(address, map) {
+export function instructionOfAddress(address, map) {
   if (address < 0 || !map.isInside(address)) return { line: address < 0 ? 0 : map.lineOf(address), address, words: "" };
   const line = map.lineOf(address);
   const digits = address.toString(16).toUpperCase().padStart(3, "0");
-  const next = placeOfLine(line + 1, map);
+  const next = instructionOfLine(line + 1, map);
   if (next.address < 0) return { line, address: map.addresses[line], words: say.insideInstruction(digits, line) };
   return { ...next, words: say.insideAndMoved(digits, line, next.line) };
 }

@@ -21,7 +21,7 @@ import { readProgram } from "../worker/program_check.js";
 import { WorkerSession } from "../worker/worker_session.js";
 import { BreakpointList } from "./breakpoints.js";
 import { Debugger, NO_TALLY, bothTallies, nearOf } from "./debugger.js";
-import { wordsOfGone, wordsOfHalt, wordsOfPlace, wordsOfStop, wordsOfWhen } from "../words/stops.js";
+import { wordsOfGone, wordsOfHalt, wordsOfAddress, wordsOfStop, wordsOfWhen } from "../words/stops.js";
 import * as say from "../words/debug.js";
 
 /**
@@ -168,7 +168,7 @@ export class DebugSession {
       const isOver = done >= most;
       if (!isOver && await goesOn(done, frame.tally)) continue;
       debug.stopped();
-      const words = wordsOfHalt(goal, done, this.placeWords);
+      const words = wordsOfHalt(goal, done, this.counterWords);
       return { why: isOver ? "passed" : "pause", id: 0, cycles: done, returns: false, words, tally };
     }
   }
@@ -180,7 +180,7 @@ export class DebugSession {
    * @returns {Stopped}
    */
   stopped(goal, stop, tally) {
-    return { ...stop, words: wordsOfStop(goal, stop, this.placeWords, wordsOfWhen(this.breakpoints.get(stop.id))), tally };
+    return { ...stop, words: wordsOfStop(goal, stop, this.counterWords, wordsOfWhen(this.breakpoints.get(stop.id))), tally };
   }
 
   /**
@@ -201,12 +201,12 @@ export class DebugSession {
    */
   async back(goal, goesOn = always) {
     const went = await this.debugger.goBack(goal, (done = 0) => goesOn(done));
-    return { ...went, words: wordsOfGone(goal, went, this.placeWords, this.breakpoints.get(went.id)) };
+    return { ...went, words: wordsOfGone(goal, went, this.counterWords, this.breakpoints.get(went.id)) };
   }
 
   forward() {
     const went = this.debugger.goForward();
-    return { ...went, words: wordsOfGone({ kind: "forward" }, went, this.placeWords) };
+    return { ...went, words: wordsOfGone({ kind: "forward" }, went, this.counterWords) };
   }
 
   /**
@@ -237,8 +237,8 @@ export class DebugSession {
     return this.map.lineOf(this.address);
   }
 
-  get placeWords() {
-    return wordsOfPlace(this.registers.counter, this.map);
+  get counterWords() {
+    return wordsOfAddress(this.registers.counter, this.map);
   }
 
   /** The return addresses, the newest first. */

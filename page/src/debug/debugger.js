@@ -19,7 +19,7 @@ import { NOTHING_TOLD, aimBack } from "../worker/going_back.js";
 import { runLines } from "../worker/key_queue.js";
 import { LOOKED_CYCLES } from "../worker/pieces.js";
 import { Answers, valuesOf } from "../worker/tracing.js";
-import { cyclesToGoal, seek, stepsUpTo } from "./ahead.js";
+import { cyclesToGoal, seek, linesUpTo } from "./ahead.js";
 import { Arrivals, MOST_NOTES, nothingSeen } from "./arrivals.js";
 import { MOST_PLACES } from "./conditions.js";
 import { watcherOf } from "./goals.js";
@@ -101,6 +101,10 @@ export class Debugger {
     this.session = session;
     this.arrivals = new Arrivals([]);
     this.usual = new UsualFaults(session);
+    /** @type {import("../worker/key_queue.js").PlannedLine[] | null} those that are done, and not looked at for faults yet */
+    this.unlooked = null;
+    /** @type {import("./usual_faults.js").UsualFault[]} that were found there, and are not told yet */
+    this.late = [];
     /** @type {Map<number, number> | null} the ids of the breakpoints that always stop, by their addresses; null until some are set */
     this.hard = null;
     /** @type {Watcher | null} of the move that is under way */
@@ -152,6 +156,7 @@ export class Debugger {
   begin() {
     this.watcher = null;
     this.begun = this.session.count.total;
+    this.late = [];
     this.usual.begin();
   }
 
@@ -163,24 +168,39 @@ export class Debugger {
   /**
    * Lets so many cycles pass, as the session does, up to the goal of the move or a breakpoint.
    * @param {number} cycles
+   * @param {boolean} [isHurried] whether lamps wait for it: then faults that nothing stops at are looked for by `lookBack`
    * @returns {DebugFrame}
    */
-  advance(cycles) {
+  advance(cycles, isHurried = false) {
     const { session } = this;
     const { engine, file } = session;
-    let steps = session.queue.plan(cycles);
-    const toGoal = this.watcher ? cyclesToGoal(engine, file, steps, this.watcher) : -1;
-    if (toGoal >= 0) steps = stepsUpTo(steps, toGoal);
-    const seen = this.arrivals.look(engine, file, steps);
-    if (seen.cycles >= 0) steps = stepsUpTo(steps, seen.cycles);
-    const usual = this.usual.look(steps);
-    if (usual.stop >= 0) steps = stepsUpTo(steps, usual.stop);
+    let planned = session.queue.plan(cycles);
+    const toGoal = this.watcher ? cyclesToGoal(engine, file, planned, this.watcher) : -1;
+    if (toGoal >= 0) planned = linesUpTo(planned, toGoal);
+    const seen = this.arrivals.look(engine, file, planned);
+    if (seen.cycles >= 0) planned = linesUpTo(planned, seen.cycles);
+    const isLate = isHurried && this.usual.stops.size === 0 && session.recording === null;
+    const usual = isLate ? { faults: [], stop: -1 } : this.usual.look(planned);
+    if (usual.stop >= 0) planned = linesUpTo(planned, usual.stop);
     const before = session.count.total;
-    const frame = session.advanceBy(steps);
+    const frame = session.advanceBy(planned);
     this.arrivals.count(seen);
+    this.unlooked = isLate ? planned : null;
     const stop = this.stopOfOthers(frame, usual.stop) || this.stopOf(frame, seen, toGoal);
     if (stop) this.stopped();
-    return { ...frame, stop, tally: { ...this.tallyOf(seen, stop, before), usual: usual.faults } };
+    return { ...frame, stop, tally: { ...this.tallyOf(seen, stop, before), usual: [...this.takeLate(), ...usual.faults] } };
+  }
+
+  /** Looks for faults in what was done last, where that is yet to be done: the session's other file is as it was before. */
+  lookBack() {
+    const { unlooked } = this;
+    this.unlooked = null;
+    if (unlooked) this.late.push(...this.usual.look(unlooked, this.session.next).faults);
+  }
+
+  /** Takes out what was found late. */
+  takeLate() {
+    return this.late.splice(0);
   }
 
   /**
@@ -234,6 +254,7 @@ export class Debugger {
   }
 
   stopped() {
+    this.lookBack();
     this.watcher = null;
     this.session.timeline.stop();
   }
@@ -293,8 +314,8 @@ export class Debugger {
     const copy = file.slice();
     for (let done = 0; done < cycles;) {
       const piece = Math.min(LOOKED_CYCLES, cycles - done);
-      const steps = runLines(piece).trimEnd().split("\n").map((line) => ({ line, change: null }));
-      const seen = this.arrivals.look(engine, copy, steps);
+      const planned = runLines(piece).trimEnd().split("\n").map((line) => ({ line, change: null }));
+      const seen = this.arrivals.look(engine, copy, planned);
       for (const [id, hits] of seen.hits) all.hits.set(id, (all.hits.get(id) || 0) + hits);
       all.notes = [...all.notes, ...seen.notes.map((note) => ({ ...note, cycles: note.cycles + done }))];
       all.noted += seen.noted;

@@ -5,25 +5,25 @@
 //
 //     const watch = new UsualFaults(session);
 //     watch.begin();                                 time begins to run: each kind is told once from here on
-//     const { faults, stop } = watch.look(steps);    ahead of the steps; `stop` is after how many cycles one is to stop time, -1 for none
+//     const { faults, stop } = watch.look(lines);    ahead of the lines;  `stop` is after how many cycles one is to stop time, -1 for none
 
 import { readBoard } from "../bench/answers.js";
 import { hex } from "../bench/numbers.js";
 import { areLive, callBefore } from "../machine/returns.js";
 import { isCall, isReturn, romCodes } from "../worker/rom_codes.js";
 import { Answers, valuesOf } from "../worker/tracing.js";
-import { cyclesOfStep, stepsUpTo } from "./ahead.js";
+import { cyclesOfLine, linesUpTo } from "./ahead.js";
 import { Selected, usesSelected } from "./selected.js";
 import * as say from "../words/debug.js";
 
 /**
  * @typedef {import("../machine/source_map.js").SourceMap} SourceMap
- * @typedef {import("../worker/key_queue.js").Step} Step
+ * @typedef {import("../worker/key_queue.js").PlannedLine} PlannedLine
  * @typedef {import("../worker/tracing.js").Trace} Trace
  * @typedef {import("../worker/worker_session.js").WorkerSession} WorkerSession
  * @typedef {"calls" | "return" | "lines" | "chip" | "bytes" | "source"} Kind
  *
- * A fault: the address of the instruction that is about to make it, after so many cycles of the steps, and what it is, in words.
+ * A fault: the address of the instruction that is about to make it, after so many cycles of the lines, and what it is, in words.
  * @typedef {{ kind: Kind, address: number, cycles: number, words: string }} UsualFault
  * @typedef {{ faults: UsualFault[], stop: number }} Looked
  */
@@ -33,7 +33,7 @@ const ALL = Object.keys(say.KINDS).length;
 const LOOKED_CYCLES = 50000;
 const SAMPLE = 16;
 const SAMPLE_CYCLES = 2000;
-/** Steps of more cycles are those of full speed, of which no more are looked at: a look takes as long as some millions of them. */
+/** Lines of more cycles are those of full speed, of which no more are looked at: a look takes as long as some millions of them. */
 const FRAME_CYCLES = 10000;
 
 /** @type {Looked} */
@@ -75,13 +75,14 @@ export class UsualFaults {
   }
 
   /**
-   * @param {Step[]} steps that come next
+   * @param {PlannedLine[]} planned what comes next
+   * @param {Uint8Array} [file] before them, where they are done already
    * @returns {Looked}
    */
-  look(steps) {
-    const most = this.mostOf(steps);
+  look(planned, file = this.session.file) {
+    const most = this.mostOf(planned);
     if (most === 0 || this.told.size === ALL) return NOTHING;
-    const faults = this.faultsIn(stepsUpTo(steps, most));
+    const faults = this.faultsIn(linesUpTo(planned, most), file);
     const last = faults.find(({ kind }) => this.stops.has(kind));
     if (!last) return { faults, stop: -1 };
     this.stopped = last.address;
@@ -89,13 +90,13 @@ export class UsualFaults {
   }
 
   /**
-   * How many of the cycles of some steps are looked at: all soon after time began or a key moved, and where time is to stop at faults,
+   * How many of the cycles of some lines are looked at: all soon after time began or a key moved, and where time is to stop at faults,
    * but at full speed; else a sample of them, since each cycle is done three times more where it is looked at.
-   * @param {Step[]} steps
+   * @param {PlannedLine[]} planned
    */
-  mostOf(steps) {
-    const cycles = steps.reduce((sum, step) => sum + cyclesOfStep(step), 0);
-    if (steps.some(({ change }) => change !== null)) this.left = LOOKED_CYCLES;
+  mostOf(planned) {
+    const cycles = planned.reduce((sum, each) => sum + cyclesOfLine(each), 0);
+    if (planned.some(({ change }) => change !== null)) this.left = LOOKED_CYCLES;
     this.looks += 1;
     const isAll = this.stops.size > 0 && cycles <= FRAME_CYCLES;
     const sample = this.looks % SAMPLE === 0 ? SAMPLE_CYCLES : 0;
@@ -112,20 +113,23 @@ export class UsualFaults {
     return { codes: this.codes, selected: this.selected };
   }
 
-  /** @param {Step[]} steps */
-  faultsIn(steps) {
-    const { engine, file } = this.session;
+  /**
+   * @param {PlannedLine[]} planned
+   * @param {Uint8Array} file
+   */
+  faultsIn(planned, file) {
+    const { engine } = this.session;
     const { codes, selected } = this.read();
-    const lines = steps.map((step) => {
-      const cycles = cyclesOfStep(step);
-      return step.change ? `${step.line}\n` : `trace ${cycles} src dcl ret\ntrace ${cycles}\n${step.line}\n`;
+    const lines = planned.map((each) => {
+      const cycles = cyclesOfLine(each);
+      return each.change ? `${each.line}\n` : `trace ${cycles} src dcl ret\ntrace ${cycles}\n${each.line}\n`;
     });
     const answers = new Answers(engine.ask(file, `state\n${lines.join("")}`).answers);
     selected.begin(answers.take());
     /** @type {UsualFault[]} */
     const faults = [];
     let done = 0;
-    for (const { change } of steps) {
+    for (const { change } of planned) {
       if (change) {
         answers.take();
         continue;

@@ -9,7 +9,7 @@ import { sentText } from "../text/text_fault.js";
 import { SHELF, actOn, isReadAlike, whyNotAdded } from "./acts.js";
 import { nameOfTarget, sourcesOf, targetsOf, wiringOf, withBuzzer } from "./board_lines.js";
 import { fieldsOf } from "./fields.js";
-import { PartPlaces } from "./part_places.js";
+import { MovedParts } from "./moved_parts.js";
 import * as say from "../words/drawing.js";
 
 /**
@@ -54,7 +54,7 @@ export class Drawing {
     this.begun = "";
     this.said = "";
     /** Where parts stand that were dragged. */
-    this.places = new PartPlaces();
+    this.movedParts = new MovedParts();
     /** @type {Promise<void>} what is under way */
     this.turn = Promise.resolve();
   }
@@ -106,7 +106,7 @@ export class Drawing {
    * @param {string} fault
    */
   take(text, answers, fault) {
-    this.places.follow(this.text, text);
+    this.movedParts.follow(this.text, text);
     this.text = text;
     this.answers = answers;
     this.face = new Face(text);
@@ -220,7 +220,7 @@ export class Drawing {
     // The text may have been edited while the bench was asked.
     if (this.calls.text() !== text) return this.perform(act);
     this.calls.edit(done.edits);
-    this.places.note(text, done.text, done.goneChains);
+    this.movedParts.note(text, done.text, done.goneChains);
     this.take(done.text, answers, "");
     this.chosen = this.isThere(done.part) ? done.part : "";
     return this.say(done.words);

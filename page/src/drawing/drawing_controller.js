@@ -33,7 +33,7 @@ export class DrawingController {
     this.editing = 0;
     this.drawing = new Drawing(calls, (shown) => this.show(shown));
     this.view = this.makeView();
-    this.view.moved = this.drawing.places.moved;
+    this.view.moved = this.drawing.movedParts.moved;
     this.input = this.makeInput();
     this.zoom = new PictureZoom(picture.root);
     onClick(button("first-drawing"), calls.putInFront);
@@ -58,7 +58,7 @@ export class DrawingController {
         drawing.begun = from;
         this.tried(drawing.endWire(to));
       },
-      moved: (part, place) => this.move(part, place),
+      moved: (part, point) => this.move(part, point),
       dropped: () => {
         this.view.drawn = "";
         this.view.showPicture();
@@ -88,7 +88,7 @@ export class DrawingController {
   /** @param {Shown} shown */
   show(shown) {
     this.view.show(shown);
-    if (this.drawing.places.takeNews()) this.keep();
+    if (this.drawing.movedParts.takeNews()) this.keep();
     this.input.take(shown.begun, shown.ends);
   }
 
@@ -106,7 +106,7 @@ export class DrawingController {
   /** The texts of another session are shown. */
   begin() {
     this.drawing.forget();
-    this.drawing.places.begin(this.kept);
+    this.drawing.movedParts.begin(this.kept);
   }
 
   /**
@@ -130,7 +130,7 @@ export class DrawingController {
 
   /**
    * @param {string} part
-   * @param {import("../board/wiring.js").Place} place
+   * @param {import("../board/wiring.js").Point} point
    */
   move(part, { x, y }) {
     this.view.moved.set(part, { x: Math.max(0, Math.round(x)), y: Math.max(0, Math.round(y)) });

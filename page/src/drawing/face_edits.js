@@ -214,15 +214,15 @@ function renumberGrid(draft, line, gone, numberOf) {
 /**
  * Ports and chains have gone, or have other numbers.
  * @param {BoardDraft} draft
- * @param {(place: string) => string} placeOf the place that one has from now on, "" for one that has gone
+ * @param {(place: string) => string} newPortOf the port that one is from now on, "" for one that has gone
  * @returns {TextEdit[]}
  */
-export function renamePorts(draft, placeOf) {
+export function renamePorts(draft, newPortOf) {
   return faceLines(draft).flatMap((line) => {
     if (!line.place || !OF_PORTS.includes(line.kind)) return [];
     // A printer has the port of its code behind its strobe.
     const places = [line.place, ...(line.kind === "printer" ? line.words.slice(0, 1) : [])];
-    const renamed = places.map(({ text }, at) => renamedPlace(text, line.kind !== "port" && at === 0, placeOf));
+    const renamed = places.map(({ text }, at) => renamedPlace(text, line.kind !== "port" && at === 0, newPortOf));
     if (renamed.includes("")) return [removeFaceLine(draft, line)];
     return places.flatMap((place, at) => setWord(place, renamed[at]));
   });
@@ -231,11 +231,11 @@ export function renamePorts(draft, placeOf) {
 /**
  * @param {string} text
  * @param {boolean} isLine whether it is one line of a port
- * @param {(place: string) => string} placeOf
+ * @param {(place: string) => string} newPortOf
  */
-function renamedPlace(text, isLine, placeOf) {
+function renamedPlace(text, isLine, newPortOf) {
   const end = isLine ? text.lastIndexOf(".") : text.length;
-  const place = placeOf(text.slice(0, end).toLowerCase());
+  const place = newPortOf(text.slice(0, end).toLowerCase());
   return place && place + text.slice(end);
 }
 

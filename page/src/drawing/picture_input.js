@@ -4,15 +4,15 @@
 /**
  * @typedef {import("../board/wiring_view.js").WiringView} WiringView
  *
- * What it calls: a part or a pin was pressed; a wire was dragged from one pin to another; a part is dragged to a place, and stays there; a
+ * What it calls: a part or a pin was pressed; a wire was dragged from one pin to another; a part is dragged to a point, and stays there; a
  * part goes; what was begun is left; a step is undone, or done again.
  * @typedef {{ pressed: (name: string) => void, wired: (from: string, to: string) => void, moved: (part: string,
- *   place: Place) => void, dropped: () => void, deleted: (name: string) => void, left: () => void,
+ *   point: Point) => void, dropped: () => void, deleted: (name: string) => void, left: () => void,
  *   step: (which: "undo" | "redo") => void }} InputCalls
  *
  * What the pointer holds: a part or a pin, where it went down, and where the part stood.
- * @typedef {import("../board/wiring.js").Place} Place
- * @typedef {{ name: string, isPart: boolean, at: Place, place: Place, isDragged: boolean }} Held
+ * @typedef {import("../board/wiring.js").Point} Point
+ * @typedef {{ name: string, isPart: boolean, at: Point, stood: Point, isDragged: boolean }} Held
  */
 
 /** So far the pointer moves until something is dragged. */
@@ -65,7 +65,7 @@ export class PictureInput {
     if (event.button !== 0 || !event.isPrimary) return;
     const name = this.view.nameAt(/** @type {Element} */ (event.target));
     const part = this.view.parts.get(name);
-    this.held = { name, isPart: part !== undefined, at: this.view.placeOf(event), place: part || { x: 0, y: 0 }, isDragged: false };
+    this.held = { name, isPart: part !== undefined, at: this.view.pointOf(event), stood: part || { x: 0, y: 0 }, isDragged: false };
     // What goes on outside the picture is told here, too.
     if (event.pointerType !== "touch") this.view.root.setPointerCapture(event.pointerId);
     if (name) this.view.focus(name);
@@ -75,18 +75,18 @@ export class PictureInput {
   move(event) {
     const { held, view } = this;
     if (!held) {
-      if (this.begun) view.drawPencil(this.begun, view.placeOf(event));
+      if (this.begun) view.drawPencil(this.begun, view.pointOf(event));
       return;
     }
-    const now = view.placeOf(event);
+    const now = view.pointOf(event);
     if (!held.isDragged && Math.hypot(now.x - held.at.x, now.y - held.at.y) < SLACK) return;
     // A finger that moves scrolls; it draws wires from pins alone.
     if (held.name === "" || (held.isPart && event.pointerType === "touch")) return;
     if (!held.isDragged && !held.isPart && this.begun !== held.name) this.calls.pressed(held.name);
     held.isDragged = true;
-    // The picture stays as large as it is until the part is dropped: its place is told by that of the pointer.
+    // The picture stays as large as it is until the part is dropped: where it stands is told by the pointer.
     view.isHeld = held.isPart;
-    if (held.isPart) this.calls.moved(held.name, { x: held.place.x + now.x - held.at.x, y: held.place.y + now.y - held.at.y });
+    if (held.isPart) this.calls.moved(held.name, { x: held.stood.x + now.x - held.at.x, y: held.stood.y + now.y - held.at.y });
     else view.drawPencil(held.name, now);
   }
 

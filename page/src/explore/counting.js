@@ -8,7 +8,7 @@ import { downAfter, lineOf } from "./walks.js";
 
 /**
  * @typedef {import("./properties.js").Property} Property
- * @typedef {import("./walks.js").Step} Step
+ * @typedef {import("./walks.js").WalkStep} WalkStep
  * @typedef {import("./watching.js").After} After
  * @typedef {import("./watching.js").Start} Start
  */
@@ -31,7 +31,7 @@ export function followsFromLooks(properties, open, holds) {
 /**
  * @param {Property} property
  * @param {number[]} memory
- * @param {Step} step
+ * @param {WalkStep} step
  * @param {number} deeper how many calls were made beyond those that came back
  */
 function memoryAfter({ form }, memory, { kind }, deeper) {
@@ -42,7 +42,7 @@ function memoryAfter({ form }, memory, { kind }, deeper) {
 /**
  * @param {Pick<import("./watching.js").Watcher, "subject" | "campaign"> & { coverage: import("./coverage.js").Coverage }} search
  * @param {Start} start
- * @param {Step[]} steps
+ * @param {WalkStep[]} steps
  * @returns {After[]}
  */
 export function countWalk({ subject: { engine, codes }, campaign, coverage }, start, steps) {

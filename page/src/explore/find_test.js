@@ -9,7 +9,7 @@ import * as say from "../words/explore.js";
  * @typedef {import("./properties.js").Property} Property
  * @typedef {import("./search.js").Find} Find
  * @typedef {import("./subject.js").Subject} Subject
- * @typedef {import("./walks.js").Step} Step
+ * @typedef {import("./walks.js").WalkStep} WalkStep
  *
  * One of the conditions that `and` joins, in the words of a test.
  * @typedef {{ words: string, isNot: boolean, place: string }} Part `place` has its present value put behind it; it is "" where the words

@@ -13,8 +13,8 @@
  * @returns {Input[]}
  */
 export function keysOf(face) {
-  return [...face.keys].filter(([, { text }]) => text !== "").map(([place, { text }]) => ({
-    name: text, isKey: true, down: `press ${place}`, up: `release ${place}`, downWords: `press ${text}`, upWords: `release ${text}`,
+  return [...face.keys].filter(([, { text }]) => text !== "").map(([key, { text }]) => ({
+    name: text, isKey: true, down: `press ${key}`, up: `release ${key}`, downWords: `press ${text}`, upWords: `release ${text}`,
     isDown: false,
   }));
 }

@@ -84,11 +84,11 @@ export function remarkOf({ isGoal, applied, states, chains, found }, report) {
 }
 
 /**
- * Where a property stands.
+ * The line that a property stands at, with its file.
  * @param {Told} property
  * @param {Report} report
  */
-export function placeOf({ line }, { names }) {
+export function lineOfProperty({ line }, { names }) {
   return line > 0 ? `${names.properties}:${line}` : names.properties;
 }
 
@@ -108,7 +108,7 @@ function linesOf(property, at, report) {
   if (!found) return lines;
   const how = property.isGoal ? "reached" : "broken";
   const words = say.foundBy(how, stepsOf(found.steps), grouped(found.cycles), found.seed);
-  lines.push("  ---", `  message: ${quoted(words)}`, `  at: ${quoted(placeOf(property, report))}`, "  test: |");
+  lines.push("  ---", `  message: ${quoted(words)}`, `  at: ${quoted(lineOfProperty(property, report))}`, "  test: |");
   return [...lines, ...found.test.trimEnd().split("\n").map((line) => `    ${line}`), "  ..."];
 }
 
@@ -154,5 +154,5 @@ export function testsOfReport(report) {
   const { names: { board, program } } = report;
   const found = report.properties.filter((property) => property.found);
   const head = say.foundByTool(board, program);
-  return head + found.map((property) => `\n# ${placeOf(property, report)}\n${property.found ? property.found.test : ""}`).join("");
+  return head + found.map((property) => `\n# ${lineOfProperty(property, report)}\n${property.found ? property.found.test : ""}`).join("");
 }

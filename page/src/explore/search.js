@@ -15,15 +15,15 @@ import { Watcher } from "./watching.js";
  * @typedef {import("./campaign.js").Campaign} Campaign
  * @typedef {import("./properties.js").Property} Property
  * @typedef {import("./subject.js").Subject} Subject
- * @typedef {import("./walks.js").Step} Step
+ * @typedef {import("./walks.js").WalkStep} WalkStep
  * @typedef {import("./kept_files.js").KeptFile} KeptFile
  *
  * A state that was kept, with the steps that lead to it from another one, and how often the search went on from it.
- * @typedef {{ kept: KeptFile, time: number, down: number[], since: number[], memories: number[][], parent: State | null, steps: Step[],
+ * @typedef {{ kept: KeptFile, time: number, down: number[], since: number[], memories: number[][], parent: State | null, steps: WalkStep[],
  *   depth: number, picked: number }} State `since` is how many cycles ago each input was changed
  *
  * What broke a property (or reached a goal): its number, the steps from power-on that were done before, and when it came.
- * @typedef {{ property: number, steps: Step[], time: number }} Find
+ * @typedef {{ property: number, steps: WalkStep[], time: number }} Find
  *
  * How a state looks after a step: the values of what is noted, and whether conditions hold, in the order of properties.
  * @typedef {{ notes: string, holds: boolean[] }} Look
@@ -105,7 +105,7 @@ export class Search {
    */
   countCalls(memories) {
     const { watcher, campaign: { begin }, subject: { file } } = this;
-    /** @type {Step[]} */
+    /** @type {WalkStep[]} */
     const steps = [];
     for (let left = begin; left > 0; left -= LONGEST_RUN) steps.push({ wait: Math.min(left, LONGEST_RUN), kind: "none", input: -1 });
     const begun = memories.map((memory, at) => (watcher.calls.includes(at) ? memory : memory.map(() => 0)));
@@ -154,7 +154,7 @@ export class Search {
    * Goes along a walk once more, up to the last state that is new: what comes after it was looked at already. Where that is enough, it is
    * counted; a walk that runs something for the first time is watched.
    * @param {import("./watching.js").Start} start
-   * @param {Step[]} steps
+   * @param {WalkStep[]} steps
    * @param {number[]} fresh the steps after which something is new; those that run something for the first time come to them
    * @param {Look[]} looks
    */
@@ -228,7 +228,7 @@ export class Search {
    * Looks at a walk after each of its changes: after which steps something is new, and whether a property seems to be broken.
    * @param {Uint8Array} file
    * @param {State} state
-   * @param {Step[]} steps
+   * @param {WalkStep[]} steps
    */
   look(file, state, steps) {
     const { campaign, places, ofLabels, stops } = this;
@@ -288,7 +288,7 @@ export class Search {
    * Keeps the states after some steps of a walk.
    * @param {State} state
    * @param {Uint8Array} file
-   * @param {Step[]} steps
+   * @param {WalkStep[]} steps
    * @param {import("./watching.js").After[]} after
    * @param {number[]} fresh
    */
@@ -321,7 +321,7 @@ export class Search {
  * @param {State} state
  */
 function pathOf(state) {
-  /** @type {Step[][]} */
+  /** @type {WalkStep[][]} */
   const parts = [];
   /** @type {State | null} */
   let each = state;
@@ -358,7 +358,7 @@ class Seeming {
   }
 
   /**
-   * @param {Step} step
+   * @param {WalkStep} step
    * @param {Look} look
    * @param {ReturnType<Told["counts"]>} begun how often each address was begun at
    */
@@ -385,7 +385,7 @@ class Seeming {
    * @param {Property} property
    * @param {number[]} memory
    * @param {import("./properties.js").Moment} moment at the end of the wait
-   * @param {Step} step
+   * @param {WalkStep} step
    * @param {number} count how often its label was come to
    */
   mayBreakAtLabel(property, memory, moment, step, count) {

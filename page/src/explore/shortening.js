@@ -7,7 +7,7 @@ import { downAfter, downAtFirst, heldAfter, isSound } from "./walks.js";
  * @typedef {import("./campaign.js").Campaign} Campaign
  * @typedef {import("./search.js").Find} Find
  * @typedef {import("./subject.js").Subject} Subject
- * @typedef {import("./walks.js").Step} Step
+ * @typedef {import("./walks.js").WalkStep} WalkStep
  */
 
 const LONGEST_IDLE = 100000;
@@ -54,7 +54,7 @@ export class Shortening {
 
   /**
    * Takes steps in the place of those so far, if the property is broken by them.
-   * @param {Step[]} steps
+   * @param {WalkStep[]} steps
    */
   async take(steps) {
     if (this.left <= 0 || !isSound(this.campaign, steps)) return false;
@@ -100,7 +100,7 @@ export class Shortening {
     const { campaign } = this;
     let down = downAtFirst(campaign);
     let waited = 0;
-    /** @type {Step[]} */
+    /** @type {WalkStep[]} */
     const kept = [];
     for (const [at, step] of this.steps.entries()) {
       waited += step.wait;

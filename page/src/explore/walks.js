@@ -4,7 +4,7 @@
  * @typedef {import("./campaign.js").Campaign} Campaign
  *
  * A wait of so many cycles, and then a change: an input of the campaign that goes down or up, a power cycle, or nothing.
- * @typedef {{ wait: number, kind: "down" | "up" | "reset" | "none", input: number }} Step
+ * @typedef {{ wait: number, kind: "down" | "up" | "reset" | "none", input: number }} WalkStep
  *
  * @typedef {() => number} Random from 0 up to 1
  */
@@ -58,7 +58,7 @@ function waitOf({ shortest, longest }, random) {
  * @param {number[]} down
  * @param {number[]} since
  * @param {Random} random
- * @returns {Step}
+ * @returns {WalkStep}
  */
 export function chooseStep(campaign, down, since, random) {
   const wait = waitOf(campaign, random);
@@ -76,7 +76,7 @@ export function chooseStep(campaign, down, since, random) {
  * @param {number[]} since
  * @param {number} wait
  * @param {Random} random
- * @returns {Step}
+ * @returns {WalkStep}
  */
 function chooseChange(campaign, down, since, wait, random) {
   const { inputs, together, canReset, apart } = campaign;
@@ -101,7 +101,7 @@ export function sinceAtFirst({ inputs }) {
 /**
  * The same after a step.
  * @param {number[]} since
- * @param {Step} step
+ * @param {WalkStep} step
  */
 export function sinceAfter(since, { wait, input }) {
   return since.map((cycles, at) => (at === input ? 0 : cycles + wait));
@@ -110,7 +110,7 @@ export function sinceAfter(since, { wait, input }) {
 /**
  * What is down after a step.
  * @param {number[]} down
- * @param {Step} step
+ * @param {WalkStep} step
  */
 export function downAfter(down, { kind, input }) {
   if (kind === "down") return [...down, input];
@@ -120,7 +120,7 @@ export function downAfter(down, { kind, input }) {
 /**
  * Whether each step changes something, from what is down at power-on, and no more keys are down, nor for longer, than may be.
  * @param {Campaign} campaign
- * @param {Step[]} steps
+ * @param {WalkStep[]} steps
  */
 export function isSound(campaign, steps) {
   let down = downAtFirst(campaign);
@@ -148,7 +148,7 @@ function mostHeld(down, since) {
 /**
  * The same after steps from power-on.
  * @param {Campaign} campaign
- * @param {Step[]} steps
+ * @param {WalkStep[]} steps
  */
 export function heldAfter(campaign, steps) {
   return mostHeld(steps.reduce(downAfter, downAtFirst(campaign)), steps.reduce(sinceAfter, sinceAtFirst(campaign)));
@@ -157,7 +157,7 @@ export function heldAfter(campaign, steps) {
 /**
  * The line that makes a step's change; "" for none.
  * @param {Campaign} campaign
- * @param {Step} step
+ * @param {WalkStep} step
  */
 export function lineOf({ inputs }, { kind, input }) {
   if (kind === "none") return "";
@@ -177,7 +177,7 @@ export function runLines(cycles) {
 /**
  * The lines of steps.
  * @param {Campaign} campaign
- * @param {Step[]} steps
+ * @param {WalkStep[]} steps
  */
 export function linesOf(campaign, steps) {
   return steps.map((step) => runLines(step.wait) + lineOf(campaign, step)).join("");

@@ -10,7 +10,7 @@ import { downAfter, lineOf } from "./walks.js";
  * @typedef {import("./properties.js").Property} Property
  * @typedef {import("./properties.js").Event} Event
  * @typedef {import("./subject.js").Subject} Subject
- * @typedef {import("./walks.js").Step} Step
+ * @typedef {import("./walks.js").WalkStep} WalkStep
  * @typedef {import("./places.js").Change} Change
  *
  * From where a walk goes on: the session, the cycles since power-on, what is down, and what each property remembers.
@@ -59,7 +59,7 @@ export class Watcher {
   /**
    * Looks at a walk. It ends where a property is broken that is still open.
    * @param {Start} start
-   * @param {Step[]} steps
+   * @param {WalkStep[]} steps
    * @param {number[]} open the numbers of properties
    * @returns {{ broken: Broken | null, after: After[] }}
    */
@@ -82,7 +82,7 @@ export class Watcher {
 
   /**
    * @param {Uint8Array} file
-   * @param {Step[]} steps
+   * @param {WalkStep[]} steps
    * @param {number[]} open
    * @returns {StepTold[]}
    */
@@ -107,7 +107,7 @@ export class Watcher {
   /**
    * Asks for all instructions of some steps.
    * @param {Uint8Array} file
-   * @param {Step[]} steps
+   * @param {WalkStep[]} steps
    * @param {StepTold[]} all
    * @param {boolean[]} isListed
    */
@@ -182,7 +182,7 @@ class Walk {
 
   /**
    * @param {StepTold} told
-   * @param {Step} step
+   * @param {WalkStep} step
    */
   step(told, step) {
     const began = this.time;
@@ -249,7 +249,7 @@ class Walk {
     if (this.open.includes(at)) this.broken = { property: at, time: this.time };
   }
 
-  /** @param {Step} step */
+  /** @param {WalkStep} step */
   tellChangeOf(step) {
     const { campaign: { inputs } } = this.watcher;
     this.down = downAfter(this.down, step);

@@ -2,7 +2,7 @@
 // logged.
 
 import { wordsOfCycles } from "../time/cycles.js";
-import { wordsOfPlace } from "../words/stops.js";
+import { wordsOfAddress } from "../words/stops.js";
 import { Cell, Switch, block, button, element, onClick } from "../ui/dom.js";
 import { countOf, counted, hex } from "../bench/numbers.js";
 import { markOf } from "./breakpoint_marks.js";
@@ -34,8 +34,8 @@ const MOST_HITS = 999999999;
  * @param {Breakpoint} breakpoint
  * @param {SourceMap | null} map
  */
-export function placeOfBreakpoint({ line, address }, map) {
-  if (map && address >= 0) return wordsOfPlace(hex(address, 3), map);
+export function whereBreakpointIs({ line, address }, map) {
+  if (map && address >= 0) return wordsOfAddress(hex(address, 3), map);
   return line > 0 ? `line ${line}` : hex(address, 3);
 }
 
@@ -94,7 +94,7 @@ export class BreakpointsView {
     row.isOn.checked = isOn;
     row.mark.set(mark);
     row.mark.node.title = words;
-    row.place.set(placeOfBreakpoint(breakpoint, map));
+    row.place.set(whereBreakpointIs(breakpoint, map));
     // What is just being typed stays.
     /** @type {[HTMLInputElement, string][]} */
     const fields = [[row.condition, condition], [row.from, String(from)], [row.note, note]];
@@ -171,7 +171,7 @@ export class BreakpointsView {
     if (notes.length === 0) return;
     const lines = notes.slice(-MOST_NOTES).map(({ id, cycles, words }) => {
       const found = keeper.list.get(id);
-      const place = found ? placeOfBreakpoint(found, keeper.map) : "";
+      const place = found ? whereBreakpointIs(found, keeper.map) : "";
       return element("p", { title: `at ${wordsOfCycles(cycles)}` }, element("b", {}, place), ` ${words}`);
     });
     const more = (noted - notes.length).toLocaleString("en");

@@ -1,7 +1,7 @@
 // How warm a cell is by how often, or how lately, it has changed, in five steps; and words on it. Without a document.
 
 import { hex } from "../bench/numbers.js";
-import { wordsOfPlace } from "../words/stops.js";
+import { wordsOfAddress } from "../words/stops.js";
 import { wordsOfCycles } from "../time/cycles.js";
 import * as say from "../words/machine.js";
 
@@ -91,7 +91,7 @@ function addTo(all, newer) {
  * @param {SourceMap | null} map
  */
 function whoOf({ address, line }, map) {
-  return line ? say.theLine(line) : wordsOfPlace(hex(address, 3), map);
+  return line ? say.theLine(line) : wordsOfAddress(hex(address, 3), map);
 }
 
 /**

@@ -2,7 +2,7 @@
 
 import { readListing } from "../bench/answers.js";
 import { linesOf, matchAnswers, readInputs } from "../bench/inputs.js";
-import { beginningsOf, isInStep, linesNeeded } from "./listing_stretch.js";
+import { beginningsOf, beginsLine, linesNeeded } from "./listing_stretch.js";
 
 /**
  * @typedef {import("../bench/answers.js").Listed} Listed
@@ -25,7 +25,7 @@ export class ListingReader {
     let lines = [];
     for (const start of beginningsOf(goal, rows)) {
       lines = await this.list(start, linesNeeded(start, goal, rows));
-      if (isInStep(lines, goal.anchor)) break;
+      if (beginsLine(lines, goal.anchor)) break;
     }
     return lines;
   }

@@ -45,7 +45,7 @@ export function linesNeeded(start, { from, anchor }, rows) {
  * @param {Listed[]} lines
  * @param {number | null} address
  */
-export function isInStep(lines, address) {
+export function beginsLine(lines, address) {
   return address === null || lines.some((line) => line.address === address);
 }
 

@@ -37,7 +37,7 @@ export class StackView {
     // What is read for addresses of before is not shown.
     this.asked = 0;
     this.rows = ["pc", "ret 1", "ret 2", "ret 3"].map((name, at) => (
-      this.makeRow(name, explain(name), () => goTo(this.placeOf(at)))));
+      this.makeRow(name, explain(name), () => goTo(this.addressOf(at)))));
     const root = element("div", { className: "stack" }, ...this.rows.map((row) => row.button));
     root.setAttribute("role", "group");
     root.setAttribute("aria-label", say.COUNTER_AND_RETURNS);
@@ -65,7 +65,7 @@ export class StackView {
    * Where the program is shown for a row: at the counter, or at the call.
    * @param {number} at
    */
-  placeOf(at) {
+  addressOf(at) {
     const address = this.addresses[at] || 0;
     return at > 0 && this.rows[at].isLive.isOn ? callBefore(address) : address;
   }

@@ -10,7 +10,7 @@ import * as say from "../words/machine.js";
  * @typedef {import("../debug/usual_faults.js").UsualFault} UsualFault
  *
  * What it calls: an address with its name and its line; it is shown; time stops at these from here on, which is kept; how it was chosen.
- * @typedef {{ placeOf: (address: number) => string, goTo: (address: number) => void, stopAt: (kinds: Kind[]) => void,
+ * @typedef {{ wordsOf: (address: number) => string, goTo: (address: number) => void, stopAt: (kinds: Kind[]) => void,
  *   chosen: () => string, choose: (kinds: string) => void }} UsualCalls
  */
 
@@ -41,7 +41,7 @@ export class UsualView {
 
   /** @param {UsualFault} fault */
   row({ kind, address, words }) {
-    const place = element("button", { type: "button", className: "place" }, this.calls.placeOf(address));
+    const place = element("button", { type: "button", className: "place" }, this.calls.wordsOf(address));
     onClick(place, () => this.calls.goTo(address));
     const stops = element("input", { type: "checkbox", checked: this.stops.has(kind), autocomplete: "off" });
     stops.addEventListener("change", () => this.choose(kind, stops.checked));

@@ -7,7 +7,7 @@ import * as say from "../words/prompt.js";
 
 /**
  * @typedef {import("../debug/debug_session.js").DebugSession} DebugSession
- * @typedef {{ name: string, place: string, press: string, release: string }} NamedKey `press` and `release` are lines
+ * @typedef {{ name: string, key: string, press: string, release: string }} NamedKey `press` and `release` are lines
  */
 
 export class KeysOfPrompt {
@@ -45,12 +45,12 @@ export class KeysOfPrompt {
    */
   find(word) {
     const named = this.named.get(word);
-    if (named) return { name: word, place: named.press.replace(/^press /, ""), press: named.press, release: named.release };
+    if (named) return { name: word, key: named.press.replace(/^press /, ""), press: named.press, release: named.release };
     const [, row, column] = /^(\d+)\.(\d+)$/.exec(word) || [];
     const { rows, columns } = readBoard(this.session.debugger.session.lookQuestions.board);
     if (row === undefined || Number(row) >= rows || Number(column) >= columns) return null;
-    const place = `${Number(row)} ${Number(column)}`;
-    return { name: word, place, press: `press ${place}`, release: `release ${place}` };
+    const key = `${Number(row)} ${Number(column)}`;
+    return { name: word, key, press: `press ${key}`, release: `release ${key}` };
   }
 
   /**

@@ -3,7 +3,7 @@
 import { counted, hex, numberOf, upTo } from "../bench/numbers.js";
 import { linesOfBreakpoints } from "../debug/breakpoint_lines.js";
 import { Standing } from "../debug/standing.js";
-import { wordsOfPlace } from "../words/stops.js";
+import { wordsOfAddress } from "../words/stops.js";
 import { framesOf } from "../adapter/frames.js";
 import { rowsAt } from "../adapter/disassembly.js";
 import { refuse } from "./words_of_line.js";
@@ -86,7 +86,8 @@ export function registerLines(session) {
   const { registers } = standingOf(session);
   const pairs = upTo(8).map((at) => `P${at} ${registers.registers[2 * at]}${registers.registers[2 * at + 1]}`).join("  ");
   const { accumulator, carry, bank, test, owed } = registers;
-  return `acc ${accumulator}  cy ${carry}  pc ${session.placeWords}  dcl ${bank}  test ${test}${owed === "1" ? "  owed 1" : ""}\n${pairs}`;
+  const owing = owed === "1" ? "  owed 1" : "";
+  return `acc ${accumulator}  cy ${carry}  pc ${session.counterWords}  dcl ${bank}  test ${test}${owing}\n${pairs}`;
 }
 
 /** @param {DebugSession} session */
@@ -120,7 +121,7 @@ export function callsOpen(session) {
  * @param {number} address
  */
 export function placeTold(session, address) {
-  return wordsOfPlace(hex(address, 3), session.map);
+  return wordsOfAddress(hex(address, 3), session.map);
 }
 
 /** @param {DebugSession} session */

@@ -100,10 +100,10 @@ export class MoveCommands {
     const { prompt } = this;
     const { machine, session } = prompt;
     const keys = prompt.keys.read(rest, "press");
-    for (const [at, { place }] of keys.entries()) {
+    for (const [at, { key }] of keys.entries()) {
       let why = "";
       const words = await prompt.moved(() => machine.begin(async () => {
-        const stop = await pressed(session, place, (_, tally) => machine.between(tally));
+        const stop = await pressed(session, key, (_, tally) => machine.between(tally));
         ({ why } = stop);
         return stop;
       }, () => true));
@@ -112,6 +112,6 @@ export class MoveCommands {
       prompt.tellStop(left === "" ? words : say.notPressed(words, left));
       return;
     }
-    prompt.tellStop(say.standsAt(session.placeWords));
+    prompt.tellStop(say.standsAt(session.counterWords));
   }
 }

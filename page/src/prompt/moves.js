@@ -30,23 +30,23 @@ export async function backOver(session, goesOn) {
   let depth = went.isDone && isReturn(codeHere(session)) ? 1 : 0;
   while (depth > 0) {
     went = await session.back({ kind: "change", place: "ret" }, goesOn);
-    const words = say.backInSubroutine(session.placeWords);
+    const words = say.backInSubroutine(session.counterWords);
     if (!went.isDone) return { ...went, words, isDone: true };
     const code = codeHere(session);
     depth += Number(isReturn(code)) - Number(isCall(code));
   }
-  return { ...went, words: went.isDone ? say.backAt(session.placeWords) : went.words };
+  return { ...went, words: went.isDone ? say.backAt(session.counterWords) : went.words };
 }
 
 /**
  * A key is down for a while, and up; time passes meanwhile, up to a stop.
  * @param {DebugSession} session
- * @param {string} place of the key, `0 2`, or `test 0`
+ * @param {string} key `0 2`, or `test 0`
  * @param {GoesOn} goesOn
  */
-export function pressed(session, place, goesOn) {
+export function pressed(session, key, goesOn) {
   const { queue } = session.debugger.session;
-  queue.press(place);
-  queue.release(place);
+  queue.press(key);
+  queue.release(key);
   return session.pass(DOWN_CYCLES + AFTER_CYCLES, goesOn);
 }

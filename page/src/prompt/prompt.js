@@ -86,7 +86,7 @@ export class Prompt {
   async begin() {
     this.breakpoints.takeOwn();
     await this.session.placeBreakpoints();
-    this.tellStop(say.standsAt(this.session.placeWords));
+    this.tellStop(say.standsAt(this.session.counterWords));
   }
 
   /** Others have a turn. Where nobody can stop what has no end, it ends after a while. */

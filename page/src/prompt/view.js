@@ -98,7 +98,7 @@ export class View {
   head(columns) {
     const { session, launched } = this.prompt;
     const name = launched.program.split("/").pop() || "ROM";
-    return cut(`${name}  ${session.placeWords}  ${wordsOfCycles(session.debugger.session.count.total)}`, columns).padEnd(columns);
+    return cut(`${name}  ${session.counterWords}  ${wordsOfCycles(session.debugger.session.count.total)}`, columns).padEnd(columns);
   }
 
   /** @param {number} height */

@@ -2,7 +2,7 @@
 
 import { hex, numberOf } from "../bench/numbers.js";
 import { wholeDuration } from "../debug/durations.js";
-import { placeOfAddress, placeOfLine } from "../debug/breakpoints.js";
+import { instructionOfAddress, instructionOfLine } from "../debug/breakpoints.js";
 import * as say from "../words/prompt.js";
 
 /**
@@ -45,14 +45,14 @@ export function placeIn(text, session) {
   const words = text.trim().replace(/^[^\s:]*\.[A-Za-z0-9]+:/, "");
   if (words === "") return { line: session.line, address: session.address };
   if (/^\d+$/.test(words)) {
-    const { line, address } = placeOfLine(Number(words), session.map);
+    const { line, address } = instructionOfLine(Number(words), session.map);
     if (address < 0) refuse(say.noInstructionIn(words));
     return { line, address };
   }
   const address = addressIn(words, session);
   if (address === undefined) refuse(say.noPlaceInProgram(words, say.PLACES));
   if (address > 4095) refuse(say.ADDRESS_RANGE);
-  return { line: placeOfAddress(address, session.map).line, address };
+  return { line: instructionOfAddress(address, session.map).line, address };
 }
 
 /**

@@ -98,8 +98,8 @@ class Drawing {
   }
 
   drawKeys() {
-    const keys = [...this.face.keys].map(([place, { text }]) => {
-      const [row, column] = place.split(" ").map(Number);
+    const keys = [...this.face.keys].map(([key, { text }]) => {
+      const [row, column] = key.split(" ").map(Number);
       return { row, column, legend: text };
     }).filter(({ legend }) => legend !== "");
     if (keys.length === 0) return;

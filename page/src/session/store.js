@@ -12,7 +12,7 @@ import * as say from "../words/session.js";
  * @typedef {{ id: string, name: string, file: Uint8Array, boardText: string, programText: string, testText?: string,
  *   propertiesText?: string, runs: boolean, revision: number, changed: number, cycles?: import("../time/cycles.js").KeptCycles,
  *   isTitled?: boolean, breakpoints?: import("../debug/breakpoints.js").KeptBreakpoint[], watched?: string[],
- *   goal?: import("../debug/goals.js").Goal, places?: [string, import("../board/wiring.js").Place][],
+ *   goal?: import("../debug/goals.js").Goal, places?: [string, import("../board/wiring.js").Point][],
  *   printed?: import("../worker/printing.js").Printed }} SessionRecord
  *
  * @typedef {{ keeps: boolean, isWhole: boolean, all: () => Promise<SessionRecord[]>,

@@ -53,8 +53,8 @@ function fail(words) {
 export function keysOf(face) {
   /** @type {Map<string, Key>} */
   const keys = new Map();
-  for (const [place, { text: name }] of face.keys) {
-    if (name !== "") keys.set(name, { name, press: `press ${place}`, release: `release ${place}` });
+  for (const [key, { text: name }] of face.keys) {
+    if (name !== "") keys.set(name, { name, press: `press ${key}`, release: `release ${key}` });
   }
   if (face.test && !keys.has(face.test.name)) {
     const { name, level } = face.test;

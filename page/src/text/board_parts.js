@@ -9,7 +9,7 @@ import * as say from "../words/text.js";
  * @typedef {import("./board_reader.js").Entry} Entry
  * @typedef {import("./board_reader.js").Value} Value
  * @typedef {import("./text_fault.js").Fault} Fault
- * @typedef {{ line: number, from: number, to: number }} Place
+ * @typedef {{ line: number, from: number, to: number }} Span
  */
 
 /** @type {Record<string, string>} */
@@ -17,7 +17,7 @@ const NUMBERS = { rom: "chip", ram: "bank" };
 
 /**
  * @param {number} number
- * @param {Place} place
+ * @param {Span} span
  * @param {string} words
  * @returns {Fault}
  */

@@ -5,7 +5,7 @@ import * as say from "../words/text.js";
 
 /**
  * @typedef {import("./line_editor.js").LineEditor} LineEditor
- * @typedef {{ from: number, to: number }} Place in the text
+ * @typedef {{ from: number, to: number }} Span of the text
  */
 
 /** More than so many are not counted. */
@@ -86,14 +86,14 @@ export class SearchBar {
   replaceAll() {
     const wanted = this.field.value;
     if (wanted === "") return;
-    const places = this.placesOf(wanted);
-    const count = places.length;
-    if (count > 0) this.editor.edit([...places].reverse().map((place) => ({ ...place, insert: this.other.value })));
+    const spans = this.spansOf(wanted);
+    const count = spans.length;
+    if (count > 0) this.editor.edit([...spans].reverse().map((span) => ({ ...span, insert: this.other.value })));
     this.told.set(count === 0 ? say.NOT_FOUND : say.replaced(count.toLocaleString("en")));
   }
 
   /**
-   * Selects the next place, whatever its case, or the one before; after the last one comes the first one.
+   * Selects the next span, whatever its case, or the one before; after the last one comes the first one.
    * @param {boolean} isBack
    * @param {number} from
    */
@@ -104,20 +104,20 @@ export class SearchBar {
       return;
     }
     const { editor } = this;
-    const places = this.placesOf(wanted);
-    const before = places.filter((place) => place.to <= from).pop();
-    const found = (isBack ? before : places.find((place) => place.from >= from)) || places[isBack ? places.length - 1 : 0];
-    this.told.set(found ? say.foundOf(places.indexOf(found) + 1, Math.min(MOST_COUNTED, places.length)) : say.NOT_FOUND);
+    const spans = this.spansOf(wanted);
+    const before = spans.filter((span) => span.to <= from).pop();
+    const found = (isBack ? before : spans.find((span) => span.from >= from)) || spans[isBack ? spans.length - 1 : 0];
+    this.told.set(found ? say.foundOf(spans.indexOf(found) + 1, Math.min(MOST_COUNTED, spans.length)) : say.NOT_FOUND);
     if (!found) return;
     editor.setSelection(editor.position(found.from), editor.position(found.to));
     editor.scrollIntoView(editor.position(found.to), 60);
   }
 
   /**
-   * All places of a text, whatever its case, none of which meets another one.
+   * All spans of a text, whatever its case, none of which meets another one.
    * @param {string} wanted
    */
-  placesOf(wanted) {
+  spansOf(wanted) {
     const pattern = new RegExp(wanted.replace(/[.*+?^${}()|[\]\\]/g, "\\$&"), "giu");
     return [...this.editor.getValue().matchAll(pattern)].map(({ 0: text, index = 0 }) => ({ from: index, to: index + text.length }));
   }

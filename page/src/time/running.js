@@ -149,7 +149,7 @@ export class Running {
    * @param {string} key goes down before them, "" for none
    */
   async advance(cycles, key) {
-    const arrived = key === "" ? () => {} : this.asked.send({ word: "press", place: key });
+    const arrived = key === "" ? () => {} : this.asked.send({ word: "press", key });
     const frame = await this.bench.call("advance", [cycles, key]).finally(arrived);
     this.ran(frame);
   }
@@ -278,24 +278,24 @@ export class Running {
   /**
    * A change of a key for the time that runs.
    * @param {"press" | "release" | "forget"} word
-   * @param {string} place
+   * @param {string} key
    */
-  queue(word, place) {
+  queue(word, key) {
     const { bench, current, calls } = this;
     current.touch();
-    if (word === "press" && this.clock.pressNow(place)) return;
-    const arrived = this.asked.send({ word, place });
-    bench.call(word, [place]).finally(arrived).then((waiting) => {
+    if (word === "press" && this.clock.pressNow(key)) return;
+    const arrived = this.asked.send({ word, key });
+    bench.call(word, [key]).finally(arrived).then((waiting) => {
       this.asked.waiting = waiting;
     }, calls.failed);
   }
 
   /**
    * Whether a key will be down once all is done that was asked for; while keys are as fingers put them, whether it is.
-   * @param {string} place
+   * @param {string} key
    * @param {boolean} isDown whether the bench tells that it is
    */
-  willBeDown(place, isDown) {
-    return this.clock.movesKeys ? this.asked.willBeDown(place, isDown) : isDown;
+  willBeDown(key, isDown) {
+    return this.clock.movesKeys ? this.asked.willBeDown(key, isDown) : isDown;
   }
 }

@@ -39,11 +39,11 @@ export class ToldAt {
   show(words, at) {
     this.node.textContent = words;
     this.node.hidden = false;
-    putBelow(this.node, this.placeOf(at), GAP);
+    putBelow(this.node, this.boxOf(at), GAP);
   }
 
   /** @param {HTMLElement} [at] */
-  placeOf(at) {
+  boxOf(at) {
     if (!at && performance.now() - this.pressed.time < PRESS_TIME) return { left: this.pressed.left, bottom: this.pressed.bottom + GAP };
     return (at || document.activeElement || document.body).getBoundingClientRect();
   }

@@ -1,11 +1,11 @@
 // Fingers, mouse and wheel on the waves: a click puts the cursor, a drag moves the part that is seen, two fingers zoom.
 
 /**
- * @typedef {{ x: number, y: number }} Place
+ * @typedef {{ x: number, y: number }} Point
  * @typedef {object} PointerCalls
- * @property {(place: Place, isOther: boolean) => void} click puts the cursor; with Shift the other one
- * @property {(place: Place) => boolean} holdsCursor whether a drag from there moves the cursor
- * @property {(place: Place) => void} drag moves the cursor
+ * @property {(point: Point, isOther: boolean) => void} click puts the cursor; with Shift the other one
+ * @property {(point: Point) => boolean} holdsCursor whether a drag from there moves the cursor
+ * @property {(point: Point) => void} drag moves the cursor
  * @property {(pixels: number) => void} pan
  * @property {(factor: number, x: number) => void} zoom
  */
@@ -23,7 +23,7 @@ export class WavePointers {
   constructor(node, calls) {
     this.node = node;
     this.calls = calls;
-    /** @type {Map<number, Place>} the pointers that are down */
+    /** @type {Map<number, Point>} the pointers that are down */
     this.down = new Map();
     this.begun = { x: 0, y: 0 };
     this.hasMoved = false;
@@ -37,9 +37,9 @@ export class WavePointers {
 
   /**
    * @param {MouseEvent} event
-   * @returns {Place}
+   * @returns {Point}
    */
-  placeOf(event) {
+  pointOf(event) {
     const box = this.node.getBoundingClientRect();
     return { x: event.clientX - box.left, y: event.clientY - box.top };
   }
@@ -47,50 +47,50 @@ export class WavePointers {
   /** @param {PointerEvent} event */
   begin(event) {
     if (event.button !== 0) return;
-    const place = this.placeOf(event);
+    const point = this.pointOf(event);
     this.node.setPointerCapture(event.pointerId);
-    this.down.set(event.pointerId, place);
+    this.down.set(event.pointerId, point);
     this.hasMoved = this.down.size > 1;
-    this.begun = place;
-    this.holdsCursor = this.down.size === 1 && this.calls.holdsCursor(place);
+    this.begun = point;
+    this.holdsCursor = this.down.size === 1 && this.calls.holdsCursor(point);
   }
 
   /** @param {PointerEvent} event */
   move(event) {
     const before = this.down.get(event.pointerId);
     if (!before) return;
-    const place = this.placeOf(event);
-    if (Math.abs(place.x - this.begun.x) + Math.abs(place.y - this.begun.y) > STILL) this.hasMoved = true;
+    const point = this.pointOf(event);
+    if (Math.abs(point.x - this.begun.x) + Math.abs(point.y - this.begun.y) > STILL) this.hasMoved = true;
     if (!this.hasMoved) return;
-    if (this.down.size === 2) this.pinch(event.pointerId, before, place);
-    else if (this.holdsCursor) this.calls.drag(place);
-    else this.calls.pan(before.x - place.x);
-    this.down.set(event.pointerId, place);
+    if (this.down.size === 2) this.pinch(event.pointerId, before, point);
+    else if (this.holdsCursor) this.calls.drag(point);
+    else this.calls.pan(before.x - point.x);
+    this.down.set(event.pointerId, point);
   }
 
   /**
    * @param {number} id
-   * @param {Place} before
-   * @param {Place} place
+   * @param {Point} before
+   * @param {Point} point
    */
-  pinch(id, before, place) {
+  pinch(id, before, point) {
     const [other] = [...this.down].filter(([each]) => each !== id).map(([, at]) => at);
     const old = Math.max(20, Math.abs(before.x - other.x));
-    const now = Math.max(20, Math.abs(place.x - other.x));
-    this.calls.pan((before.x - place.x) / 2);
-    this.calls.zoom(now / old, (place.x + other.x) / 2);
+    const now = Math.max(20, Math.abs(point.x - other.x));
+    this.calls.pan((before.x - point.x) / 2);
+    this.calls.zoom(now / old, (point.x + other.x) / 2);
   }
 
   /** @param {PointerEvent} event */
   end(event) {
     if (!this.down.delete(event.pointerId)) return;
-    if (!this.hasMoved) this.calls.click(this.placeOf(event), event.shiftKey);
+    if (!this.hasMoved) this.calls.click(this.pointOf(event), event.shiftKey);
   }
 
   /** @param {WheelEvent} event */
   turn(event) {
     const pans = event.shiftKey ? event.deltaY || event.deltaX : event.deltaX;
-    if (event.ctrlKey || event.metaKey) this.calls.zoom(event.deltaY < 0 ? WHEEL : 1 / WHEEL, this.placeOf(event).x);
+    if (event.ctrlKey || event.metaKey) this.calls.zoom(event.deltaY < 0 ? WHEEL : 1 / WHEEL, this.pointOf(event).x);
     else if (pans !== 0) this.calls.pan(pans);
     else return;
     event.preventDefault();

@@ -9,7 +9,7 @@ import { betweenText, cursorText, spokenText } from "./wave_words.js";
 
 /**
  * @typedef {import("./wave_canvas.js").Colours} Colours
- * @typedef {import("./wave_pointers.js").Place} Place
+ * @typedef {import("./wave_pointers.js").Point} Point
  * @typedef {import("./wave_words.js").Base} Base
  * @typedef {import("./waves.js").Waves} Waves
  */
@@ -64,7 +64,7 @@ export class WaveView {
       matchMedia(query).addEventListener("change", () => this.ask());
     }
     new WavePointers(this.canvas, {
-      click: (place, isOther) => this.click(place, isOther),
+      click: (point, isOther) => this.click(point, isOther),
       holdsCursor: ({ x, y }) => y < AXIS && x >= this.gutter,
       drag: ({ x }) => this.move(this.view.cyclesAt(x - this.gutter)),
       pan: (pixels) => this.change(() => this.view.goTo(this.view.from + (pixels / this.view.width) * this.view.span)),
@@ -192,7 +192,7 @@ export class WaveView {
   }
 
   /**
-   * @param {Place} place
+   * @param {Point} point
    * @param {boolean} isOther
    */
   click({ x, y }, isOther) {

@@ -25,7 +25,7 @@ export const REASONS = {
  * @param {string} address as it is written
  * @param {SourceMap | null} map the program that stands in ROM
  */
-export function wordsOfPlace(address, map) {
+export function wordsOfAddress(address, map) {
   const number = parseInt(address, 16);
   const line = map ? map.lineOf(number) : 0;
   const words = map && line > 0 ? [map.nameOf(number), `line ${line}`].filter(Boolean).join(", ") : "";
@@ -77,7 +77,7 @@ function whyNot(goal, why) {
 export function wordsOfLastChange(name, { isFound, why, from, to, line, cycles, address }, map) {
   if (why === "lacks") return "";
   if (!isFound) return `${name}: no change as far back as the page remembers.`;
-  const who = line ? `the line ${line}` : wordsOfPlace(hex(address, 3), map);
+  const who = line ? `the line ${line}` : wordsOfAddress(hex(address, 3), map);
   return `${name}: from ${from} to ${to} by ${who}${cycles === 0 ? "" : `, ${wordsOfCycles(cycles)} ago`}.`;
 }
 

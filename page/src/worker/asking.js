@@ -1,10 +1,10 @@
-// Steps with questions before each run, in the same call: what the bench tells that the run will do.
+// Lines with questions before each run, in the same call: what the bench tells that the run will do.
 
-import { cyclesOfStep } from "../debug/ahead.js";
+import { cyclesOfLine } from "../debug/ahead.js";
 import { Answers } from "./tracing.js";
 
 /**
- * @typedef {import("./key_queue.js").Step} Step
+ * @typedef {import("./key_queue.js").PlannedLine} PlannedLine
  *
  * Who asks: so many questions before a run of so many cycles, as lines, each answered as `trace` is; `seesChanges`: and for the state after
  * each change of a key.
@@ -12,33 +12,33 @@ import { Answers } from "./tracing.js";
  */
 
 /**
- * The lines of steps, with the questions.
- * @param {Step[]} steps
+ * The lines that are planned, with the questions.
+ * @param {PlannedLine[]} planned
  * @param {Asker[]} askers
  */
-export function askedLines(steps, askers) {
+export function askedLines(planned, askers) {
   const afterChange = askers.some(({ seesChanges }) => seesChanges) ? "state\n" : "";
-  return steps.map((step) => {
-    if (step.change) return `${step.line}\n${afterChange}`;
-    return `${askers.map((asker) => asker.questions(cyclesOfStep(step))).join("")}${step.line}\n`;
+  return planned.map((each) => {
+    if (each.change) return `${each.line}\n${afterChange}`;
+    return `${askers.map((asker) => asker.questions(cyclesOfLine(each))).join("")}${each.line}\n`;
   }).join("");
 }
 
 /**
- * Parts the answers: those to the steps and to all that comes after them; and of each asker, step by step, those to its questions.
- * @param {Step[]} steps
+ * Parts the answers: those to the lines and to all that comes after them; and of each asker, line by line, those to its questions.
+ * @param {PlannedLine[]} planned
  * @param {Asker[]} askers
  * @param {string[]} all
  * @returns {{ answers: string[], told: string[][][] }}
  */
-export function partedAnswers(steps, askers, all) {
+export function partedAnswers(planned, askers, all) {
   const answers = new Answers(all);
   /** @type {string[]} */
   const own = [];
   /** @type {string[][][]} */
   const told = askers.map(() => []);
   const seesChanges = askers.some((asker) => asker.seesChanges);
-  for (const { change } of steps) {
+  for (const { change } of planned) {
     if (change) {
       own.push(answers.take());
       const state = seesChanges ? [answers.take()] : [];

@@ -3,7 +3,7 @@
 import { CycleCount } from "./accepted.js";
 import { readBoard, refusalOf } from "../bench/answers.js";
 import { Face } from "../board/face.js";
-import { Debugger, NO_TALLY, nearOf } from "../debug/debugger.js";
+import { Debugger, NO_TALLY, bothTallies, nearOf } from "../debug/debugger.js";
 import { Exploring, readExplored, readToExplore } from "../explore/exploring.js";
 import { SourceMap } from "../machine/source_map.js";
 import { WorkerSession } from "./worker_session.js";
@@ -501,7 +501,7 @@ export class BenchCalls {
    */
   advance(cycles, key = "") {
     if (key !== "") this.press(key);
-    const { look, ...told } = this.debugger.advance(cycles);
+    const { look, ...told } = this.debugger.advance(cycles, key !== "");
     return { ...told, ...this.shown(look, false) };
   }
 
@@ -552,22 +552,22 @@ export class BenchCalls {
 
   /**
    * A key goes down while time runs; gives the changes that wait, as do the next two.
-   * @param {string} place
+   * @param {string} key
    */
-  press(place) {
-    this.session.queue.press(place);
+  press(key) {
+    this.session.queue.press(key);
     return this.session.queue.changes;
   }
 
-  /** @param {string} place */
-  release(place) {
-    this.session.queue.release(place);
+  /** @param {string} key */
+  release(key) {
+    this.session.queue.release(key);
     return this.session.queue.changes;
   }
 
-  /** @param {string} place a key whose changes that wait are forgotten */
-  forget(place) {
-    this.session.queue.forget(place);
+  /** @param {string} key a key whose changes that wait are forgotten */
+  forget(key) {
+    this.session.queue.forget(key);
     return this.session.queue.changes;
   }
 
@@ -604,7 +604,14 @@ export class BenchCalls {
    * @returns {Frame}
    */
   untold() {
-    return { ...this.fullSpeed.take(), ...this.shown(this.session.look(), false) };
+    const { tally, ...told } = this.fullSpeed.take();
+    const late = { ...NO_TALLY, usual: this.debugger.takeLate() };
+    return { ...told, tally: bothTallies(late, tally), ...this.shown(this.session.look(), false) };
+  }
+
+  /** What lamps did not wait for is done, once they are told. */
+  lookBack() {
+    if (this.opened) this.opened.lookBack();
   }
 
   /**

@@ -26,7 +26,7 @@ import { cyclesOf, piecesOf, unitsBetween } from "./units.js";
  *   end: "" | "break" | "change" | "beginning", id: number, present: import("./timeline.js").Present | null }} Aim `present` is what the
  *   session was then, where that is known
  *
- * Looks for something in the past: it begins at a moment, which is the session then; it gives the last that it finds among some steps,
+ * Looks for something in the past: it begins at a moment, which is the session then; it gives the last that it finds among some units,
  * which follow each other, and does them on that session's file.
  * @typedef {{ begin: (present: import("./timeline.js").Present) => void, among: (units: Unit[]) => Aim | null }} Finder
  */

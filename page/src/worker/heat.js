@@ -1,5 +1,5 @@
 // How often each character of RAM has changed lately, and when and by what it did last: the past is done again on a copy, and the bench
-// tells ahead what each step of it changes. A write of the same value is no change.
+// tells ahead what each unit of it changes. A write of the same value is no change.
 
 import { Cancelled } from "../bench/faults.js";
 import { hex, upTo } from "../bench/numbers.js";
@@ -69,7 +69,7 @@ export class Counting {
 
   /**
    * @param {Omit<PastChange, "unit">} change
-   * @param {number} begun the cycles that are done before its step
+   * @param {number} begun the cycles that are done before its unit
    */
   add({ group, before, after, cycles, address, line }, begun) {
     const was = valuesOf(before);
@@ -82,7 +82,7 @@ export class Counting {
   }
 
   /**
-   * Steps that are done on a file.
+   * Units that are done on a file.
    * @param {Engine} engine
    * @param {Uint8Array} file
    * @param {Unit[]} units

@@ -41,7 +41,7 @@ export class Heating {
 
   /**
    * What changed by the answers to the questions before runs; the next chip comes then.
-   * @param {string[][]} told step by step
+   * @param {string[][]} told line by line
    * @returns {PassedHeat}
    */
   take(told) {

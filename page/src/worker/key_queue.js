@@ -17,8 +17,8 @@ export function runLines(cycles) {
 }
 
 /**
- * @typedef {{ place: string, word: "press" | "release" }} Change
- * @typedef {{ line: string, change: Change | null }} Step a line: a change of a key, or a run
+ * @typedef {{ key: string, word: "press" | "release" }} Change
+ * @typedef {{ line: string, change: Change | null }} PlannedLine that is to be sent: a change of a key, or a run
  */
 
 /**
@@ -30,12 +30,12 @@ function cyclesAfter(change) {
 }
 
 /**
- * The line of such a change. The place of what is at TEST is `test 0`, with the level while it is pressed.
+ * The line of such a change. The key of what is at TEST is `test 0`, with the level while it is pressed.
  * @param {Change} change
  */
-export function lineOfChange({ word, place }) {
-  if (!place.startsWith("test ")) return `${word} ${place}`;
-  const level = Number(place.slice(5));
+export function lineOfChange({ word, key }) {
+  if (!key.startsWith("test ")) return `${word} ${key}`;
+  const level = Number(key.slice(5));
   return `test ${word === "press" ? level : 1 - level}`;
 }
 
@@ -47,22 +47,22 @@ export class KeyQueue {
     this.wait = 0;
   }
 
-  /** @param {string} place */
-  press(place) {
-    this.changes.push({ place, word: "press" });
+  /** @param {string} key */
+  press(key) {
+    this.changes.push({ key, word: "press" });
   }
 
-  /** @param {string} place */
-  release(place) {
-    this.changes.push({ place, word: "release" });
+  /** @param {string} key */
+  release(key) {
+    this.changes.push({ key, word: "release" });
   }
 
   /**
    * Forgets the changes that wait for a key.
-   * @param {string} place
+   * @param {string} key
    */
-  forget(place) {
-    this.changes = this.changes.filter((change) => change.place !== place);
+  forget(key) {
+    this.changes = this.changes.filter((change) => change.key !== key);
   }
 
   clear() {
@@ -71,39 +71,39 @@ export class KeyQueue {
   }
 
   /**
-   * The steps of so many cycles: lines of runs, and between them the changes of keys that are due.
+   * The lines of so many cycles: those of runs, and between them the changes of keys that are due.
    * @param {number} cycles
-   * @returns {Step[]}
+   * @returns {PlannedLine[]}
    */
   plan(cycles) {
-    /** @type {Step[]} */
-    const steps = [];
+    /** @type {PlannedLine[]} */
+    const planned = [];
     let { wait } = this;
     let left = cycles;
     let next = 0;
     while (left > 0) {
       const change = this.changes[next];
       if (change && wait === 0) {
-        steps.push({ line: lineOfChange(change), change });
+        planned.push({ line: lineOfChange(change), change });
         wait = cyclesAfter(change);
         next += 1;
       }
       const most = this.changes[next] ? Math.min(wait, LONGEST_RUN) : LONGEST_RUN;
       const run = Math.min(left, most);
-      steps.push({ line: `run ${run}`, change: null });
+      planned.push({ line: `run ${run}`, change: null });
       left -= run;
       wait = Math.max(0, wait - run);
     }
-    return steps;
+    return planned;
   }
 
   /**
-   * Takes note of steps that were done; the last run may have been shorter.
-   * @param {Step[]} steps
+   * Takes note of lines that were done; the last run may have been shorter.
+   * @param {PlannedLine[]} planned
    * @param {(at: number) => number} cyclesOf how many cycles a run took
    */
-  done(steps, cyclesOf) {
-    steps.forEach(({ change }, at) => {
+  done(planned, cyclesOf) {
+    planned.forEach(({ change }, at) => {
       if (change) {
         this.changes = this.changes.filter((each) => each !== change);
         this.wait = cyclesAfter(change);

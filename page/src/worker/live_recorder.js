@@ -12,7 +12,7 @@ import { RECORDED_CYCLES, RECORDED_UNITS } from "./pieces.js";
 /**
  * @typedef {import("./accepted.js").Accepted} Accepted
  * @typedef {import("./engine.js").Engine} Engine
- * @typedef {import("./key_queue.js").Step} Step
+ * @typedef {import("./key_queue.js").PlannedLine} PlannedLine
  * @typedef {import("./wave_recorder.js").Recorded} Recorded
  * @typedef {import("./wave_recorder.js").RecordedPart} RecordedPart
  * @typedef {import("./wave_recorder.js").Texts} Texts
@@ -118,17 +118,17 @@ export class LiveRecorder {
   }
 
   /**
-   * Takes what steps did; gives after how many of their cycles time stops, -1 where it goes on.
-   * @param {Step[]} steps
+   * Takes what lines did; gives after how many of their cycles time stops, -1 where it goes on.
+   * @param {PlannedLine[]} planned
    * @param {string[][]} traced
-   * @param {string[]} answers of the steps, and behind them that to `state`
+   * @param {string[]} answers of the lines, and behind them that to `state`
    */
-  take(steps, traced, answers) {
+  take(planned, traced, answers) {
     const { taking, trigger } = this;
     const begun = taking.elapsed;
     const counted = taking.moments.count;
     const counts = trigger ? trigger.members.map((member) => taking.tracks[member].moments.count) : [];
-    steps.forEach(({ change }, at) => {
+    planned.forEach(({ change }, at) => {
       const told = new Answers(traced[at]);
       if (change) {
         taking.takeState(told.take());
@@ -139,7 +139,7 @@ export class LiveRecorder {
       if (this.places) this.takeCondition(told, from);
       taking.takeEnd(readRun(answers[at]) || { cycles: 0, end: answers[at] });
     });
-    taking.takeState(answers[steps.length]);
+    taking.takeState(answers[planned.length]);
     if (trigger && trigger.edge) this.takeEdges(trigger, counts);
     else if (trigger && trigger.address >= 0) this.takeArrival(trigger.address, counted);
     return this.ended(begun, counted);
@@ -230,12 +230,12 @@ export class LiveRecorder {
       const end = Math.min(accepted.length, begun + RECORDED_UNITS);
       for (let cycles = 0; at < end && cycles < RECORDED_CYCLES; at++) cycles += accepted[at].cycles;
       const units = accepted.slice(begun, at);
-      /** @type {Step[]} */
-      const steps = units.map(({ line, cycles }) => (
-        { line: cycles > 0 ? `run ${cycles}` : line, change: cycles > 0 ? null : { place: "", word: "press" } }));
-      const served = engine.serve(file, `${askedLines(steps, [this])}state\n`, file);
-      const { told: [traced], answers } = partedAnswers(steps, [this], served.answers);
-      this.take(steps, traced, answers);
+      /** @type {PlannedLine[]} */
+      const planned = units.map(({ line, cycles }) => (
+        { line: cycles > 0 ? `run ${cycles}` : line, change: cycles > 0 ? null : { key: "", word: "press" } }));
+      const served = engine.serve(file, `${askedLines(planned, [this])}state\n`, file);
+      const { told: [traced], answers } = partedAnswers(planned, [this], served.answers);
+      this.take(planned, traced, answers);
       this.stops = false;
     }
   }

@@ -1,4 +1,4 @@
-// What changed in a stretch of the past: its steps are done again on a copy of the session, and what each will change is asked ahead.
+// What changed in a stretch of the past: its units are done again on a copy of the session, and what each will change is asked ahead.
 
 import { Answers, readTraced } from "./tracing.js";
 
@@ -7,15 +7,15 @@ import { Answers, readTraced } from "./tracing.js";
  * @typedef {import("./tracing.js").Trace} Trace
  * @typedef {import("./units.js").Unit} Unit
  *
- * A change: of which group, the rows of what is looked at before and after it, in which step, how many cycles of that are done before it,
+ * A change: of which group, the rows of what is looked at before and after it, in which unit, how many cycles of that are done before it,
  * and the address of the instruction that made it, or -1 and the command that did.
  * @typedef {{ group: number, before: string, after: string, unit: Unit, cycles: number, address: number, line: string }} PastChange
  */
 
 /**
- * What the bench tells ahead of each step, by group, and what stands at the places behind the last one.
+ * What the bench tells ahead of each unit, by group, and what stands at the places behind the last one.
  * @param {Engine} engine
- * @param {Uint8Array} file is what it is behind the steps afterwards
+ * @param {Uint8Array} file is what it is behind the units afterwards
  * @param {Unit[]} units
  * @param {string[][]} groups
  * @returns {Trace[][]}
@@ -33,7 +33,7 @@ function tracesOf(engine, file, units, groups) {
 }
 
 /**
- * Does steps of the past on a file, and tells each change of what is looked at.
+ * Does units of the past on a file, and tells each change of what is looked at.
  * @param {Engine} engine
  * @param {Uint8Array} file
  * @param {Unit[]} units

@@ -4,7 +4,7 @@
 const PIECE_TIME = 40;
 /** The first piece where cycles are gone through one by one. */
 export const FIRST_CYCLES = 1000;
-/** So many cycles, and so many steps, are looked through at once, of the past or ahead. */
+/** So many cycles, and so many units, are looked through at once, of the past or ahead. */
 export const LOOKED_CYCLES = 400000;
 export const LOOKED_UNITS = 500;
 /** And so many are recorded. */

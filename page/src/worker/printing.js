@@ -8,7 +8,7 @@ import { Answers, readTraced, valuesOf } from "./tracing.js";
 /**
  * @typedef {import("./accepted.js").Accepted} Accepted
  * @typedef {import("./engine.js").Engine} Engine
- * @typedef {import("./key_queue.js").Step} Step
+ * @typedef {import("./key_queue.js").PlannedLine} PlannedLine
  *
  * The lines of a printer, its strobe and the port of its code, and what was sent: each code with the cycles that were counted when it came.
  * @typedef {{ strobe: string, port: string, codes: [number, number][] }} Printed
@@ -81,7 +81,7 @@ export class Printing {
 
   /**
    * Takes what was sent, by the answers to the questions before runs; what an instruction changes is there once its first cycle is over.
-   * @param {string[][]} told step by step
+   * @param {string[][]} told line by line
    * @param {number} total the cycles that were counted before them
    */
   take(told, total) {
@@ -116,8 +116,8 @@ export class Printing {
       const end = Math.min(accepted.length, begun + RECORDED_UNITS);
       let cycles = 0;
       for (; at < end && cycles < RECORDED_CYCLES; at++) cycles += accepted[at].cycles;
-      const steps = accepted.slice(begun, at).map(stepOf);
-      const { told: [told] } = partedAnswers(steps, [this], engine.serve(file, askedLines(steps, [this]), file).answers);
+      const planned = accepted.slice(begun, at).map(plannedOf);
+      const { told: [told] } = partedAnswers(planned, [this], engine.serve(file, askedLines(planned, [this]), file).answers);
       this.take(told, before);
       before += cycles;
     }
@@ -126,8 +126,8 @@ export class Printing {
 
 /**
  * @param {Accepted} accepted
- * @returns {Step}
+ * @returns {PlannedLine}
  */
-function stepOf({ line, cycles }) {
-  return { line: cycles > 0 ? `run ${cycles}` : line, change: cycles > 0 ? null : { place: "", word: "press" } };
+function plannedOf({ line, cycles }) {
+  return { line: cycles > 0 ? `run ${cycles}` : line, change: cycles > 0 ? null : { key: "", word: "press" } };
 }

@@ -24,7 +24,7 @@ import { Answers, readTraced } from "./tracing.js";
 
 /** An eye needs 30 ms, which are so many cycles in real time. */
 export const CYCLES_OF_EYE = 2778;
-/** Of steps that have more cycles nobody is asked: time at full speed is looked at in another way. */
+/** Of lines that have more cycles nobody is asked: time at full speed is looked at in another way. */
 export const MOST_SHONE = 20000;
 
 /**
@@ -200,7 +200,7 @@ export class Shining {
 
   /**
    * What was lit by the answers to the questions before runs.
-   * @param {string[][]} told step by step
+   * @param {string[][]} told line by line
    * @returns {Shone}
    */
   take(told) {

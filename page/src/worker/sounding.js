@@ -30,7 +30,7 @@ export class Sounding {
 
   /**
    * What the line was by the answers to the questions before runs; what an instruction changes is there once its first cycle is over.
-   * @param {string[][]} told step by step
+   * @param {string[][]} told line by line
    * @returns {Heard}
    */
   take(told) {

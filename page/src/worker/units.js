@@ -1,4 +1,4 @@
-// The past once more, in steps: the commands from one moment to a later one, and the cycles between them.
+// The past once more, in units: the commands from one moment to a later one, and the cycles between them.
 
 /**
  * @typedef {import("./timeline.js").Moment} Moment
@@ -7,7 +7,7 @@
  */
 
 /**
- * The steps from one moment to a later one of the same segment.
+ * The units from one moment to a later one of the same segment.
  * @param {Timeline} timeline
  * @param {Moment} from
  * @param {Moment} to
@@ -28,7 +28,7 @@ export function unitsBetween(timeline, from, to) {
 }
 
 /**
- * The same steps, those of many cycles in parts.
+ * The same units, those of many cycles in parts.
  * @param {Unit[]} units
  * @param {number} most so many cycles a part has
  */
@@ -51,7 +51,7 @@ export function cyclesOf(units) {
 }
 
 /**
- * Steps in pieces of about so many cycles, and at most so many steps.
+ * Units in pieces of about so many cycles, and at most so many of them.
  * @param {Unit[]} units
  * @param {number} most
  * @param {number} mostUnits

@@ -55,7 +55,7 @@ class WaveRecorder {
   }
 
   /**
-   * Does steps.
+   * Does units of the past.
    * @param {Pick<Unit, "line" | "cycles">[]} units
    */
   record(units) {

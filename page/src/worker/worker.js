@@ -103,6 +103,7 @@ class BenchWorker {
       const result = await (/** @type {any} */ (this.calls))[call](...words);
       if (pressesKey(call, words)) this.tellEarly({ kind: "early", number, result });
       this.tell({ kind: "reply", number, result }, result && result.file instanceof ArrayBuffer ? [result.file] : []);
+      if (pressesKey(call, words)) this.calls.lookBack();
     } catch (fault) {
       this.tell({ kind: "reply", number, fault: packFault(fault) });
     }

@@ -2,7 +2,7 @@
 
 import { CycleCount, acceptedOf } from "./accepted.js";
 import { askedLines, partedAnswers } from "./asking.js";
-import { cyclesOfStep, stepsUpTo } from "../debug/ahead.js";
+import { cyclesOfLine, linesUpTo } from "../debug/ahead.js";
 import { isStop, readBoard, readMarks, readRun, refusalOf } from "../bench/answers.js";
 import { Cancelled } from "../bench/faults.js";
 import { endOfInputs, linesOf, matchAnswers, readInputs } from "../bench/inputs.js";
@@ -18,7 +18,7 @@ import { SEGMENT_ENTRIES, Timeline } from "./timeline.js";
  * @typedef {import("./engine.js").Engine} Engine
  * @typedef {import("./engine.js").Served} Served
  * @typedef {import("../bench/inputs.js").Input} Input
- * @typedef {import("./key_queue.js").Step} Step
+ * @typedef {import("./key_queue.js").PlannedLine} PlannedLine
  * @typedef {import("./live_recorder.js").LiveRecorder} LiveRecorder
  * @typedef {import("./heating.js").Heating} Heating
  * @typedef {import("./heating.js").PassedHeat} PassedHeat
@@ -125,20 +125,20 @@ export class WorkerSession {
   }
 
   /**
-   * Does steps of the queue's plan, and looks.
-   * @param {Step[]} planned
+   * Does lines of the queue's plan, and looks.
+   * @param {PlannedLine[]} planned
    * @returns {Frame}
    */
   advanceBy(planned) {
-    const { steps, answers, look, sensed } = this.serveSteps(planned);
+    const { done, answers, look, sensed } = this.servePlanned(planned);
     this.adopt();
     const runs = answers.map(readRun);
     /** @type {(at: number) => number} */
     const cyclesOf = (at) => (runs[at] || { cycles: 0 }).cycles;
-    this.queue.done(steps, cyclesOf);
-    const accepted = steps.map(({ line }, at) => ({ line, cycles: cyclesOf(at), resets: false }));
+    this.queue.done(done, cyclesOf);
+    const accepted = done.map(({ line }, at) => ({ line, cycles: cyclesOf(at), resets: false }));
     this.record(accepted.filter((_, at) => refusalOf(answers[at]) === null));
-    const ran = steps.map(({ line, change }, at) => (
+    const ran = done.map(({ line, change }, at) => (
       { line, answer: answers[at], runs: change ? 0 : 1, cycles: cyclesOf(at) }));
     const last = answers[answers.length - 1] || "";
     if (isStop(last)) this.timeline.stop();
@@ -146,7 +146,7 @@ export class WorkerSession {
       ran,
       cycles: runs.reduce((sum, run) => sum + (run ? run.cycles : 0), 0),
       end: isStop(last) ? last : "",
-      changesKeys: steps.some((step) => step.change !== null),
+      changesKeys: done.some((each) => each.change !== null),
       look,
       ...sensed,
     };
@@ -198,35 +198,35 @@ export class WorkerSession {
   }
 
   /**
-   * Serves steps up to the first run that stops early, or a refusal. Whether there is one shows only in the answers; then what came of
-   * the call is not taken, and the steps up to there are served alone.
-   * @param {Step[]} steps
+   * Serves lines up to the first run that stops early, or a refusal. Whether there is one shows only in the answers; then what came of
+   * the call is not taken, and the lines up to there are served alone.
+   * @param {PlannedLine[]} planned
    */
-  serveSteps(steps) {
-    let served = this.trySteps(steps);
-    const stop = served.answers.findIndex((answer, at) => at < steps.length && isStop(answer));
-    let done = steps;
-    if (stop >= 0 && stop < steps.length - 1) {
-      done = steps.slice(0, stop + 1);
-      served = this.trySteps(done);
+  servePlanned(planned) {
+    let served = this.tryPlanned(planned);
+    const stop = served.answers.findIndex((answer, at) => at < planned.length && isStop(answer));
+    let done = planned;
+    if (stop >= 0 && stop < planned.length - 1) {
+      done = planned.slice(0, stop + 1);
+      served = this.tryPlanned(done);
     }
     const { recording } = this;
     const cut = recording ? recording.take(done, served.traced, served.answers) : -1;
     if (cut >= 0) {
-      done = stepsUpTo(done, cut);
-      served = this.trySteps(done);
+      done = linesUpTo(done, cut);
+      served = this.tryPlanned(done);
     }
     const answers = served.answers.slice(0, done.length);
     const look = lookOf(this.lookQuestions.inputs, served.answers.slice(done.length));
-    return { steps: done, answers, look, sensed: served.sense() };
+    return { done, answers, look, sensed: served.sense() };
   }
 
   /**
-   * What adds up what is lit in some steps, what a line does, and what changes; null where nobody asks, or they are too many for an eye.
-   * @param {Step[]} steps
+   * What adds up what is lit in some lines, what a line does, and what changes; null where nobody asks, or they are too many for an eye.
+   * @param {PlannedLine[]} planned
    */
-  sensesIn(steps) {
-    const areFew = steps.reduce((sum, step) => sum + cyclesOfStep(step), 0) <= MOST_SHONE;
+  sensesIn(planned) {
+    const areFew = planned.reduce((sum, each) => sum + cyclesOfLine(each), 0) <= MOST_SHONE;
     const { shining, sounding, heating } = this;
     return areFew ? { shining, sounding, heating } : { shining: null, sounding: null, heating: null };
   }
@@ -240,14 +240,14 @@ export class WorkerSession {
     };
   }
 
-  /** @param {Step[]} steps */
-  trySteps(steps) {
+  /** @param {PlannedLine[]} planned */
+  tryPlanned(planned) {
     const { recording, printing } = this;
-    const { shining, sounding, heating } = this.sensesIn(steps);
+    const { shining, sounding, heating } = this.sensesIn(planned);
     /** @type {import("./asking.js").Asker[]} */
     const askers = [printing, shining, sounding, heating, recording].flatMap((asker) => asker || []);
-    const lines = askedLines(steps, askers) + this.lookQuestions.lines;
-    const { answers, told } = partedAnswers(steps, askers, this.engine.serve(this.file, lines, this.next).answers);
+    const lines = askedLines(planned, askers) + this.lookQuestions.lines;
+    const { answers, told } = partedAnswers(planned, askers, this.engine.serve(this.file, lines, this.next).answers);
     /** @type {(asker: import("./asking.js").Asker) => string[][]} */
     const toldTo = (asker) => told[askers.indexOf(asker)];
     const sense = () => {

@@ -7,7 +7,7 @@ use Rattle.mcs_bench.proofs.chip_list.set.Goals as goal
 pub returns-in-RomBytes : goal.returns-in-RomBytes
 returns-in-RomBytes c =
     let s = c.args.rig.now in
-    let place = subst (λ (h : ChipList). c.args.i < count_of h) c.in-RomBytes.is c.requires.place in
+    let place = subst (λ (h : ChipList). c.args.i < count_of h) c.in-RomBytes.is c.requires.index in
     let at : c.plus.result ≡ c.args.i = omega arith in
     c.set_rom_byte.ensures ∙ set-rom s c.args.i c.plus.result c.args.n at ∙ ap (λ (h : ChipList). with_cell s h c.args.i c.args.n) (sym c.in-RomBytes.is)
 

@@ -1,5 +1,5 @@
 use Rattle.std.proofs.Common.{◌≡◌, drop}
-use Rattle.mcs_model.specs.Places.{with_rom_bytes}
+use Rattle.mcs_model.specs.ChipWrites.{with_rom_bytes}
 use Rattle.mcs_bench.proofs.commands.load.Given as goal
 
 abbrev pub invariant-loop-pair : goal.invariant-loop-pair

@@ -1,6 +1,6 @@
 use Rattle.std.proofs.Common.{◌≡◌, ◌∙◌, ◌/◌, ◌%◌, ℕ, List, ap, arith, length, length-take-le, take, get_or}
 use Rattle.mcs_model.specs.Listed.{with_listed}
-use Rattle.mcs_model.specs.Bus.{ram_place}
+use Rattle.mcs_model.specs.Bus.{ram_index}
 use Rattle.mcs_bench.proofs.Marks.{with-next, room-of}
 use Rattle.mcs_bench.proofs.restoring.watches.Goals as goal
 
@@ -9,8 +9,8 @@ loop-at-preserved c =
     let list : List ℕ = c.args.list.now in
     let i : ℕ = c.loop-at.at-index in
     let x : ℕ = get_or list i 0 in
-    let same : ram_place (x / 256) (x % 256) ≡ x = omega arith in
-    c.set.ensures ∙ ap (λ (xs : List ℕ). with_listed xs (ram_place (x / 256) (x % 256))) c.loop-at.invariant ∙ ap (with_listed (take i list)) same ∙ with-next list i c.requires.rising c.loop-at-test.true
+    let same : ram_index (x / 256) (x % 256) ≡ x = omega arith in
+    c.set.ensures ∙ ap (λ (xs : List ℕ). with_listed xs (ram_index (x / 256) (x % 256))) c.loop-at.invariant ∙ ap (with_listed (take i list)) same ∙ with-next list i c.requires.rising c.loop-at-test.true
 
 pub set-requires-clause-room : goal.set-requires-clause-room
 set-requires-clause-room c =

@@ -8,7 +8,7 @@ use Rattle.mcs_model.specs.declared.op.Op.{Op}
 use Rattle.mcs_model.specs.declared.op.Op.TheVariants.{Wrm}
 use Rattle.mcs_model.specs.Effect.{instruction_at}
 use Rattle.mcs_model.specs.Running.{Machine}
-use Rattle.mcs_bench.specs.Runs.{selected_place}
+use Rattle.mcs_bench.specs.Runs.{selected_index}
 use Rattle.mcs_bench.proofs.Runs.{told-new, told-same}
 use Rattle.mcs_bench.proofs.running.will_change.Goals as goal
 
@@ -26,7 +26,7 @@ returns-then-eq c =
     let dcl : c.regs-regs.result.dcl ≡ c.args.cpu.now.dcl = ap (λ (r : Regs). r.dcl) c.regs-regs.ensures.same in
     let acc : c.regs-regs.result.acc ≡ c.args.cpu.now.acc = ap (λ (r : Regs). r.acc) c.regs-regs.ensures.same in
     let src : c.ram_src-src.result ≡ slice_index c.args.rig.now.ram_src c.args.cpu.now.dcl = c.ram_src-src.ensures ∙ ap (slice_index c.args.rig.now.ram_src) dcl in
-    let place : c.regs-regs.result.dcl * 256 + c.ram_src-src.result ≡ selected_place t = cc (dcl, src) in
+    let place : c.regs-regs.result.dcl * 256 + c.ram_src-src.result ≡ selected_index t = cc (dcl, src) in
     let same : c.ram.result ≡ c.regs-regs.result.acc = eqb-true c.ram.result c.regs-regs.result.acc (sym c.eq.ensures ∙ c.if-eq.true) in
     told-same c.args.watches.now t writes
     (ap (slice_index c.args.rig.now.ram) (sym place) ∙ sym c.ram.ensures ∙ same ∙ acc)
@@ -39,12 +39,12 @@ returns c =
     let dcl : c.regs-regs.result.dcl ≡ c.args.cpu.now.dcl = ap (λ (r : Regs). r.dcl) c.regs-regs.ensures.same in
     let acc : c.regs-regs.result.acc ≡ c.args.cpu.now.acc = ap (λ (r : Regs). r.acc) c.regs-regs.ensures.same in
     let src : c.ram_src-src.result ≡ slice_index c.args.rig.now.ram_src c.args.cpu.now.dcl = c.ram_src-src.ensures ∙ ap (slice_index c.args.rig.now.ram_src) dcl in
-    let place : c.regs-regs.result.dcl * 256 + c.ram_src-src.result ≡ selected_place t = cc (dcl, src) in
-    let new : eqb (slice_index c.args.rig.now.ram (selected_place t)) c.args.cpu.now.acc ≡ false = ap (λ p. eqb (slice_index c.args.rig.now.ram p) c.args.cpu.now.acc) (sym place) ∙ ap (λ n. eqb n c.args.cpu.now.acc) (sym c.ram.ensures) ∙ ap (eqb c.ram.result) (sym acc) ∙ sym c.eq.ensures ∙ c.if-eq.false in
+    let place : c.regs-regs.result.dcl * 256 + c.ram_src-src.result ≡ selected_index t = cc (dcl, src) in
+    let new : eqb (slice_index c.args.rig.now.ram (selected_index t)) c.args.cpu.now.acc ≡ false = ap (λ p. eqb (slice_index c.args.rig.now.ram p) c.args.cpu.now.acc) (sym place) ∙ ap (λ n. eqb n c.args.cpu.now.acc) (sym c.ram.ensures) ∙ ap (eqb c.ram.result) (sym acc) ∙ sym c.eq.ensures ∙ c.if-eq.false in
     let count = c.show_state_is_valid.ensures.in_range.ram.count_is in
     let few = c.regs-regs.ensures.dcl in
     let byte = c.ram_src-src.type_inv in
-    let inside : selected_place t < length c.args.rig.now.ram = omega (arith, place, count, few, byte) in
+    let inside : selected_index t < length c.args.rig.now.ram = omega (arith, place, count, few, byte) in
     let chips : c.bank_chips.result ≡ slice_index c.args.rig.now.board.banks c.args.cpu.now.dcl = c.bank_chips.ensures ∙ ap (λ (b : BoardParts). slice_index b.banks c.regs-regs.result.dcl) c.board.ensures ∙ ap (slice_index c.args.rig.now.board.banks) dcl in
     let there : has_chip c.args.rig.now c.args.cpu.now.dcl (src_of c.args.rig.now c.args.cpu.now.dcl) ≡ nat_lt (c.ram_src-src.result / 64) c.bank_chips.result = ap (λ n. nat_lt (n / 64) (slice_index c.args.rig.now.board.banks c.args.cpu.now.dcl)) (sym src) ∙ ap (nat_lt (c.ram_src-src.result / 64)) (sym chips) in
     told-new c.args.watches.now t _ writes

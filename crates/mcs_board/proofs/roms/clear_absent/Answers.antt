@@ -2,7 +2,7 @@ use Rattle.std.proofs.Common.{◌≡◌, ◌∙◌, ℕ, ◌/◌, ◌<◌, List,
 use Rattle.mcs_nibble.proofs.TabledLemmas.{tabled_from}
 use Rattle.mcs_model.specs.declared.board.BoardParts.{BoardParts}
 use Rattle.mcs_model.specs.Boards.{masks_on}
-use Rattle.mcs_model.specs.Places.{kept_rom}
+use Rattle.mcs_model.specs.ChipWrites.{kept_rom}
 use Rattle.mcs_board.proofs.roms.clear_absent.Goals as goal
 
 all_cleared : (b : BoardParts) (old new : List ℕ) → length new ≡ 4096 → ((k : ℕ) → k < 4096 → get_or new k 0 ≡ (if is_some (masks_on b (k / 256)) then get_or old k 0 else 0)) → new ≡ kept_rom b old

@@ -3,4 +3,4 @@ use Rattle.mcs_model.specs.Boards.{masks_on}
 use Rattle.mcs_board.proofs.roms.roms_fit.Given as goal
 
 abbrev pub invariant-loop-i : goal.invariant-loop-i
-invariant-loop-i l = (k : ℕ) → l.places ≤ k → k < l.i → masks_on l.board k ≡ None
+invariant-loop-i l = (k : ℕ) → l.sockets ≤ k → k < l.i → masks_on l.board k ≡ None

@@ -21,4 +21,4 @@ returns-in-Ok-Err g c =
 
 pub returns-in-Err : goal.returns-in-Err
 returns-in-Err g c =
-    answered_as _ _ _ (Text c.args.kind c.args.text.now) _ _ (is_judged c.args.kind c.args.text.now None (search rules)) (answered_no_memory _ (Text c.args.kind c.args.text.now) _ refl c.tell_refusal-in-Err.ensures)
+    answered_as _ _ _ (Text c.args.kind c.args.text.now) _ _ (is_judged c.args.kind c.args.text.now None (search rules)) (answered_no_memory _ (Text c.args.kind c.args.text.now) _ refl c.set_refusal-in-Err.ensures)

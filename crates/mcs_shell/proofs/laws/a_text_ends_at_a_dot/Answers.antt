@@ -5,7 +5,7 @@ use Rattle.mcs_model.specs.TextLines.{as_line}
 use Rattle.mcs_shell.specs.Inputs.{is_dot_line, judged_text}
 use Rattle.mcs_shell.specs.Pending.{Commands, InText, inputs_from}
 use Rattle.mcs_shell.proofs.LineFeeds.{at_dots, group-dot, group-line, group-begun}
-use Rattle.mcs_shell.proofs.StepLists.{or_false}
+use Rattle.mcs_shell.proofs.ExchangeLists.{or_false}
 use Rattle.mcs_shell.proofs.laws.a_text_ends_at_a_dot.Goals as goal
 
 -- these lines, each followed by a line feed

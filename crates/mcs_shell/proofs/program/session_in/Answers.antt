@@ -7,11 +7,11 @@ use Rattle.mcs_host.specs.declared.arguments.Choice.{Choice}
 use Rattle.mcs_session.specs.SessionState.{SessionView}
 use Rattle.mcs_shell.specs.Program.{IsBegunOn, IsRefusedBy}
 use Rattle.mcs_shell.specs.RefusalNumbers.{begin_fault_number}
-use Rattle.mcs_shell.specs.declared.program.Refused.{Refused}
+use Rattle.mcs_shell.specs.declared.program.NotBegun.{NotBegun}
 use Rattle.mcs_shell.specs.declared.faults.BeginFault.TheVariants as begin_fault
 use Rattle.mcs_shell.proofs.program.session_in.Goals as goal
 
-begun_on : (choice : Choice) (opened : Result FileDisk FileFault) (result : Result (SessionView FileDisk) (Refused FileDisk))
+begun_on : (choice : Choice) (opened : Result FileDisk FileFault) (result : Result (SessionView FileDisk) (NotBegun FileDisk))
     → IfOk opened (λ disk. IsUncalled (as_disk disk))
     → IfOk opened (λ disk. IfOk result (λ s. IsBegunOn as_disk choice disk s))
     → IfErr opened (λ fault. IsErrAnd result (λ r. r.fault ≡ begin_fault.File fault))
@@ -21,7 +21,7 @@ begun_on choice (Ok disk) (Err r) is begun none = tt
 begun_on choice (Err fault) (Ok s) is begun none = absurd none
 begun_on choice (Err fault) (Err r) is begun none = tt
 
-refused_on : (choice : Choice) (opened : Result FileDisk FileFault) (result : Result (SessionView FileDisk) (Refused FileDisk))
+refused_on : (choice : Choice) (opened : Result FileDisk FileFault) (result : Result (SessionView FileDisk) (NotBegun FileDisk))
     → IfOk opened (λ disk. IsUncalled (as_disk disk))
     → IfOk opened (λ disk. IfErr result (λ r. IsSomeAnd r.disk (λ left. IsRefusedBy choice (as_disk disk) (as_disk left) (begin_fault_number r.fault))))
     → IfErr opened (λ fault. IsErrAnd result (λ r. r.fault ≡ begin_fault.File fault))

@@ -1,7 +1,7 @@
 use Rattle.std.proofs.Common.{rules, sym, ◌∙◌, ap}
 use Rattle.mcs_shell.specs.Inputs.{text_begun}
 use Rattle.mcs_shell.proofs.LineFeeds.{not_begun}
-use Rattle.mcs_shell.proofs.Steps.{feeds_begun, feeds_command, feeds_line, feeds_text}
+use Rattle.mcs_shell.proofs.Exchanges.{feeds_begun, feeds_command, feeds_line, feeds_text}
 use Rattle.mcs_shell.proofs.serving.end_line.Goals as goal
 
 pub returns-in-Begin-clause-fed : goal.returns-in-Begin-clause-fed

@@ -1,6 +1,6 @@
 use Rattle.std.proofs.Common.{rules, refl, ◌≡◌, ◌++◌, ◌∷◌}
 use Rattle.mcs_shell.specs.LineFeeds.{HasNoFeed}
-use Rattle.mcs_shell.proofs.Steps.{halted_line, kept_feed, served_rest, served_to_line, served_to_nothing}
+use Rattle.mcs_shell.proofs.Exchanges.{halted_line, kept_feed, served_rest, served_to_line, served_to_nothing}
 use Rattle.mcs_shell.proofs.serving.serve_chunk.Goals as goal
 
 pub loop-front-init : goal.loop-front-init

@@ -1,6 +1,6 @@
 use Rattle.std.proofs.Common.{◌≡◌, length}
 use Rattle.mcs_shell.specs.ShellState.{shell_state}
-use Rattle.mcs_shell.proofs.Steps.{ServedTo}
+use Rattle.mcs_shell.proofs.Exchanges.{ServedTo}
 use Rattle.mcs_shell.proofs.serving.serve_chunk.Given as goal
 
 abbrev pub invariant-loop-front : goal.invariant-loop-front

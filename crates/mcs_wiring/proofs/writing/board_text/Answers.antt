@@ -2,7 +2,8 @@ use Rattle.std.proofs.Common.{◌∙◌, ◌++◌, [], string_bytes, ap}
 use Rattle.std.specs.List.{flat_map}
 use Rattle.std.specs.Option.{option_map_or}
 use Rattle.mcs_model.specs.declared.board.BoardParts.{BoardParts}
-use Rattle.mcs_wiring.specs.BoardText.{chain_lines, matrix_lines, lamp_lines, text_of}
+use Rattle.mcs_wiring.specs.BoardText.{chain_lines, matrix_lines, lamp_lines}
+use Rattle.mcs_model.specs.TextLines.{text_of}
 use Rattle.mcs_wiring.proofs.PartTexts.{board_is}
 use Rattle.mcs_wiring.proofs.writing.board_text.Goals as goal
 

@@ -1,6 +1,7 @@
 use Rattle.std.proofs.Common.{arith}
 use Rattle.mcs_model.specs.Boards.{no_chain}
-use Rattle.mcs_wiring.specs.BoardText.{chain_lines, text_of}
+use Rattle.mcs_wiring.specs.BoardText.{chain_lines}
+use Rattle.mcs_model.specs.TextLines.{text_of}
 use Rattle.mcs_wiring.proofs.PartTexts.{list_step}
 use Rattle.mcs_wiring.proofs.writing.push_chains.Goals as goal
 

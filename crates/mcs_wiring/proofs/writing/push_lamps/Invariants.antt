@@ -1,6 +1,7 @@
 use Rattle.std.proofs.Common.{◌≡◌, ◌++◌, string_bytes, take}
 use Rattle.std.specs.List.{flat_map}
-use Rattle.mcs_wiring.specs.BoardText.{lamp_lines, text_of}
+use Rattle.mcs_wiring.specs.BoardText.{lamp_lines}
+use Rattle.mcs_model.specs.TextLines.{text_of}
 use Rattle.mcs_wiring.proofs.writing.push_lamps.Given as goal
 
 abbrev pub invariant-loop-line : goal.invariant-loop-line

@@ -1,5 +1,6 @@
 use Rattle.std.proofs.Common.{◌∙◌, ◌++◌, string_bytes, sym, ap}
-use Rattle.mcs_wiring.specs.BoardText.{rom_lines, text_of}
+use Rattle.mcs_wiring.specs.BoardText.{rom_lines}
+use Rattle.mcs_model.specs.TextLines.{text_of}
 use Rattle.mcs_wiring.proofs.PartTexts.{rom_is}
 use Rattle.mcs_wiring.proofs.writing.push_rom.Goals as goal
 

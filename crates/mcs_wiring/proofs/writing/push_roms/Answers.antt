@@ -1,5 +1,6 @@
 use Rattle.std.proofs.Common.{ap}
-use Rattle.mcs_wiring.specs.BoardText.{rom_lines, text_of}
+use Rattle.mcs_wiring.specs.BoardText.{rom_lines}
+use Rattle.mcs_model.specs.TextLines.{text_of}
 use Rattle.mcs_wiring.specs.Flaws.{rom_text}
 use Rattle.mcs_wiring.proofs.PartTexts.{step}
 use Rattle.mcs_wiring.proofs.writing.push_roms.Goals as goal

@@ -1,5 +1,5 @@
 use Rattle.std.proofs.Common.{◌≡◌, ◌∙◌, sym}
-use Rattle.mcs_asm.specs.ByteMap.{cells_after}
+use Rattle.mcs_asm.specs.ByteCells.{cells_after}
 use Rattle.mcs_asm.proofs.SpelledLists.{free_goes}
 use Rattle.mcs_asm.proofs.passes.SpelledLines.add.Goals as goal
 

@@ -4,4 +4,4 @@ use Rattle.mcs_bench.proofs.Marks.{few-less}
 use Rattle.mcs_bench.proofs.watches.Watches.clear.Goals as goal
 
 pub invariant_of-self : goal.invariant_of-self
-invariant_of-self c = subst AreFew (sym c.clear.ensures) (few-less c.self.inside.places c.place_of.result c.self.invariant)
+invariant_of-self c = subst AreFew (sym c.clear.ensures) (few-less c.self.inside.indices c.index_of.result c.self.invariant)

@@ -1,6 +1,6 @@
 use Rattle.std.proofs.Common.{◌≡◌, ◌∙◌, refl, sym, ap, arith, length, ℕ}
 use Rattle.std.proofs.lemmas.Bool.{eqb-true}
-use Rattle.mcs_model.specs.Places.{after_reset}
+use Rattle.mcs_model.specs.ChipWrites.{after_reset}
 use Rattle.std.proofs.Common.{replicate}
 use Rattle.mcs_board.specs.RigState.{no_bank}
 use Rattle.std.proofs.Common.{get_or}

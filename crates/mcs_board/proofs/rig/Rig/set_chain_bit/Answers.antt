@@ -3,7 +3,7 @@ use Rattle.std.proofs.lemmas.List.{get_or_default, length-set}
 use Rattle.mcs_model.specs.declared.board.ChainPart.{ChainPart}
 use Rattle.mcs_model.specs.Boards.{chain_count, chain_bits}
 use Rattle.mcs_model.specs.Bus.{BusState}
-use Rattle.mcs_model.specs.Places.{with_chain_bit}
+use Rattle.mcs_model.specs.ChipWrites.{with_chain_bit}
 use Rattle.mcs_board.specs.RigFields.{rig_parts}
 use Rattle.mcs_board.proofs.ClockLemmas.{chain-read, chain-write}
 use Rattle.mcs_board.proofs.FittedLemmas.{fitted-chain}
@@ -16,8 +16,8 @@ returns-then-n-chain_count g c =
     let many : length c.args.self.now.chains ≡ chain_count i.board = ap (λ (s : BusState). length s.chains) (sym c.self.view_is) ∙ chains-length i.board i.chains.items in
     bit-no_chain c.args.self.now c.args.chain c.args.i c.args.bit (omega arith)
 
-pub returns-then-place-from : goal.returns-then-place-from
-returns-then-place-from g c =
+pub returns-then-index-from : goal.returns-then-index-from
+returns-then-index-from g c =
     let i = c.self.inside in
     let s = c.args.self.now in
     let within : c.args.chain < chain_count i.board = omega arith in
@@ -31,7 +31,7 @@ invariant_of-self g c =
     let i = c.self.inside in
     let there : c.from-n.result < length i.chains.items = omega (arith, c.self.invariant.chains_len, c.self.invariant.chains_fit) in
     let row : c.index_mut.result.now ≡ get_or i.chains.items c.from-n.result [] = c.index_mut.ensures.value ∙ get_or_default i.chains.items c.from-n.result c.index_mut.result.now [] there in
-    fitted-chain c.self.invariant c.from-n.result c.set_bit.new.self there (ap length c.set_bit.ensures ∙ length-set c.index_mut.result.now c.from-place.result c.args.bit ∙ ap length row)
+    fitted-chain c.self.invariant c.from-n.result c.set_bit.new.self there (ap length c.set_bit.ensures ∙ length-set c.index_mut.result.now c.from-index.result c.args.bit ∙ ap length row)
 
 pub returns : goal.returns
 returns g c =
@@ -41,12 +41,12 @@ returns g c =
     let within : n < chain_count i.board = omega arith in
     let there : n < length i.chains.items = omega (arith, c.self.invariant.chains_len, c.self.invariant.chains_fit) in
     let row : c.index_mut.result.now ≡ get_or s.chains n [] = c.index_mut.ensures.value ∙ get_or_default i.chains.items n c.index_mut.result.now [] there ∙ sym (chain-read i.board i.chains.items n within) ∙ ap (λ (t : BusState). get_or t.chains n []) c.self.view_is in
-    let new : c.set_bit.new.self ≡ slice_set (get_or s.chains n []) c.from-place.result c.args.bit = c.set_bit.ensures ∙ ap (λ xs. slice_set xs c.from-place.result c.args.bit) row in
+    let new : c.set_bit.new.self ≡ slice_set (get_or s.chains n []) c.from-index.result c.args.bit = c.set_bit.ensures ∙ ap (λ xs. slice_set xs c.from-index.result c.args.bit) row in
     chain-write (rig_parts i) n c.set_bit.new.self within there
     ∙ ap (λ (t : BusState). record t { chains = slice_set t.chains n c.set_bit.new.self }) c.self.view_is
     ∙ ap (λ d. record s { chains = slice_set s.chains n d }) new
-    ∙ ap (λ k. with_chain_bit s k c.from-place.result c.args.bit) c.from-n.ensures
-    ∙ ap (λ k. with_chain_bit s c.args.chain k c.args.bit) c.from-place.ensures
+    ∙ ap (λ k. with_chain_bit s k c.from-index.result c.args.bit) c.from-n.ensures
+    ∙ ap (λ k. with_chain_bit s c.args.chain k c.args.bit) c.from-index.ensures
 
 pub set_bit-requires : goal.set_bit-requires
 set_bit-requires g c =

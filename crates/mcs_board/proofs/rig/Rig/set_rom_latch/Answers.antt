@@ -6,7 +6,7 @@ use Rattle.mcs_rom4001.specs.Roms.{RomState}
 use Rattle.mcs_model.specs.Bus.{BusState}
 use Rattle.mcs_model.specs.Boards.{masks_on}
 use Rattle.mcs_model.specs.Levels.{with_rom_ports_at}
-use Rattle.mcs_model.specs.Places.{with_rom_latch}
+use Rattle.mcs_model.specs.ChipWrites.{with_rom_latch}
 use Rattle.mcs_board.specs.RigFields.{rig_parts}
 use Rattle.mcs_board.specs.RigState.{masks_of_rom, rig_of}
 use Rattle.mcs_board.proofs.FittedLemmas.{fitted-rom}

@@ -19,7 +19,7 @@ returns-then-at-len g c =
     let e = c.index_mut.result.now in
     let here = bank_here i.banks.items c.args.bank c.from-at.result e c.from-at.ensures (omega arith) c.index_mut.ensures.value in
     let wired = sym (ap (λ (b : BankState). b.wired) here) ∙ c.self.invariant.wired c.args.bank in
-    bank-write (rig_parts i) c.args.bank c.from-at.result e c.store.new.self c.args.write c.requires.bank c.from-at.ensures (omega arith) here wired c.store.ensures.whole c.requires.place c.store.ensures.few c.store.ensures.stored
+    bank-write (rig_parts i) c.args.bank c.from-at.result e c.store.new.self c.args.write c.requires.bank c.from-at.ensures (omega arith) here wired c.store.ensures.whole c.requires.inside c.store.ensures.few c.store.ensures.stored
     ∙ ap (λ s. after_bank_write s c.args.bank c.args.write) c.self.view_is
 
 pub returns-else-at-len : goal.returns-else-at-len

@@ -2,7 +2,7 @@ use Rattle.std.proofs.Common.{◌≡◌, ◌∙◌, sym, ap, arith, refl, length
 use Rattle.std.proofs.lemmas.Bool.{eqb-true}
 use Rattle.mcs_nibble.proofs.FlatRowsLemmas.{length-flat}
 use Rattle.mcs_model.specs.declared.board.BoardParts.{BoardParts}
-use Rattle.mcs_model.specs.Places.{after_wire}
+use Rattle.mcs_model.specs.ChipWrites.{after_wire}
 use Rattle.mcs_board.specs.RigState.{RigParts, rig_of}
 use Rattle.mcs_board.specs.RigFields.{rig_parts}
 use Rattle.mcs_board.proofs.MakingLemmas.{IsRewired, rewired-every, wire-state, wire-fitted}

@@ -4,7 +4,7 @@ use Rattle.std.proofs.Common.{◌≡◌, ◌+◌, List, [], ◌∷◌, ◌++◌,
 use Rattle.mcs_disk.specs.Disk.{DiskState, bytes_of}
 use Rattle.mcs_journal.specs.Store.{StoreView, IsIntactStore}
 use Rattle.mcs_journal.specs.File.{Holds, HasRoom, slot_named, frames_of, frame_of, start_of}
-use Rattle.mcs_journal.specs.Writing.{IsCommitPlace}
+use Rattle.mcs_journal.specs.Writing.{IsCommitOffset}
 use Rattle.mcs_journal.specs.declared.slot.Slot.{Slot}
 use Rattle.mcs_journal.proofs.Unique.{same_records}
 use Rattle.mcs_journal.proofs.Contents.{start_bounds}
@@ -12,7 +12,7 @@ use Rattle.mcs_journal.proofs.Logs.{spelled-push, length-framed}
 use Rattle.mcs_journal.proofs.store.Store.append.Goals as goal
 
 -- where the commit byte stands
-commit_of : (disk : DiskState) (slot : Slot) (start used n : ℕ) (snap : List ℕ) (records : List (List ℕ)) → start ≡ start_of slot → IsIntactStore disk slot used → HasRoom used n → Holds (bytes_of disk) snap records → IsCommitPlace (bytes_of disk) records (start + 16384 + used) n
+commit_of : (disk : DiskState) (slot : Slot) (start used n : ℕ) (snap : List ℕ) (records : List (List ℕ)) → start ≡ start_of slot → IsIntactStore disk slot used → HasRoom used n → Holds (bytes_of disk) snap records → IsCommitOffset (bytes_of disk) records (start + 16384 + used) n
 commit_of disk slot start used n snap records at intact room held =
     let same : length (frames_of intact.records) ≡ length (frames_of records) = ap (λ (l : List (List ℕ)). length (frames_of l)) (same_records _ _ _ _ _ intact.holds held) in
     let place = at ∙ sym (ap start_of intact.active) in

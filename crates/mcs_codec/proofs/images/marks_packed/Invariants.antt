@@ -1,0 +1,10 @@
+use Rattle.std.proofs.Common.{◌≡◌, ℕ, ◌+◌, ◌*◌, ◌<◌, length, get_or}
+use Rattle.mcs_codec.specs.CommandBytes.{mark, byte_of}
+use Rattle.mcs_codec.proofs.images.marks_packed.Given as goal
+
+-- the bytes so far are those of the map
+abbrev pub invariant-loop-i : goal.invariant-loop-i
+invariant-loop-i l = record {
+  len : length l.packed ≡ 512;
+  so_far : (j : ℕ) → j < l.i → get_or l.packed j 0 ≡ byte_of (λ k. mark l.image (8 * j + k));
+}

@@ -1,0 +1,84 @@
+-- What a board's chips hold, changed at one place (`with_`..: the last argument put there), by a
+-- reset, and by a new board.
+-- (Our own choice: that writes to absent chips are lost, that latch bits of input lines stay 0, and
+-- what a reset and a new board clear.)
+use Rattle.std.specs.Prelude.{ℕ, ◌*◌, ◌/◌, List, [], ◌∷◌, Some, None, is_some, map, replicate, slice_index, slice_index_or, slice_set, if◌then◌else◌, nat_lt}
+use Rattle.mcs_nibble.specs.Tables.{table_of}
+use Rattle.mcs_nibble.specs.Ports.{latch_value}
+use Rattle.mcs_model.specs.declared.board.BoardParts.{BoardParts}
+use Rattle.mcs_model.specs.declared.board.ChainPart.{ChainPart}
+use Rattle.mcs_model.specs.Boards.{masks_on, key_count, key_index}
+use Rattle.mcs_model.specs.Bus.{BusState, chips_of, ram_port_index, zero_bus}
+use Rattle.mcs_model.specs.Levels.{with_rom_ports_at, with_ram_ports_at}
+
+-- the ROM byte at an address; lost where the ROM is absent
+unfoldable pub with_rom_byte : BusState → ℕ → ℕ → BusState
+with_rom_byte s at byte =
+    if is_some (masks_on s.board (at / 256))
+    then record s { rom = slice_set s.rom at byte }
+    else s
+
+-- the ROM bytes of an image, each at its address
+abbrev pub with_rom_bytes : BusState → List (ℕ × ℕ) → BusState
+with_rom_bytes s [] = s
+with_rom_bytes s (p ∷ image) = with_rom_bytes (with_rom_byte s p.0 p.1) image
+
+-- the port latch of a RAM chip, nothing being clocked; lost where the chip is absent
+unfoldable pub with_ram_latch : BusState → ℕ → ℕ → ℕ → BusState
+with_ram_latch s bank chip n =
+    if nat_lt chip (chips_of s bank)
+    then with_ram_ports_at s (ram_port_index bank chip) n
+    else s
+
+-- the port latch of a ROM, nothing being clocked: n on its output lines, 0 on its input lines; lost
+-- where the ROM is absent
+unfoldable pub with_rom_latch : BusState → ℕ → ℕ → BusState
+with_rom_latch s chip n =
+    elim (masks_on s.board chip) [
+      | Some mask ↦ with_rom_ports_at s chip (latch_value mask n)
+      | None ↦ s
+    ]
+
+-- the SRC byte that a bank keeps; one without chips stays at 0
+unfoldable pub with_ram_src : BusState → ℕ → ℕ → BusState
+with_ram_src s bank byte =
+    if nat_lt 0 (chips_of s bank)
+    then record s { ram_src = slice_set s.ram_src bank byte }
+    else s
+
+-- bit i of a chain; nothing is shifted
+abbrev pub with_chain_bit : BusState → ℕ → ℕ → ℕ → BusState
+with_chain_bit s n i bit =
+    record s { chains = slice_set s.chains n (slice_set (slice_index_or s.chains n []) i bit) }
+
+-- the key of a row and a column: 1 where it is down
+abbrev pub with_key : BusState → ℕ → ℕ → ℕ → BusState
+with_key s row column bit = record s { keys = slice_set s.keys (key_index s.board row column) bit }
+
+-- the chains of a board, all bits 0
+abbrev pub blank_chains : BoardParts → List (List ℕ)
+blank_chains b = map (λ (c : ChainPart). replicate (10 * c.chips) 0) b.chains.items
+
+-- a power cycle: the board, ROM, keys and TEST stay; all else (RAM, port latches, SRC bytes,
+-- chains) becomes 0, and nothing is shifted
+abbrev pub after_reset : BusState → BusState
+after_reset s = record zero_bus {
+  board = s.board;
+  rom = s.rom;
+  chains = blank_chains s.board;
+  keys = s.keys;
+  test = s.test;
+}
+
+-- the bytes of the ROMs that a board has, 0 at the others
+unfoldable pub kept_rom : BoardParts → List ℕ → List ℕ
+kept_rom b rom =
+    table_of 4096 (λ at. if is_some (masks_on b (at / 256)) then slice_index rom at else 0)
+
+-- another board: all keys are up, all that a reset clears is cleared, the bytes of ROMs that it
+-- lacks become 0
+abbrev pub after_wire : BusState → BoardParts → BusState
+after_wire s b = record (after_reset (record s { board = b })) {
+  rom = kept_rom b s.rom;
+  keys = replicate (key_count b) 0;
+}

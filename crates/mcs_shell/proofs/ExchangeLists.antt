@@ -1,0 +1,117 @@
+-- Laws of inputs that were met in turn.
+use Rattle.std.proofs.Common.{◌≡◌, ◌||◌, Bool, true, false, cond, List, [], ◌∷◌, ◌++◌, Option, None, Some, ap, sym, append_assoc, append-nil, ◌∙◌, refl, subst}
+use Rattle.std.specs.List.{list_any}
+use Rattle.std.specs.Option.{option_or}
+use Rattle.mcs_model.specs.BenchState.{BenchState}
+use Rattle.mcs_model.specs.Fold.{fold}
+use Rattle.mcs_session.proofs.Folds.{fold-append}
+use Rattle.mcs_shell.specs.Inputs.{Input}
+use Rattle.mcs_shell.specs.Serving.{WroteAnswers}
+use Rattle.mcs_shell.specs.ShellState.{KnownBytes}
+use Rattle.mcs_shell.specs.Transcript.{ArePossibleExchanges, Exchange, acknowledged_commands, answered_exchanges, halt_after, halt_of, in_turn, is_device_fault, reached_commands}
+use Rattle.mcs_shell.specs.declared.ends.ShellEnd.{ShellEnd}
+use Rattle.mcs_shell.specs.declared.ends.Outcome.{Outcome}
+use Rattle.mcs_shell.specs.declared.ends.Outcome.TheVariants.{Device}
+
+-- the state after what was met
+abbrev pub state_after : BenchState → List Exchange → BenchState
+state_after s met = fold s (in_turn acknowledged_commands s met)
+
+-- whether the device failed at one of them
+abbrev pub has_failed : List Exchange → Bool
+has_failed met = list_any (λ (x : Exchange). is_device_fault x.outcome) met
+
+-- ---- what each gives
+
+pub in_turn-further : {A : Type 0} (f : BenchState → Input → Outcome → List A) (s t : BenchState) (xs ys : List Exchange) → t ≡ state_after s xs → in_turn f s (xs ++ ys) ≡ in_turn f s xs ++ in_turn f t ys
+in_turn-further f s t [] ys e = ap (λ (u : BenchState). in_turn f u ys) (sym e)
+in_turn-further f s t (x ∷ xs) ys e =
+    let u = fold s (acknowledged_commands s x.input x.outcome) in
+    ap (λ v. f s x.input x.outcome ++ v) (in_turn-further f u t xs ys (e ∙ fold-append s (acknowledged_commands s x.input x.outcome) (in_turn acknowledged_commands u xs)))
+    ∙ sym (append_assoc (f s x.input x.outcome) (in_turn f u xs) (in_turn f t ys))
+
+-- ---- what halts the shell
+
+neither : (x y : Option ShellEnd) → option_or x y ≡ None → (x ≡ None) × (y ≡ None)
+neither None y e = (refl, e)
+neither (Some h) y e = absurd (cc e)
+
+pub some_apart : (end : ShellEnd) → Some end ≡ None → ⊥
+some_apart end e = absurd (cc e)
+
+pub or_none : (x : Option ShellEnd) → option_or x None ≡ x
+or_none None = refl
+or_none (Some h) = refl
+
+pub halt-append : (xs ys : List Exchange) → halt_after xs ≡ None → halt_after (xs ++ ys) ≡ halt_after ys
+halt-append [] ys none = refl
+halt-append (x ∷ xs) ys none =
+    let both = neither (halt_of x.whole x.outcome) (halt_after xs) none in
+    ap (λ (h : Option ShellEnd). option_or h (halt_after (xs ++ ys))) both.0 ∙ halt-append xs ys both.1
+
+is_whole : (whole : Bool) (o : Outcome) → halt_of whole o ≡ None → whole ≡ true
+is_whole false o e = absurd (cc e)
+is_whole true o e = refl
+
+kept_whole : (whole : Bool) (x : Exchange) (xs ys : List Exchange) → whole ≡ true → xs ≡ ys → cond whole (x ∷ xs) xs ≡ x ∷ ys
+kept_whole true x xs ys e same = ap (λ v. x ∷ v) same
+kept_whole false x xs ys e same = absurd (cc e)
+
+pub answered_all : (xs : List Exchange) → halt_after xs ≡ None → answered_exchanges xs ≡ xs
+answered_all [] none = refl
+answered_all (x ∷ xs) none =
+    let both = neither (halt_of x.whole x.outcome) (halt_after xs) none in
+    kept_whole x.whole x (answered_exchanges xs) xs (is_whole x.whole x.outcome both.0) (answered_all xs both.1)
+
+not_device : (whole : Bool) (o : Outcome) → halt_of whole o ≡ None → is_device_fault o ≡ false
+not_device false o e = absurd (cc e)
+not_device true Device e = absurd (cc e)
+not_device true o e = refl
+
+pub failed-append : (xs ys : List Exchange) → halt_after xs ≡ None → has_failed (xs ++ ys) ≡ has_failed ys
+failed-append [] ys none = refl
+failed-append (x ∷ xs) ys none =
+    let both = neither (halt_of x.whole x.outcome) (halt_after xs) none in
+    ap (λ (b : Bool). b || has_failed (xs ++ ys)) (not_device x.whole x.outcome both.0) ∙ failed-append xs ys both.1
+
+pub not_failed : (met : List Exchange) → halt_after met ≡ None → has_failed met ≡ false
+not_failed met none = ap has_failed (sym (append-nil met)) ∙ failed-append met [] none
+
+pub or_no : (b : Bool) → (b || false) ≡ b
+or_no true = refl
+or_no false = refl
+
+-- ---- what may have reached the disk, where the device did not fail
+
+reached_same : (s : BenchState) (i : Input) (o : Outcome) → is_device_fault o ≡ false → reached_commands s i o ≡ acknowledged_commands s i o
+unfolding reached_commands acknowledged_commands
+reached_same s i Device h = absurd (cc h)
+reached_same s i o h = refl
+
+pub or_false : (b c : Bool) → (b || c) ≡ false → (b ≡ false) × (c ≡ false)
+or_false true c e = absurd (cc e)
+or_false false c e = (refl, e)
+
+pub reached_all : (s : BenchState) (met : List Exchange) → has_failed met ≡ false → in_turn reached_commands s met ≡ in_turn acknowledged_commands s met
+reached_all s [] h = refl
+reached_all s (x ∷ met) h =
+    let both = or_false (is_device_fault x.outcome) (has_failed met) h in
+    let t = fold s (acknowledged_commands s x.input x.outcome) in
+    ap (λ cs. cs ++ in_turn reached_commands t met) (reached_same s x.input x.outcome both.0) ∙ ap (λ cs. acknowledged_commands s x.input x.outcome ++ cs) (reached_all t met both.1)
+
+-- ---- two stretches
+
+pub may-append : (live : Bool) (s : BenchState) (xs ys : List Exchange) → halt_after xs ≡ None → ArePossibleExchanges live s xs → ArePossibleExchanges live (state_after s xs) ys → ArePossibleExchanges live s (xs ++ ys)
+may-append live s [] ys none h k = k
+may-append live s (x ∷ xs) ys none h k =
+    let t = fold s (acknowledged_commands s x.input x.outcome) in
+    let both = neither (halt_of x.whole x.outcome) (halt_after xs) none in
+    let then : ArePossibleExchanges live (state_after t xs) ys = subst (λ (u : BenchState). ArePossibleExchanges live u ys) (fold-append s (acknowledged_commands s x.input x.outcome) (in_turn acknowledged_commands t xs)) k in
+    (h.0, λ more. both.0, may-append live t xs ys both.1 h.2 then)
+
+pub wrote-append : (s : BenchState) (xs ys : List Exchange) (a b c : KnownBytes) → WroteAnswers s xs a b → WroteAnswers (state_after s xs) ys b c → WroteAnswers s (xs ++ ys) a c
+wrote-append s [] ys a b c h k = subst (λ (v : KnownBytes). WroteAnswers s ys v c) h k
+wrote-append s (x ∷ xs) ys a b c h k =
+    let t = fold s (acknowledged_commands s x.input x.outcome) in
+    let then : WroteAnswers (state_after t xs) ys b c = subst (λ (u : BenchState). WroteAnswers u ys b c) (fold-append s (acknowledged_commands s x.input x.outcome) (in_turn acknowledged_commands t xs)) k in
+    (h.0, h.1, wrote-append t xs ys h.0 b c h.2 then)

@@ -1,0 +1,113 @@
+//! Texts that no session hands to the assembler, since not each of their bytes is plain: what they come to, and their
+//! first faults. All others are in checks/lib/scripts/assembler.scripts.
+use mcs_asm::{FaultKind, SourceFault, Span, assemble, survey};
+use mcs_nibble::Addr;
+use std::alloc::Global;
+use std::test::Fail;
+
+/// A text, the bytes of its image with their addresses, the address and the size of each of its lines, and its names
+/// with their values.
+type TextRow = (
+    &'static str,
+    &'static [(u16, u8)],
+    &'static [(u16, u16)],
+    &'static [(&'static str, u16)],
+);
+
+/// A text, and its first fault with the number of its line.
+type FaultRow = (&'static str, usize, SourceFault);
+
+/// Whether some pairs of an image are these bytes at these addresses.
+fn are_bytes(pairs: &[(Addr, u8)], bytes: &[(u16, u8)]) -> bool {
+    for (pair, wanted) in pairs.iter().zip(bytes.iter()) {
+        if pair.0.get() != wanted.0 || pair.1 != wanted.1 {
+            return false;
+        }
+    }
+    pairs.len() == bytes.len()
+}
+
+fn spells(alloc: Global, text: &str, bytes: &[(u16, u8)]) -> bool {
+    match assemble(alloc, text) {
+        Ok(image) => are_bytes(image.pairs(), bytes),
+        Err(_) => false,
+    }
+}
+
+fn is_refused(alloc: Global, text: &str, line: usize, fault: SourceFault) -> bool {
+    match assemble(alloc, text) {
+        Ok(_) => false,
+        Err(found) => found.line == line && found.kind == FaultKind::Refused(fault),
+    }
+}
+
+fn are_spans(spans: &[Span], wanted: &[(u16, u16)]) -> bool {
+    for (span, (at, size)) in spans.iter().zip(wanted.iter()) {
+        if span.at != *at || span.size != *size {
+            return false;
+        }
+    }
+    spans.len() == wanted.len()
+}
+
+fn are_names(names: &[(&[u8], u16)], wanted: &[(&str, u16)]) -> bool {
+    for ((name, value), (text, n)) in names.iter().zip(wanted.iter()) {
+        if *name != text.as_bytes() || *value != *n {
+            return false;
+        }
+    }
+    names.len() == wanted.len()
+}
+
+/// Texts with bytes that are not plain in a comment, and no LF at their ends.
+const READ_TEXTS: [TextRow; 2] = [
+    // CR at line ends, a label, `NAME = n`, either case.
+    (
+        "k = 0x10\r\n x : fim p7 , k ; comment \u{e4}\r\n\tisz r15,x",
+        &[(0, 0x2E), (1, 0x10), (2, 0x7F), (3, 0)],
+        &[(0, 0), (0, 2), (2, 2)],
+        &[("k", 16), ("x", 0)],
+    ),
+    // Lines without a statement, CR at their ends.
+    (
+        "\r\n\t \n;only \u{e4}\r\n a:\r\nLDM 00015\r",
+        &[(0, 0xDF)],
+        &[(0, 0), (0, 0), (0, 0), (0, 0), (0, 1)],
+        &[("a", 0)],
+    ),
+];
+
+#[test]
+fn texts_that_are_not_plain_are_read(rt: HostRuntime) -> Result<(), Fail> {
+    for (text, bytes, spans, names) in READ_TEXTS {
+        assert!(rt; spells(rt.alloc(), text, bytes), "at {text}");
+        match survey(rt.alloc(), text) {
+            Ok(survey) => {
+                assert!(rt; are_spans(survey.spans(), spans), "at {text}");
+                assert!(rt; are_names(survey.names(), names), "at {text}");
+            }
+            Err(_) => assert!(rt; false, "at {text}"),
+        }
+    }
+    Ok(())
+}
+
+/// Texts with bytes that are not plain, outside of a comment, and with their first faults.
+const FIRST_FAULTS: [FaultRow; 4] = [
+    ("NOP \u{e4}\n", 1, SourceFault::BadStatement),
+    ("\u{e4}:", 1, SourceFault::BadStatement),
+    ("nop\rnop", 1, SourceFault::BadStatement),
+    ("LDM 1\r\r", 1, SourceFault::BadStatement),
+];
+
+#[test]
+fn texts_that_are_not_plain_are_refused(rt: HostRuntime) {
+    for (text, line, fault) in FIRST_FAULTS {
+        assert!(rt; is_refused(rt.alloc(), text, line, fault), "at {text}");
+        let refused = match survey(rt.alloc(), text) {
+            Ok(_) => false,
+            Err(found) => found.line == line && found.kind == FaultKind::Refused(fault),
+        };
+        assert!(rt; refused, "at {text}");
+    }
+}

@@ -1,0 +1,24 @@
+//! Runs the parts below the bench: numbers, code table and processor on values worked by hand from the instruction descriptions of
+//! Intel's manual, the reading of lines, and wiring, assembler and disassembler on texts that no script can give to the program.
+#![tactic(auto)]
+
+#[cfg(test)]
+mod assembler;
+#[cfg(test)]
+mod checks;
+#[cfg(test)]
+mod code_table;
+#[cfg(test)]
+mod disassembler;
+#[cfg(test)]
+mod lines;
+#[cfg(test)]
+mod nibbles;
+#[cfg(test)]
+mod probes;
+#[cfg(test)]
+mod processor;
+#[cfg(test)]
+mod state_line;
+#[cfg(test)]
+mod wiring;

@@ -1,0 +1,77 @@
+//! Texts that no session hands to the wiring, since not each of their bytes is plain, or they end without LF, and the
+//! numbers of its refusals. All others are in checks/lib/scripts/board_texts.scripts.
+use mcs_wiring::{WiringFault, board_of, board_text};
+use std::alloc::Global;
+use std::process::Abort;
+use std::test::Fail;
+
+/// A text, and the number that it is refused with.
+type Row = (&'static str, u8);
+
+fn is_refused(alloc: Global, text: &str, number: u8) -> bool {
+    match board_of(alloc, text) {
+        Ok(_) => false,
+        Err(fault) => fault.number() == number,
+    }
+}
+
+/// Texts with a byte that is not plain, and some that end without LF.
+const REFUSED: [Row; 7] = [
+    ("\u{0}", 20),
+    ("\"\u{e9}\" = 1", 21),
+    ("[[rom", 20),
+    ("rom = ", 20),
+    ("[keys.more]", 21),
+    ("[[rom]]", 22),
+    ("lamp = \"rom0.0\"", 23),
+];
+
+#[test]
+fn texts_that_no_script_gives_are_refused(rt: HostRuntime) {
+    for (text, number) in REFUSED {
+        assert!(rt; is_refused(rt.alloc(), text, number), "at {text}");
+    }
+}
+
+/// A text's board has this text.
+fn expect_spelling(rt: &impl Abort, alloc: Global, text: &str, plain: &str) -> Result<(), Fail> {
+    let board = board_of(alloc, text)?;
+    let found = board_text(alloc, &board)?;
+    assert_eq!(rt; found.as_str(), plain);
+    Ok(())
+}
+
+/// Spellings of one ROM, with CR at line ends or without LF at the end.
+const SPELLINGS: &[&str] = &[
+    "rom = [{ chip = 10, port = \"1i0i\" }]",
+    "rom = [ # one\n  { port = '1i0i', chip = 0x0A },\n]",
+    "[[\"rom\"]]\r\n\"chip\" = +1_0\r\nport = \"\\u0031i0i\"\r\n",
+    "ram = []\nlamp = []\nchain = []\n[[rom]]\nport = \"1i0i\"\nchip = 10",
+];
+
+/// One table in several spellings.
+#[test]
+fn spellings(rt: HostRuntime) -> Result<(), Fail> {
+    for text in SPELLINGS {
+        let plain = "[[rom]]\nchip = 10\nport = \"1i0i\"\n";
+        expect_spelling(&rt, rt.alloc(), text, plain)?;
+    }
+    Ok(())
+}
+
+#[test]
+fn numbers_of_refusals(rt: HostRuntime) {
+    for (fault, number) in [
+        (WiringFault::BadToml, 20),
+        (WiringFault::UnknownKey, 21),
+        (WiringFault::MissingKey, 22),
+        (WiringFault::BadValue, 23),
+        (WiringFault::DoubleChip, 24),
+        (WiringFault::NoSuchLine, 25),
+        (WiringFault::WrongDirection, 26),
+        (WiringFault::TooManyParts, 27),
+        (WiringFault::NoMemory, 90),
+    ] {
+        assert_eq!(rt; fault.number(), number);
+    }
+}
