@@ -48,6 +48,20 @@ class Driven:
             time.sleep(0.3)
         self.click_element(self.find(selector))
 
+    def hold(self, selector, time_down):
+        """The mouse is pressed on an element for so many milliseconds."""
+        self.show(selector)
+        time.sleep(self.settles)
+        self.actions({
+            "type": "pointer", "id": "mouse", "parameters": {"pointerType": "mouse"},
+            "actions": [
+                {"type": "pointerMove", "duration": 0, "x": 0, "y": 0, "origin": {ELEMENT: self.find(selector)}},
+                {"type": "pointerDown", "button": 0},
+                {"type": "pause", "duration": time_down},
+                {"type": "pointerUp", "button": 0},
+            ],
+        })
+
     def type_into(self, selector, text):
         self.send_to_element(self.find(selector), text)
 

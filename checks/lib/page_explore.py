@@ -143,7 +143,7 @@ def check_stopped(browser):
     explore(browser, 600)
     comes(browser, "it looks", FIGURES, re.compile("^[1-9][0-9,]* steps"))
     begun = time.monotonic()
-    browser.click("#explore")
+    browser.hold("#explore", 400)
     comes(browser, "it stops", BUTTON, "Explore", 5)
     verdict("at once", time.monotonic() - begun < 3, True)
     verdict("and says so", browser.script(TOLD), re.compile("^Stopped. "))

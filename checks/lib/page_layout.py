@@ -15,6 +15,7 @@ F2 = "\ue032"
 def check(browser, page, _folder, _mcs4):
     open_anew(browser, page)
     choose_example(browser, "calculator")
+    check_pressed(browser)
     check_tabs(browser)
     check_folds(browser)
     check_listing(browser)
@@ -229,6 +230,14 @@ def check_cells(browser):
     comes(browser, "a status character, too", "return document.querySelector('.ram button.status').textContent", "4")
     double_click(browser, ".ram .port span")
     comes(browser, "a port says why it cannot be poked", AT, re.compile("WMP"))
+
+
+def check_pressed(browser):
+    """What changes while it is pressed is pressed all the same: WebKit forgets it where its text node is put in anew."""
+    browser.until(STATUS, re.compile("^Time runs"))
+    browser.script("window.pressed = 0; document.getElementById('value-acc').addEventListener('click', () => { window.pressed++; })")
+    browser.hold("#value-acc", 400)
+    comes(browser, "a value that changes is pressed while time runs", "return window.pressed", 1)
 
 
 AT = "const told = document.querySelector('.told-at'); return told.hidden ? '' : told.textContent"

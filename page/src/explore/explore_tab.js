@@ -1,7 +1,7 @@
 // Properties on the page: their text with its faults, a button that looks for what breaks them, in a worker of its own, and what was found.
 
 import { countOfFaults } from "../bench/words.js";
-import { button, field, onClick } from "../ui/dom.js";
+import { Cell, button, field, onClick } from "../ui/dom.js";
 import { BesideText } from "../text/beside_text.js";
 import { completeProperty, firstProperties, helpForProperty, propertyForms } from "../text/property_words.js";
 import { wordsOfFaults } from "../words/results.js";
@@ -70,6 +70,8 @@ export class ExploreTab {
     this.told = "";
     /** @type {AbortController | null} what ends the search that is under way */
     this.controller = null;
+    this.exploreButton = new Cell(button("explore"));
+    this.exploreButton.set(say.EXPLORE);
     onClick(button("clear-finds"), () => this.clear());
   }
 
@@ -118,7 +120,7 @@ export class ExploreTab {
   show() {
     const { shown } = this;
     const goesOn = this.controller !== null;
-    button("explore").textContent = goesOn ? say.STOP : say.EXPLORE;
+    this.exploreButton.set(goesOn ? say.STOP : say.EXPLORE);
     button("clear-finds").hidden = !shown || goesOn;
     if (shown && shown.report) this.view.show(shown.report, goesOn);
     this.mark(0);

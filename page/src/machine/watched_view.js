@@ -1,13 +1,13 @@
 // The list of watched expressions: each with its name and what it is now, edited in place.
 
-import { block, element, field, onClick } from "../ui/dom.js";
+import { Cell, block, element, field, onClick } from "../ui/dom.js";
 import { MOST_WATCHED, readAllWatched, readWatched } from "../debug/watched.js";
 import * as say from "../words/machine.js";
 
 /**
  * @typedef {import("../debug/standing.js").Standing} Standing
  * @typedef {import("../debug/watched.js").Watched} Watched
- * @typedef {{ root: HTMLLIElement, value: HTMLElement, shape: string, cells: HTMLElement[] }} Row
+ * @typedef {{ root: HTMLLIElement, value: HTMLElement, shape: string, cells: Cell[] }} Row
  *
  * What it calls: a cell that shows a value can be edited; what stands in the machine, null while time runs; the list is another one; its
  * texts are kept.
@@ -99,17 +99,16 @@ export class WatchedView {
       row.value.replaceChildren(...pieces.map((piece) => {
         if (typeof piece === "string") return piece;
         const label = `${watched.name}, ${piece.name}`;
-        const cell = element("button", { "type": "button", "className": "value", "aria-label": label }, piece.value);
-        this.calls.offer(cell, piece);
+        const cell = new Cell(element("button", { "type": "button", "className": "value", "aria-label": label }));
+        cell.set(piece.value);
+        this.calls.offer(cell.node, piece);
         row.cells.push(cell);
-        return cell;
+        return cell.node;
       }));
       return;
     }
     row.cells.forEach((cell, at) => {
-      const isChanged = cell.textContent !== values[at].value;
-      cell.classList.toggle("changed", isChanged);
-      if (isChanged) cell.textContent = values[at].value;
+      cell.node.classList.toggle("changed", cell.set(values[at].value));
     });
   }
 }

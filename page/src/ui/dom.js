@@ -52,13 +52,17 @@ export function element(name, properties = {}, ...children) {
   return made;
 }
 
-/** A place for a text. It changes the page only where the text is another one, so that a frame without news costs nothing. */
+/**
+ * A place for a text. It changes the page only where the text is another one, so that a frame without news costs nothing. Its text node
+ * stays: in WebKit a click is lost where the text that was pressed is taken away before it is let go.
+ */
 export class Cell {
   /** @param {HTMLElement} node */
   constructor(node) {
     this.node = node;
     this.text = "";
-    node.textContent = "";
+    this.words = document.createTextNode("");
+    node.replaceChildren(this.words);
   }
 
   /**
@@ -68,7 +72,7 @@ export class Cell {
   set(text) {
     if (this.text === text) return false;
     this.text = text;
-    this.node.textContent = text;
+    this.words.data = text;
     return true;
   }
 }
