@@ -20,8 +20,8 @@ class Instance {
     this.size = 0;
   }
 
-  view(place, size) {
-    return new Uint8Array(this.calls.memory.buffer, Number(place), size);
+  view(offset, size) {
+    return new Uint8Array(this.calls.memory.buffer, Number(offset), size);
   }
 
   begin() {

@@ -109,7 +109,7 @@ function byPage(engine, file, input, call = "page_serve") {
 function settle(engine, file) {
   const { instance } = engine;
   instance.takeFile(file);
-  if (!engine.call((calls) => calls.page_settle(instance.file.place, BigInt(file.length)))) return file;
+  if (!engine.call((calls) => calls.page_settle(instance.file.offset, BigInt(file.length)))) return file;
   return instance.view(instance.file, file.length).slice();
 }
 

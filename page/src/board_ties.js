@@ -1,6 +1,6 @@
 // What the parts that show and draw the board call of the others: they get calls, and know no page.
 
-import { partAtLine } from "./bench/board_places.js";
+import { partAtLine } from "./bench/part_lines.js";
 import { Cancelled } from "./bench/faults.js";
 import { keyOfKeyboard } from "./board/board_keys.js";
 import { Face } from "./board/face.js";
@@ -96,8 +96,8 @@ export function drawingOf(page) {
     text: () => editor.text,
     ask: (lines) => bench.call("ask", [lines]),
     edit: (edits) => editor.edit(edits),
-    undo: () => editor.step("undo"),
-    redo: () => editor.step("redo"),
+    undo: () => editor.undoOrRedo("undo"),
+    redo: () => editor.undoOrRedo("redo"),
     wordsOfRefusal: (number) => page.words.ofRefusal(number),
     isInFront: () => tabs.shown === "wiring",
     putInFront: () => tabs.choose("wiring"),

@@ -20,7 +20,7 @@ export function currentSessionOf(page) {
     run: () => page.running.run(),
     halted: (words) => page.running.halted(words),
     standStill: () => page.running.standStill(),
-    place: () => page.running.place,
+    where: () => page.running.where,
     touched: () => page.sessionsController.touched(),
     ran: () => page.log.take(),
     showRan: (ran, fault) => page.log.showRan(ran, fault),
@@ -68,7 +68,7 @@ export function runningOf(page) {
       return registers !== null && registers.owed === "1";
     },
     cycles: () => page.cycles.cycles.total,
-    place: () => wordsOfAddress(page.lookView.counter, page.source.map),
+    where: () => wordsOfAddress(page.lookView.counter, page.source.map),
     breakpoint: (id) => page.breakpoints.keeper.list.get(id),
     wordsOfRefusal: (number) => page.words.ofRefusal(number),
     step: () => page.serving.act("step\n"),

@@ -51,7 +51,7 @@ export function travelOf(page) {
     runTo: (goal) => running.run(goal),
     counted: (tally) => page.breakpoints.count(tally),
     reasonOf: (stop, goal) => running.reasonOf(stop, goal),
-    place: () => running.place,
+    where: () => running.where,
     breakpoint: (id) => page.breakpoints.keeper.list.get(id),
     tell: (words) => running.tell(words),
   });

@@ -29,12 +29,12 @@ export class Layout {
   /** Below the clock's bar stands what goes back and further, and in it the counter of cycles. A phone has both below lamps and keys. */
   placeFurther() {
     const narrow = matchMedia(NARROW);
-    const place = () => {
+    const put = () => {
       block(narrow.matches ? "front" : "clock").after(block("history"));
       block(narrow.matches ? "history" : "clock").append(block("cycles"));
     };
-    narrow.addEventListener("change", place);
-    place();
+    narrow.addEventListener("change", put);
+    put();
   }
 
   /** What is observed does not depend on what is measured (the scroll bar is always there), so that this comes to an end. */

@@ -52,7 +52,7 @@ test("a session in memory: breakpoints at lines, moves, values, back and forward
   const session = open();
   assert.deepEqual(session.refused, []);
   session.breakpoints.add({ line: LINE.blank });
-  const { moved, faults } = await session.placeBreakpoints();
+  const { moved, faults } = await session.applyBreakpoints();
   assert.deepEqual([moved, faults], [["Line 5 puts no bytes into ROM: its breakpoint is at the next instruction, line 6."], []]);
   const stop = await session.go();
   assert.deepEqual([stop.why, stop.id, session.line], ["break", 1, LINE.increment]);
@@ -85,13 +85,13 @@ async function stopsOf(session, count, place) {
 test("a condition, a count of hits, and a note in place of a stop; no file has them", async () => {
   const session = open();
   const odd = session.breakpoints.add({ line: LINE.write, condition: "r4 > 9 and lamp two off" });
-  await session.placeBreakpoints();
+  await session.applyBreakpoints();
   assert.deepEqual(await stopsOf(session, 4, "r4"), [..."ADEA"]);
   assert.equal(session.breakpoints.get(odd.id).hits, 4);
   const counted = open();
   const { id } = counted.breakpoints.add({ line: LINE.show, from: 5 });
   counted.breakpoints.add({ line: LINE.increment, note: "R4 is {r4}, lamps {lamps}, two {two}" });
-  await counted.placeBreakpoints();
+  await counted.applyBreakpoints();
   const stop = await counted.go();
   assert.deepEqual([stop.why, stop.id, counted.values(["r4"])[0]], ["break", id, "4"]);
   assert.deepEqual(stop.tally.notes.map(({ words }) => words),
@@ -103,7 +103,7 @@ test("a condition, a count of hits, and a note in place of a stop; no file has t
 test("conditional breakpoints stop where one of the bench does, whatever the frames", async () => {
   const plain = open();
   plain.breakpoints.add({ line: LINE.show });
-  await plain.placeBreakpoints();
+  await plain.applyBreakpoints();
   const wanted = [];
   for (let stop = 0; stop < 40; stop++) {
     await plain.go();
@@ -113,7 +113,7 @@ test("conditional breakpoints stop where one of the bench does, whatever the fra
     const soft = open();
     soft.breakpoints.add({ line: LINE.show, condition: "r4 = 7" });
     soft.breakpoints.add({ line: LINE.wait, note: "waits" });
-    await soft.placeBreakpoints();
+    await soft.applyBreakpoints();
     const seen = [];
     while (seen.length < wanted.length) {
       if (soft.debugger.advance(frame).stop) seen.push(soft.debugger.session.count.total);
@@ -127,7 +127,7 @@ test("a breakpoint stops a move; what cannot be read is told, and stops nothing"
   session.breakpoints.add({ line: LINE.write, condition: "r4 = 0" });
   const broken = session.breakpoints.add({ line: LINE.increment, condition: "r44 = 0" });
   const lacking = session.breakpoints.add({ line: LINE.wait, note: "{rom3}" });
-  const { faults } = await session.placeBreakpoints();
+  const { faults } = await session.applyBreakpoints();
   assert.deepEqual(faults, [[broken.id, "the registers are r0 to r15, not r44"],
     [lacking.id, "the note asks for {rom3}, which this board lacks"]]);
   await session.go({ kind: "here", address: 3 });
@@ -141,13 +141,13 @@ test("breakpoints are no part of the past: going back leaves them, and what come
   const { session: bench } = session.debugger;
   await session.go({ kind: "count", count: 20 });
   const first = session.breakpoints.add({ line: LINE.write });
-  await session.placeBreakpoints();
+  await session.applyBreakpoints();
   await session.go();
   const seen = [bench.count.total, session.values(["r4", "pc"])];
   await session.go();
   session.breakpoints.remove(first.id);
   session.breakpoints.add({ line: LINE.increment });
-  await session.placeBreakpoints();
+  await session.applyBreakpoints();
   await session.back({ kind: "stop" });
   await session.back({ kind: "stop" });
   assert.deepEqual([bench.count.total, session.values(["r4", "pc"])], seen);
@@ -177,11 +177,11 @@ test("back to the last arrival at a breakpoint: the stops of the way there, what
   const session = open();
   const { session: bench } = session.debugger;
   session.breakpoints.add({ line: LINE.write });
-  await session.placeBreakpoints();
+  await session.applyBreakpoints();
   const seen = await arrivalsOf(session, 30);
   session.breakpoints.add({ line: LINE.increment, isOn: false });
   session.breakpoints.add({ line: LINE.back, note: "no stop" });
-  await session.placeBreakpoints();
+  await session.applyBreakpoints();
   await session.debugger.session.serve("poke r9 3\nrun 5\ntest 0\nrun 7\n", async () => true);
   const { total } = bench.count;
   for (const [at, [cycles, r4]] of [...seen].reverse().entries()) {
@@ -204,11 +204,11 @@ test("back to an arrival: conditions are asked, counts are not, and breakpoints 
   const session = open();
   const { session: bench } = session.debugger;
   const first = session.breakpoints.add({ line: LINE.show });
-  await session.placeBreakpoints();
+  await session.applyBreakpoints();
   const seen = await arrivalsOf(session, 40);
   session.breakpoints.remove(first.id);
   const { id } = session.breakpoints.add({ line: LINE.show, condition: "r4 = 3", from: 100 });
-  await session.placeBreakpoints();
+  await session.applyBreakpoints();
   for (const [cycles] of seen.filter(([, r4]) => r4 === "3").reverse()) {
     const back = await backToArrival(session);
     assert.deepEqual([bench.count.total, back.id], [cycles, id]);
@@ -222,7 +222,7 @@ test("back to an arrival meets what is watched, by the bench or beside it, and s
   const session = open(PROGRAM.replace("BBL 0", "WRM\n BBL 0"));
   const { session: bench } = session.debugger;
   session.breakpoints.add({ line: LINE.show, condition: "r4 = 2" });
-  await session.placeBreakpoints();
+  await session.applyBreakpoints();
   await bench.serve("watch 0 0\nrun 100000\n", async () => true);
   await bench.serve("unwatch 0 0\nrun 300\nwatch 0 0\n", async () => true);
   const watched = await backToArrival(session);
@@ -245,7 +245,7 @@ test("back to an arrival is found in what is kept of a long run, at once", async
   const { session: bench } = session.debugger;
   const hit = session.map.valueOf("hit");
   session.breakpoints.add({ line: session.map.lineOf(hit) });
-  await session.placeBreakpoints();
+  await session.applyBreakpoints();
   const seen = await arrivalsOf(session, 3);
   for (let frame = 0; bench.count.total < 10000000; frame++) {
     if (session.debugger.advance(400000).stop) seen.push([bench.count.total, ""]);
@@ -260,7 +260,7 @@ test("a program that is assembled anew takes its breakpoints along", async () =>
   const session = open();
   session.breakpoints.add({ line: LINE.increment });
   session.breakpoints.add({ line: LINE.back, isOn: false });
-  await session.placeBreakpoints();
+  await session.applyBreakpoints();
   const lines = PROGRAM.split("\n");
   session.breakpoints.edit({ from: { line: 1, ch: 0 }, to: { line: 1, ch: 0 }, text: ["        NOP", ""], removed: [""] });
   assert.equal(await session.setProgram([lines[0], "        NOP", ...lines.slice(1)].join("\n")), null);
@@ -328,6 +328,6 @@ test("where all of the text is another one, breakpoints are where their addresse
 test("where a breakpoint has a condition or a count, the words of the stop have it", async () => {
   const session = open();
   session.breakpoints.add({ line: LINE.write, condition: "r4 = 2", from: 2 });
-  await session.placeBreakpoints();
+  await session.applyBreakpoints();
   assert.match((await session.go()).words, /^Stopped at 009 \(show \+ 1, line 9\), at a breakpoint, where r4 = 2, at hit 2\.$/);
 });

@@ -38,9 +38,9 @@ async function drawn(text = "") {
       desk.text = edited(desk.text, edits);
     },
     undo: () => {
-      const step = desk.steps.pop();
-      if (step) desk.text = edited(desk.text, step);
-      return step !== undefined;
+      const last = desk.steps.pop();
+      if (last) desk.text = edited(desk.text, last);
+      return last !== undefined;
     },
     redo: () => false,
     wordsOfRefusal: (number) => `refusal ${number}`,
@@ -67,7 +67,7 @@ test("an empty bench: parts come with what they need, and a wire goes from pin t
   assert.equal(desk.shown.said, "Line rom0.2 is wired to lamp 0.");
   assert.deepEqual([desk.shown.board.lamps, desk.shown.chosen, desk.shown.begun], [["rom0.2"], "lamp 0", ""]);
   for (const wanted of ["Undone.", "Undone.", "Undone.", "There is nothing to undo."]) {
-    await drawing.step("undo");
+    await drawing.undoOrRedo("undo");
     assert.equal(desk.shown.said, wanted);
   }
   assert.deepEqual([desk.text, desk.shown.chosen], ["", ""]);
@@ -211,9 +211,9 @@ test("where chains were dragged to follows their numbers, and comes back with th
   assert.equal(parts.takeNews(), false);
   await drawing.act({ kind: "delete", part: "chain 0" });
   assert.deepEqual([Object.fromEntries(parts.moved), parts.takeNews()], [{ "chain 0": { x: 3, y: 4 }, "rom 0": { x: 5, y: 6 } }, true]);
-  await drawing.step("undo");
+  await drawing.undoOrRedo("undo");
   assert.deepEqual([Object.fromEntries(parts.moved), parts.takeNews(), parts.takeNews()], [Object.fromEntries(begun), true, false]);
-  await drawing.step("undo");
+  await drawing.undoOrRedo("undo");
   assert.deepEqual([Object.fromEntries(parts.moved), parts.takeNews()], [Object.fromEntries(begun), false]);
 });
 

@@ -290,7 +290,7 @@ test("files that are kept come back as they were", () => {
   const other = subject.file.slice();
   engine.serve(other, "press 0 1\nrun 500\n", other);
   const kept = files.keep(other);
-  assert.ok(kept.places.length < 500);
+  assert.ok(kept.indexes.length < 500);
   assert.deepEqual(files.file(files.keep(subject.file)), subject.file);
   assert.deepEqual(files.file(kept), other);
 });

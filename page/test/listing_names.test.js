@@ -10,15 +10,15 @@ const MAP = new SourceMap(["map lines 5 names 4", "line 1 000 0", "line 2 000 2"
 const listed = (line) => ({ address: parseInt(line.slice(0, 3), 16), line });
 
 test("a line has its labels, its target's label and its line of the source", () => {
-  assert.deepEqual(namedLine(listed("000 50 02 JMS 0x002"), MAP), { address: 0, place: "000", second: "001", bytes: "000 50 02",
+  assert.deepEqual(namedLine(listed("000 50 02 JMS 0x002"), MAP), { address: 0, first: "000", second: "001", bytes: "000 50 02",
     labels: "go:", instruction: "JMS put", source: "line 2: go: jms put ; far" });
-  assert.deepEqual(namedLine(listed("002 C0    BBL 0"), MAP), { address: 2, place: "002", second: "", bytes: "002 C0   ",
+  assert.deepEqual(namedLine(listed("002 C0    BBL 0"), MAP), { address: 2, first: "002", second: "", bytes: "002 C0   ",
     labels: "put: out:", instruction: "BBL 0", source: "line 4: out: BBL 0" });
   assert.equal(namedLine(listed("003 40 02 JUN 0x002"), MAP).instruction, "JUN out");
 });
 
 test("a line that is not of the program stays as the bench lists it", () => {
-  const plain = { address: 5, place: "005", second: "006", bytes: "005 40 02", labels: "", instruction: "JUN 0x002", source: "" };
+  const plain = { address: 5, first: "005", second: "006", bytes: "005 40 02", labels: "", instruction: "JUN 0x002", source: "" };
   assert.deepEqual(namedLine(listed("005 40 02 JUN 0x002"), MAP), plain);
   assert.deepEqual(namedLine(listed("005 40 02 JUN 0x002"), null), plain);
 });

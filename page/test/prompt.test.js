@@ -6,7 +6,7 @@ import { DebugSession } from "../src/debug/debug_session.js";
 import { COMMANDS, commandOf, helpOf } from "../src/prompt/command_table.js";
 import { Prompt } from "../src/prompt/prompt.js";
 import { View, sizeOf } from "../src/prompt/view.js";
-import { countIn, cyclesIn, placeIn } from "../src/prompt/words_of_line.js";
+import { countIn, cyclesIn, instructionIn } from "../src/prompt/words_of_line.js";
 import { Engine } from "../src/worker/engine.js";
 import { dataOfPage } from "../../tools/lib/page_parts.mjs";
 import { moduleOfPage } from "./page_session.js";
@@ -58,7 +58,7 @@ test("the table of commands: each is there, is found by its words, and has help"
 
 test("places, counts and times", async () => {
   const { session } = await prompted();
-  const at = (text) => placeIn(text, session);
+  const at = (text) => instructionIn(text, session);
   assert.deepEqual(at("wait"), { line: session.map.lineOf(0x014), address: 0x014 });
   assert.deepEqual(at("WAIT + 2").address, 0x016);
   assert.deepEqual(at("*0x016").address, 0x016);

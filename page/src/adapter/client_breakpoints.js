@@ -114,7 +114,7 @@ export class ClientBreakpoints {
    */
   async set(kind, wanted) {
     this.wanted[kind] = wanted;
-    const faults = await this.place();
+    const faults = await this.apply();
     return wanted.map((each) => this.told(each, faults.get(each) || ""));
   }
 
@@ -143,7 +143,7 @@ export class ClientBreakpoints {
   }
 
   /** They are those that stop from here on. Gives why some cannot be. */
-  async place() {
+  async apply() {
     const { session } = this;
     /** @type {Map<Wanted, string>} */
     const faults = new Map();
@@ -159,7 +159,7 @@ export class ClientBreakpoints {
       made.hits = hits.get(address) || 0;
       this.byId.set(made.id, each);
     }
-    const { faults: unreadable } = await session.placeBreakpoints();
+    const { faults: unreadable } = await session.applyBreakpoints();
     for (const [id, words] of unreadable) faults.set(/** @type {Wanted} */ (this.byId.get(id)), words);
     return faults;
   }
@@ -185,7 +185,7 @@ export class ClientBreakpoints {
       Object.assign(each, { line, address, words: address < 0 ? words : each.words });
       return isOther;
     });
-    await this.place();
+    await this.apply();
     return moved.map((each) => this.told(each, ""));
   }
 
@@ -220,7 +220,7 @@ export class ClientBreakpoints {
   async leave() {
     this.wanted = { lines: [], labels: [], addresses: [] };
     try {
-      await this.place();
+      await this.apply();
       await this.setData({});
     } catch (thrown) {
       return wordsOf(thrown);

@@ -124,14 +124,14 @@ export class Console {
    */
   moveTo(word, rest) {
     if (this.machine.isMoving) fail(say.TIME_RUNS);
-    const place = rest.join(" ");
+    const where = rest.join(" ");
     /** @type {(act: () => void) => Done} */
     const move = (act) => ({ words: "", changes: false, move: act });
     if (word === "forward") return move(() => this.machine.forward());
-    if (word === "back") return move(() => this.machine.back(place === "" ? { kind: "instruction" } : { kind: "change", place }));
-    if (place === "") fail(say.placeForm(word === "until" ? say.UNTIL_FORM : say.CHANGE_FORM));
-    if (word === "change") return move(() => this.machine.go({ kind: "change", place }));
-    const address = addressOf(place, this.known);
+    if (word === "back") return move(() => this.machine.back(where === "" ? { kind: "instruction" } : { kind: "change", place: where }));
+    if (where === "") fail(say.placeForm(word === "until" ? say.UNTIL_FORM : say.CHANGE_FORM));
+    if (word === "change") return move(() => this.machine.go({ kind: "change", place: where }));
+    const address = addressOf(where, this.known);
     return move(() => this.machine.go({ kind: "here", address }));
   }
 

@@ -141,7 +141,7 @@ export class DebugAdapter {
       looked: () => this.tellBoard(),
     }, launched.isRealTime);
     const breakpoints = new ClientBreakpoints(session);
-    await breakpoints.place();
+    await breakpoints.apply();
     const face = new Face(session.boardText);
     const known = { session, face, instructions: this.instructions, shown: () => machine.shown.now() };
     const lines = new Console(machine, known, this.words, {
@@ -261,8 +261,8 @@ export class DebugAdapter {
 
   /** @param {import("./client_breakpoints.js").Told} told */
   breakpointOf({ address, line, ...told }) {
-    const place = line === undefined ? {} : { line: line - 1 + this.firstLine, source: this.there.answering.source };
-    return { ...told, ...place, ...(address >= 0 ? { instructionReference: referenceOf(address) } : {}) };
+    const inSource = line === undefined ? {} : { line: line - 1 + this.firstLine, source: this.there.answering.source };
+    return { ...told, ...inSource, ...(address >= 0 ? { instructionReference: referenceOf(address) } : {}) };
   }
 
   /** @param {import("./client_breakpoints.js").Told} told */

@@ -103,9 +103,9 @@ function textIn(name, mark, host) {
  * @param {Words} words
  */
 function refused(name, { number, line }, words) {
-  const place = line > 0 ? `, line ${line}` : "";
+  const where = line > 0 ? `, line ${line}` : "";
   const why = number > 0 ? `${words.ofRefusal(number)} (no ${number})` : say.DOT_ALONE;
-  return new AdapterError(`${lastPart(name)}${place}: ${why}`, true);
+  return new AdapterError(`${lastPart(name)}${where}: ${why}`, true);
 }
 
 /**

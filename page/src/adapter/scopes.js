@@ -65,8 +65,8 @@ function banks({ standing }) {
  */
 function registersOfBank({ standing }, bank) {
   const ram = standing.ram.get(bank);
-  return [...(ram ? ram.registers : [])].map(([place, { characters: digits, status }]) => {
-    const [, chip, register] = place.split(".").map(Number);
+  return [...(ram ? ram.registers : [])].map(([name, { characters: digits, status }]) => {
+    const [, chip, register] = name.split(".").map(Number);
     return { ...variable(say.chipRegister(chip, register), `${digits} ${status}`),
       inside: REGISTER + 16 * bank + 4 * chip + register, count: 20 };
   });
@@ -94,14 +94,14 @@ function characters({ standing, session }, bank, register) {
 
 /** @param {Seen} seen */
 function ports({ standing, face }) {
-  /** @type {(place: string) => string} */
-  const named = (place) => (face.ports.has(place) ? `${place} ${(face.ports.get(place) || { text: "" }).text}` : place);
+  /** @type {(port: string) => string} */
+  const named = (port) => (face.ports.has(port) ? `${port} ${(face.ports.get(port) || { text: "" }).text}` : port);
   const { roms, chains, sources } = standing.ports;
-  const rams = [...standing.ram].flatMap(([bank, ram]) => [...ram.ports].map(([place, out]) => ({ bank, place, out })));
+  const rams = [...standing.ram].flatMap(([bank, ram]) => [...ram.ports].map(([name, out]) => ({ bank, name, out })));
   return [
     ...roms.map(({ chip, out, in: read }) => (
       { ...variable(named(`rom${chip}`), `out ${told(out)}, in ${told(read)}`), evaluateName: `rom${chip}` })),
-    ...rams.map(({ place, out }) => ({ ...variable(named(`ram${place}`), `out ${told(out)}`), evaluateName: `ram${place}` })),
+    ...rams.map(({ name, out }) => ({ ...variable(named(`ram${name}`), `out ${told(out)}`), evaluateName: `ram${name}` })),
     ...chains.map((bits, at) => variable(named(`chain${at}`), bits)),
     ...sources.map((source) => sourceOf(source)),
   ];

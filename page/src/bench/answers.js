@@ -78,9 +78,9 @@ export function readRam(answers) {
   const registers = new Map();
   const ports = new Map();
   for (const answer of answers.slice(1)) {
-    const [place, first, second] = answer.split(" ");
-    if (first === "out") ports.set(place, second);
-    else registers.set(place, { characters: first, status: second });
+    const [name, first, second] = answer.split(" ");
+    if (first === "out") ports.set(name, second);
+    else registers.set(name, { characters: first, status: second });
   }
   return { registers, ports };
 }

@@ -102,7 +102,7 @@ function mostLines(input, first, count) {
   if (count === "all") return Infinity;
   if (count === "list") return numberOf(input.words[2]);
   const words = first.split(" ");
-  return count.split("+").reduce((sum, place) => sum + Number(words[Number(place) - 1]), 1);
+  return count.split("+").reduce((sum, position) => sum + Number(words[Number(position) - 1]), 1);
 }
 
 /**

@@ -42,7 +42,7 @@ export function keysOf(board, face) {
       const key = `${row} ${column}`;
       const named = face.keys.get(key);
       const legend = named ? named.text.replace(/_/g, " ") : `${row}.${column}`;
-      const words = say.keyPlace(legend, row, column);
+      const words = say.keyAt(legend, row, column);
       const letter = legend === "" ? "" : take(legend, named ? named.text : "");
       keys.push({ key, legend, words, isNamed: Boolean(named && legend), isSwitch: false, letter });
     }

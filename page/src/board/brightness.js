@@ -210,14 +210,14 @@ export class Brightness {
    */
   addDisplay(at, { patterns, moved, shown }, cycles, kept) {
     const isStill = this.stillDisplays[at].isStill && !isScanned(this.displays[at]);
-    this.digits[at].forEach((digit, place) => {
+    this.digits[at].forEach((digit, index) => {
       if (isStill) {
-        digit.stand(patterns[place]);
+        digit.stand(patterns[index]);
         return;
       }
       digit.fade(kept);
-      if (moved) for (const [pattern, its] of shown[place]) digit.add(pattern, (its / cycles) * (1 - kept));
-      else if (patterns[place] !== NOT_LIT) digit.add(patterns[place], 1 - kept);
+      if (moved) for (const [pattern, its] of shown[index]) digit.add(pattern, (its / cycles) * (1 - kept));
+      else if (patterns[index] !== NOT_LIT) digit.add(patterns[index], 1 - kept);
     });
   }
 

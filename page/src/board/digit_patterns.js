@@ -71,7 +71,7 @@ function patternsOfScanned({ first, rows, columns, by }, marks) {
   const value = valueAt(marks, first);
   const segments = columns >= 7 ? segmentsAt(marks, first) : value < 10 ? DIGITS[value] : NO_DIGIT;
   const point = hasPoints(columns) && isLit(marks, first + columns - 1) ? POINT : 0;
-  return Array.from({ length: rows }, (_, place) => (isLit(marks, by + place) ? segments + point : NOT_LIT));
+  return Array.from({ length: rows }, (_, digit) => (isLit(marks, by + digit) ? segments + point : NOT_LIT));
 }
 
 /**
@@ -81,14 +81,14 @@ function patternsOfScanned({ first, rows, columns, by }, marks) {
 function patternsOfAll({ first, rows, columns }, marks) {
   const patterns = [];
   let isLeading = true;
-  for (let place = 0; place < rows; place++) {
-    const at = first + place * columns;
+  for (let digit = 0; digit < rows; digit++) {
+    const at = first + digit * columns;
     const point = hasPoints(columns) && isLit(marks, at + columns - 1) ? POINT : 0;
     if (columns >= 7) {
       patterns.push(segmentsAt(marks, at) + point);
       continue;
     }
-    const isLast = place === rows - 1;
+    const isLast = digit === rows - 1;
     const value = valueAt(marks, at);
     isLeading = isLeading && value === 0 && point === 0 && !isLast;
     patterns.push(isLeading ? 0 : (value < 10 ? DIGITS[value] : NO_DIGIT) + (isLast ? 0 : point));

@@ -100,14 +100,14 @@ class Display {
 
   /** @param {string} marks */
   show(marks) {
-    patternsAt(this.group, marks).forEach((pattern, place) => this.digits[place].set(pattern));
+    patternsAt(this.group, marks).forEach((pattern, index) => this.digits[index].set(pattern));
   }
 
   /** @param {import("./brightness.js").SeenDigit[]} seen */
   shine(seen) {
     // By turns each of them can be lit for its part of the time alone.
     const turns = isScanned(this.group) ? this.group.rows : 1;
-    seen.forEach((digit, place) => this.digits[place].shine(digit, turns));
+    seen.forEach((digit, index) => this.digits[index].shine(digit, turns));
   }
 }
 

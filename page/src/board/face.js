@@ -9,14 +9,14 @@ import * as say from "../words/board.js";
  * @typedef {{ line: number, words: string, isRefused: boolean }} Fault
  * @typedef {import("./face_words.js").Kind} Kind
  * @typedef {{ text: string, line: number }} Told a word or words, and the line that tells them
- * @typedef {{ row: number, column: number, lamp: number, line: number }} GridPlace
+ * @typedef {{ row: number, column: number, lamp: number, line: number }} GridLamp
  * @typedef {{ kind: string, first: number, rows: number, columns: number, by: number, line: number }} Group so many rows of so many
  *   lamps; of a display the digits, and the lamps of each: four or seven, and one more with points. One that is scanned has one row of
  *   lamps alone, and from lamp `by` on, which is else -1, one for each row: what is in a row is lit where its lamp and its row's are
  * @typedef {{ kind: string, name: string, level: number, line: number }} TestPin a `button` or a `switch`; TEST has this level while
  *   it is pressed
- * @typedef {{ name: string, kind: Kind, place: string, words: string, line: number }} Line with the word that begins it, and what stands
- *   behind that
+ * @typedef {{ name: string, kind: Kind, first: string, words: string, line: number }} Line with the word that begins it, the first
+ *   word behind that, and what stands behind the colon
  */
 
 /**
@@ -39,7 +39,7 @@ export class Face {
     this.lampNumbers = new Map();
     /** @type {Map<number, Told>} */
     this.colours = new Map();
-    /** @type {GridPlace[]} */
+    /** @type {GridLamp[]} */
     this.grid = [];
     /** @type {Group[]} */
     this.groups = [];
@@ -64,7 +64,7 @@ export class Face {
     /** How many words of lists were read; from the line on that has too many nothing is read. */
     this.wordCount = 0;
     text.split("\n").forEach((line, at) => this.read(line.replace(/\r$/, ""), at + 1));
-    for (const place of this.gridWords) this.placeOnGrid(place);
+    for (const word of this.gridWords) this.putOnGrid(word);
   }
 
   /**
@@ -96,15 +96,15 @@ export class Face {
   read(text, line) {
     const found = this.wordCount <= MOST_WORDS ? headOf(text) : null;
     if (!found) return;
-    const { name, kind, place, last, words } = found;
+    const { name, kind, first, last, words } = found;
     this.told += `${text}\n`;
     this.isRefused = kind.isRefused;
     if (kind.counts) this.wordCount += wordsOf(words).filter((word) => word !== "_").length;
     if (this.wordCount > MOST_WORDS) this.fault(line, said("too many words"));
-    else if (!fitsHead(kind, place, last)) this.fault(line, kind.form);
+    else if (!fitsHead(kind, first, last)) this.fault(line, kind.form);
     else if (kind.size === "-" && !fitsWords(kind, wordsOf(words))) this.fault(line, kind.other);
-    else if (name === "colour" && last !== undefined) this.readRange(Number(place), Number(last), words, line, kind);
-    else READERS[name](this, { name, kind, place: (place || "").toLowerCase(), words, line });
+    else if (name === "colour" && last !== undefined) this.readRange(Number(first), Number(last), words, line, kind);
+    else READERS[name](this, { name, kind, first: (first || "").toLowerCase(), words, line });
   }
 
   /**
@@ -206,10 +206,10 @@ export class Face {
   }
 
   /**
-   * Finds the lamp of a place, once all names are known.
-   * @param {{ row: number, column: number, word: string, line: number }} place
+   * Finds the lamp of a word of the grid, once all names are known.
+   * @param {{ row: number, column: number, word: string, line: number }} word
    */
-  placeOnGrid({ row, column, word, line }) {
+  putOnGrid({ row, column, word, line }) {
     const named = this.lampNumbers.get(word);
     if (named !== undefined) this.grid.push({ row, column, lamp: named, line });
     else if (isNumber(word)) this.grid.push({ row, column, lamp: Number(word), line });
@@ -220,9 +220,9 @@ export class Face {
    * A display, a die, a bar or a matrix.
    * @param {Line} line
    */
-  readGroup({ name, kind, place, words, line }) {
+  readGroup({ name, kind, first, words, line }) {
     const size = sizeOf(kind, wordsOf(words));
-    const group = size && { kind: name, first: Number(place), ...size, line };
+    const group = size && { kind: name, first: Number(first), ...size, line };
     if (!group) this.fault(line, kind.other);
     else if (group.by < 0 || this.canBeScanned(group)) this.groups.push(group);
   }
@@ -274,12 +274,12 @@ export class Face {
   }
 
   /**
-   * @param {string} place
+   * @param {string} port
    * @param {string} text
    * @param {number} line
    */
-  readPort(place, text, line) {
-    if (this.isFirst(place, line, "second port", place)) this.ports.set(place, { text: wordsOf(text).join(" "), line });
+  readPort(port, text, line) {
+    if (this.isFirst(port, line, "second port", port)) this.ports.set(port, { text: wordsOf(text).join(" "), line });
   }
 }
 
@@ -300,15 +300,15 @@ const readGroup = (face, line) => face.readGroup(line);
  */
 const READERS = {
   title: (face, { words, line }) => face.readTitle(words, line),
-  row: (face, { place, words, line }) => face.readRow(Number(place), words, line),
-  lamp: (face, { place, words, line }) => face.readLamps(Number(place), words, line),
-  colour: (face, { place, words, line }) => face.readColours(Number(place), words, line),
-  grid: (face, { place, words, line }) => face.readGrid(Number(place), words, line),
+  row: (face, { first, words, line }) => face.readRow(Number(first), words, line),
+  lamp: (face, { first, words, line }) => face.readLamps(Number(first), words, line),
+  colour: (face, { first, words, line }) => face.readColours(Number(first), words, line),
+  grid: (face, { first, words, line }) => face.readGrid(Number(first), words, line),
   display: readGroup, die: readGroup, bar: readGroup, matrix: readGroup,
   test: (face, { words, line }) => face.readTest(words, line),
-  buzzer: (face, { place, words, line }) => face.readBuzzer(place, words, line),
-  printer: (face, { place, words, line }) => face.readPrinter(place, words, line),
-  port: (face, { place, words, line }) => face.readPort(place, words, line),
+  buzzer: (face, { first, words, line }) => face.readBuzzer(first, words, line),
+  printer: (face, { first, words, line }) => face.readPrinter(first, words, line),
+  port: (face, { first, words, line }) => face.readPort(first, words, line),
 };
 
 /**

@@ -70,13 +70,13 @@ function isHead(name, word) {
 /**
  * Whether this can stand between the word of a line and its colon.
  * @param {Kind} kind
- * @param {string | undefined} place
+ * @param {string | undefined} first
  * @param {string | undefined} last after `to`
  */
-export function fitsHead({ head }, place, last) {
-  if (head === "-") return place === undefined;
-  if (head === "N to N") return isNumber(place) && (last === undefined || isNumber(last));
-  return isHead(head, place) && last === undefined;
+export function fitsHead({ head }, first, last) {
+  if (head === "-") return first === undefined;
+  if (head === "N to N") return isNumber(first) && (last === undefined || isNumber(last));
+  return isHead(head, first) && last === undefined;
 }
 
 /**
@@ -116,6 +116,6 @@ export function headOf(text) {
   const word = found[1].toLowerCase().replace(/s$/, "");
   const name = OTHERS.get(word) || word;
   const kind = KINDS.get(name);
-  const [, , place, last, words] = found;
-  return kind ? { name, kind, place, last, words } : null;
+  const [, , first, last, words] = found;
+  return kind ? { name, kind, first, last, words } : null;
 }

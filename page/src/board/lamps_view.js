@@ -65,12 +65,12 @@ class Lamp {
 /**
  * The list of a group's lamps.
  * @param {Group} group
- * @param {(at: number, place: string) => HTMLElement} lamp
+ * @param {(at: number, words: string) => HTMLElement} lamp
  */
 function listOf({ kind, rows, columns }, lamp) {
   const cells = upTo(rows * columns).map((at) => {
-    const place = rows > 1 ? say.placeInGroup(Math.floor(at / columns), at % columns) : say.lampOfRow(at + 1, columns);
-    return element("li", {}, lamp(at, place));
+    const words = rows > 1 ? say.rowAndColumn(Math.floor(at / columns), at % columns) : say.lampOfRow(at + 1, columns);
+    return element("li", {}, lamp(at, words));
   });
   const list = element("ul", { className: `group ${kind}` }, ...cells);
   list.setAttribute("aria-label", kind);
@@ -148,7 +148,7 @@ export class LampsView {
    * @param {Group} group
    */
   drawGroup(group) {
-    return listOf(group, (at, place) => this.lamp(group.first + at, place));
+    return listOf(group, (at, words) => this.lamp(group.first + at, words));
   }
 
   /**
@@ -158,7 +158,7 @@ export class LampsView {
    */
   drawScanned(group, number) {
     const { first, rows, columns, by } = group;
-    return listOf(group, (at, place) => {
+    return listOf(group, (at, words) => {
       const [column, row] = [first + (at % columns), by + Math.floor(at / columns)];
       /** @type {Seen["part"]} */
       const part = ({ scanned }) => Math.min(1, scanned[number][at] * rows);
@@ -166,7 +166,7 @@ export class LampsView {
       const seen = {
         isLit: (marks) => isLit(marks, column) && isLit(marks, row), part, isOn: (brightness) => part(brightness) >= SEEN_PART,
       };
-      return this.add(column, seen, place, say.both(this.lines[column], this.lines[row]));
+      return this.add(column, seen, words, say.both(this.lines[column], this.lines[row]));
     });
   }
 
@@ -174,7 +174,7 @@ export class LampsView {
   drawGrid(grid) {
     const named = grid.some(({ lamp }) => this.nameOf(lamp) !== "");
     const cells = grid.map(({ row, column, lamp }) => {
-      const node = element("li", {}, this.lamp(lamp, say.placeInGroup(row, column)));
+      const node = element("li", {}, this.lamp(lamp, say.rowAndColumn(row, column)));
       if (named) node.append(element("span", {}, this.nameOf(lamp)));
       node.style.setProperty("grid-row", String(row + 1));
       node.style.setProperty("grid-column", String(column + 1));

@@ -73,7 +73,7 @@ export class WiringView {
       this.roms.forEach(({ mask, levels }, at) => setAll(levels, (line) => isHighAtRom(mask, ports.roms[at], line)));
       this.chains.forEach((levels, at) => setAll(levels, (bit) => ports.chains[at][bit] === "1"));
     }
-    for (const [place, digit] of this.ramPorts) setAll(this.rams.get(place) || [], (line) => isHigh(digit, line));
+    for (const [name, digit] of this.ramPorts) setAll(this.rams.get(name) || [], (line) => isHigh(digit, line));
     setAll([this.levels.get("")], () => this.isTestHigh);
   }
 
@@ -120,8 +120,8 @@ export class WiringView {
     const levelsOf = (owner, count) => upTo(count).map((line) => this.levels.get(`${owner}.${line}`));
     this.roms = roms.map(({ chip, port }) => ({ mask: port, levels: levelsOf(`rom${chip}`, 4) }));
     this.chains = chains.map(({ chips }, at) => levelsOf(`chain${at}`, BITS * chips));
-    const places = banks.flatMap(({ bank, chips }) => upTo(chips).map((chip) => `${bank}.${chip}`));
-    this.rams = new Map(places.map((place) => [place, levelsOf(`ram${place}`, 4)]));
+    const names = banks.flatMap(({ bank, chips }) => upTo(chips).map((chip) => `${bank}.${chip}`));
+    this.rams = new Map(names.map((name) => [name, levelsOf(`ram${name}`, 4)]));
   }
 
   /**
@@ -170,12 +170,12 @@ export class WiringView {
   drawPin(part, pin, nodes) {
     const isLeft = pin.x === part.x;
     const isLamp = part.kind === "lamps";
-    const place = { cx: pin.x, cy: pin.y };
-    const dot = drawn("circle", { class: isLamp ? `lamp ${pin.colour}` : "pin", ...place, r: isLamp ? 6 : 4 });
+    const centre = { cx: pin.x, cy: pin.y };
+    const dot = drawn("circle", { class: isLamp ? `lamp ${pin.colour}` : "pin", ...centre, r: isLamp ? 6 : 4 });
     const side = isLeft ? "at-left" : "at-right";
     const label = drawn("text", { class: side, x: pin.x + (isLeft ? 10 : -10), y: pin.y + 4 }, pin.label);
     nodes.set(pin.line, [...(nodes.get(pin.line) || []), dot]);
-    const reach = drawn("circle", { class: "reach", ...place, r: REACH });
+    const reach = drawn("circle", { class: "reach", ...centre, r: REACH });
     const words = `${part.title}, ${pin.label}, ${this.wordsOfPin(pin)}`;
     const node = drawn("g", { "class": "at-pin", "role": "button", "tabindex": -1, "aria-label": words },
       drawn("title", {}, pin.line || say.TEST_PIN), dot, label, reach);
@@ -291,7 +291,7 @@ export class WiringView {
 
   /** @param {Ram} told */
   showRam({ ports }) {
-    for (const [place, digit] of ports) this.ramPorts.set(place, digit);
+    for (const [name, digit] of ports) this.ramPorts.set(name, digit);
     if (this.isShown()) this.showLevels();
   }
 

@@ -81,7 +81,7 @@ export class BreakpointKeeper {
     this.map = map;
     this.words = words;
     if (!this.told) return;
-    const moved = map ? this.list.place(map) : [];
+    const moved = map ? this.list.locate(map) : [];
     if (moved.length > 0) this.calls.tell(moved.join(" "));
     this.apply();
   }

@@ -50,8 +50,8 @@ export class BreakpointList {
 
   sort() {
     /** @type {(each: Breakpoint) => number} */
-    const place = ({ line, address }) => (line > 0 ? line : 1e6 + address);
-    this.all.sort((one, other) => place(one) - place(other));
+    const rank = ({ line, address }) => (line > 0 ? line : 1e6 + address);
+    this.all.sort((one, other) => rank(one) - rank(other));
   }
 
   /** @param {Partial<KeptBreakpoint>} some */
@@ -166,7 +166,7 @@ export class BreakpointList {
    * The text is what stands in ROM: each breakpoint has an address. Gives words of those that moved.
    * @param {SourceMap} map
    */
-  place(map) {
+  locate(map) {
     /** @type {string[]} */
     const words = [];
     /** @type {Map<number, Breakpoint>} */

@@ -3,7 +3,7 @@
 //     const engine = await Engine.load(bytes of the module);         (worker/engine.js)
 //     const session = new DebugSession(engine, { board, program });  texts; or { file, board, program } for the bytes of a .mcs
 //     session.refused;                                               what was refused of them
-//     session.breakpoints.add({ line: 12, condition: "r9 = 9" }); await session.placeBreakpoints();
+//     session.breakpoints.add({ line: 12, condition: "r9 = 9" }); await session.applyBreakpoints();
 //     const stop = await session.go();                               runs up to a stop; go({ kind: "over" | "out" | "here" | "change" .. })
 //     stop.why, stop.words, session.line, session.values(["r4", "pc", "lamps"]), session.returns;
 //     await session.into(); await session.back({ kind: "instruction" }); session.forward();
@@ -99,7 +99,7 @@ export class DebugSession {
     if (refusal) return refusal;
     this.program = program;
     this.map = this.readMap();
-    await this.placeBreakpoints();
+    await this.applyBreakpoints();
     return null;
   }
 
@@ -107,9 +107,9 @@ export class DebugSession {
    * The breakpoints of the list, as they are now, are those that stop. Gives words of those that moved to an instruction, and of each that
    * cannot be read, by its id, why.
    */
-  async placeBreakpoints() {
+  async applyBreakpoints() {
     const { session } = this.debugger;
-    const moved = this.breakpoints.place(this.map);
+    const moved = this.breakpoints.locate(this.map);
     const names = { face: new Face(this.boardText), board: readBoard(session.lookQuestions.board), map: this.map };
     const { lines, faults } = this.debugger.setBreakpoints(this.breakpoints.placed, names);
     if (lines) await session.serve(lines, always);

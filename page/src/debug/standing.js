@@ -133,12 +133,12 @@ export class Standing {
       all.set(byte === undefined ? "SRC" : say.sourceOf(bank), byte === undefined ? bank : byte);
     }
     for (const [bank, ram] of this.ram) {
-      for (const [place, { characters, status }] of ram.registers) {
-        const [, chip, register] = place.split(".").map(Number);
+      for (const [name, { characters, status }] of ram.registers) {
+        const [, chip, register] = name.split(".").map(Number);
         [...characters].forEach((value, at) => all.set(`ram.${bank}.0x${hex(chip * 64 + register * 16 + at, 2)}`, value));
         [...status].forEach((value, at) => all.set(`st.${bank}.${chip * 4 + register}.${at}`, value));
       }
-      for (const [place, value] of ram.ports) all.set(`ram${place} out`, value);
+      for (const [name, value] of ram.ports) all.set(`ram${name} out`, value);
     }
     for (const { chip, out } of ports.roms) all.set(`rom${chip} out`, out);
     ports.chains.forEach((bits, at) => all.set(`chain${at}`, bits));

@@ -161,7 +161,7 @@ function copy(sketch, part) {
  */
 function renameLamp(sketch, lamp, name) {
   /** @type {(text: string) => string} */
-  const gridOf = (text) => new Face(text).grid.map((place) => `${place.row} ${place.column} ${place.lamp}`).join();
+  const gridOf = (text) => new Face(text).grid.map((each) => `${each.row} ${each.column} ${each.lamp}`).join();
   const grid = gridOf(sketch.text);
   sketch.edit(nameLamp(sketch.draft, lamp, name));
   if (gridOf(sketch.text) !== grid) throw new ActRefusal(say.GRID_DIFFERS);

@@ -241,8 +241,8 @@ export function addLamp(sketch, line = "", colour = "") {
 export function addBuzzer(sketch, line = "") {
   if (new Face(sketch.text).buzzer) throw new ActRefusal(say.ONE_BUZZER);
   needRom(sketch);
-  const place = line || need(sketch, 1, freeOutputs, () => addRam(sketch))[0];
-  sketch.edit(setWhole(sketch.draft, "buzzer", place, "buzzer"));
+  const output = line || need(sketch, 1, freeOutputs, () => addRam(sketch))[0];
+  sketch.edit(setWhole(sketch.draft, "buzzer", output, "buzzer"));
   return BUZZER;
 }
 

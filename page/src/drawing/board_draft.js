@@ -80,17 +80,17 @@ export class BoardDraft {
   }
 
   /**
-   * The place of a character.
+   * The offset of a character.
    * @param {number} line from 1
    * @param {number} column
    */
-  place(line, column) {
+  offset(line, column) {
     return this.starts[line - 1] + column;
   }
 
   /** @param {Value | Key | Entry} from whose first character stands there */
   startOf({ line, from }) {
-    return this.place(line, from);
+    return this.offset(line, from);
   }
 
   /**
@@ -98,7 +98,7 @@ export class BoardDraft {
    * @param {{ end?: End, line: number, to: number }} value
    */
   endOf({ end, line, to }) {
-    return end ? this.place(end.line, end.to) : this.place(line, to);
+    return end ? this.offset(end.line, end.to) : this.offset(line, to);
   }
 
   /**

@@ -140,7 +140,7 @@ function removeChain(sketch, chain) {
     ...bits.map((value) => setWritten(draft, value, rename(String(value.inner)))),
     ...numbers.map((value) => setWritten(draft, value, Number(value.inner) - 1)),
   ]);
-  sketch.edit(renamePorts(sketch.draft, (place) => (place === `chain${chain}` ? "" : rename(place))));
+  sketch.edit(renamePorts(sketch.draft, (port) => (port === `chain${chain}` ? "" : rename(port))));
   sketch.edit(removePart(sketch.draft, "chain", chain));
 }
 
@@ -149,7 +149,7 @@ function removeChain(sketch, chain) {
  * @param {number} rom
  */
 function removeRom(sketch, rom) {
-  sketch.edit(renamePorts(sketch.draft, (place) => (place === `rom${rom}` ? "" : place)));
+  sketch.edit(renamePorts(sketch.draft, (port) => (port === `rom${rom}` ? "" : port)));
   const { draft } = sketch;
   sketch.edit(removePart(draft, "rom", draft.of("rom").indexOf(draft.numbered("rom", rom))));
 }
@@ -161,7 +161,7 @@ function removeRom(sketch, rom) {
  */
 function removeRam(sketch, ram) {
   const [bank, chip] = ram.split(".").map(Number);
-  sketch.edit(renamePorts(sketch.draft, (place) => (place === `ram${ram}` ? "" : place)));
+  sketch.edit(renamePorts(sketch.draft, (port) => (port === `ram${ram}` ? "" : port)));
   const { draft } = sketch;
   const entry = draft.numbered("ram", bank);
   sketch.edit(chip > 0 ? [setValue(draft, entry, "chips", chip)] : removePart(draft, "ram", draft.of("ram").indexOf(entry)));

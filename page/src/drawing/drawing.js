@@ -134,14 +134,14 @@ export class Drawing {
    */
   isThere(name) {
     const { board, face } = this;
-    const [kind, place] = name.split(" ");
+    const [kind, number] = name.split(" ");
     if (kind === "keys") return board.matrix !== null;
     if (kind === "lamps") return board.lamps.length > 0;
     if (kind === "test") return face.test !== null;
     if (kind === "buzzer") return Boolean(board.buzzer);
-    if (kind === "rom") return board.roms.some(({ chip }) => String(chip) === place);
-    if (kind === "chain") return Number(place) < board.chains.length;
-    if (kind === "ram") return linesOf(board).some((line) => line.name.startsWith(`ram${place}.`));
+    if (kind === "rom") return board.roms.some(({ chip }) => String(chip) === number);
+    if (kind === "chain") return Number(number) < board.chains.length;
+    if (kind === "ram") return linesOf(board).some((line) => line.name.startsWith(`ram${number}.`));
     return wiringOf(board).has(name) || linesOf(board).some((line) => line.name === name);
   }
 
@@ -230,7 +230,7 @@ export class Drawing {
    * A step of the text is undone, or done again.
    * @param {"undo" | "redo"} which
    */
-  step(which) {
+  undoOrRedo(which) {
     return this.inTurn(async () => {
       const isDone = this.calls[which]();
       this.said = which === "undo" ? say.UNDONE : say.REDONE;

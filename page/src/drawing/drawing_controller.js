@@ -43,7 +43,7 @@ export class DrawingController {
   makeView() {
     return new DrawingView(this.picture, {
       act: (act) => this.tried(this.drawing.act(act)),
-      step: (which) => this.tried(this.drawing.step(which)),
+      undoOrRedo: (which) => this.tried(this.drawing.undoOrRedo(which)),
       wire: () => this.tried(this.wire()),
       find: this.calls.find,
       tidy: () => this.tidy(),
@@ -66,7 +66,7 @@ export class DrawingController {
       },
       deleted: (name) => this.tried(drawing.act({ kind: "delete", part: name })),
       left: () => drawing.leave(),
-      step: (which) => this.tried(drawing.step(which)),
+      undoOrRedo: (which) => this.tried(drawing.undoOrRedo(which)),
     });
   }
 

@@ -11,7 +11,7 @@ import * as say from "../words/drawing.js";
  * @typedef {import("./drawing.js").Shown} Shown
  * @typedef {import("./fields.js").Field} Field
  * @typedef {import("../board/wiring_view.js").WiringView} WiringView
- * @typedef {{ act: (act: Act) => void, step: (which: "undo" | "redo") => void, wire: () => void, find: (part: string) => void,
+ * @typedef {{ act: (act: Act) => void, undoOrRedo: (which: "undo" | "redo") => void, wire: () => void, find: (part: string) => void,
  *   tidy: () => void }} ViewCalls
  */
 
@@ -42,8 +42,8 @@ export class DrawingView {
     /** @type {WeakMap<HTMLElement, string>} the values that were shown last */
     this.values = new WeakMap();
     this.makeShelf();
-    onClick(button("drawing-undo"), () => calls.step("undo"));
-    onClick(button("drawing-redo"), () => calls.step("redo"));
+    onClick(button("drawing-undo"), () => calls.undoOrRedo("undo"));
+    onClick(button("drawing-redo"), () => calls.undoOrRedo("redo"));
     onClick(button("drawing-wire"), () => calls.wire());
     onClick(button("drawing-tidy"), () => calls.tidy());
   }

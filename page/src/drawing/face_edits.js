@@ -27,7 +27,7 @@ export function wordOf(name) {
 }
 
 /**
- * A word of a list that is numbered from the place in its head on: where it stands, else behind the list that ends there, else in a line
+ * A word of a list that is numbered from the number in its head on: where it stands, else behind the list that ends there, else in a line
  * of its own.
  * @param {BoardDraft} draft
  * @param {"lamp" | "colour"} kind
@@ -36,7 +36,7 @@ export function wordOf(name) {
  * @returns {TextEdit[]}
  */
 function setInList(draft, kind, lamp, text) {
-  const lists = faceLines(draft).filter((line) => line.kind === kind && line.place && !line.last);
+  const lists = faceLines(draft).filter((line) => line.kind === kind && line.first && !line.last);
   const own = lists.find((line) => numberOfLine(line) <= lamp && lamp < numberOfLine(line) + line.words.length);
   if (own) {
     const others = own.words.filter((_, at) => numberOfLine(own) + at !== lamp);
@@ -62,7 +62,7 @@ export function nameLamp(draft, lamp, name) {
   const old = own && own.words[lamp - numberOfLine(own)].text;
   const onGrid = lines.filter(({ kind }) => kind === "grid").flatMap(({ words }) => words)
     .filter(({ text }) => text === old && text !== NONE);
-  return [...setInList(draft, "lamp", lamp, word), ...onGrid.flatMap((place) => setWord(place, word || String(lamp)))];
+  return [...setInList(draft, "lamp", lamp, word), ...onGrid.flatMap((each) => setWord(each, word || String(lamp)))];
 }
 
 /**
@@ -74,13 +74,13 @@ export function nameLamp(draft, lamp, name) {
 export function colourLamp(draft, lamp, colour) {
   const range = faceLines(draft).find((line) => line.kind === "colour" && line.last && numberOfLine(line) <= lamp
     && lamp <= Number(line.last.text));
-  if (!range || !range.place || !range.last) return setInList(draft, "colour", lamp, colour);
+  if (!range || !range.first || !range.last) return setInList(draft, "colour", lamp, colour);
   const first = numberOfLine(range);
   const [old = { text: NONE }] = range.words;
   const words = Array.from({ length: Number(range.last.text) - first + 1 }, (_, at) => (first + at === lamp ? colour || NONE : old.text));
   const areAlike = words.every((word) => word === words[0]);
   if (areAlike) return words[0] === NONE ? [removeFaceLine(draft, range)] : setWord(range.words[0], words[0]);
-  return [{ from: range.place.to, to: range.end, insert: `: ${words.join(" ")}` }];
+  return [{ from: range.first.to, to: range.end, insert: `: ${words.join(" ")}` }];
 }
 
 /**
@@ -104,14 +104,14 @@ export function nameKey(draft, { row, column }, name) {
  * A line that tells its words whole, as `# port rom0: keys` and `# title: Lock`.
  * @param {BoardDraft} draft
  * @param {"title" | "test" | "port" | "buzzer"} kind
- * @param {string} place "" for none
+ * @param {string} head "" for none
  * @param {string} words "" for no such line
  * @returns {TextEdit[]}
  */
-export function setWhole(draft, kind, place, words) {
+export function setWhole(draft, kind, head, words) {
   const text = words.trim().replace(/[ \t]+/g, " ");
-  const line = faceLines(draft).find((each) => each.kind === kind && (each.place ? each.place.text.toLowerCase() : "") === place);
-  if (!line) return text === "" ? [] : addFaceLine(draft, kind, `# ${kind}${place && ` ${place}`}: ${text}`);
+  const line = faceLines(draft).find((each) => each.kind === kind && (each.first ? each.first.text.toLowerCase() : "") === head);
+  if (!line) return text === "" ? [] : addFaceLine(draft, kind, `# ${kind}${head && ` ${head}`}: ${text}`);
   if (text === "") return [removeFaceLine(draft, line)];
   const [first] = line.words;
   return [{ from: first ? first.from : line.end, to: line.end, insert: first ? text : ` ${text}` }];
@@ -124,7 +124,7 @@ export function setWhole(draft, kind, place, words) {
  */
 export function moveBuzzer(draft, line) {
   const told = faceLines(draft).find(({ kind }) => kind === "buzzer");
-  return told && told.place ? setWord(told.place, line) : [];
+  return told && told.first ? setWord(told.first, line) : [];
 }
 
 /**
@@ -149,7 +149,7 @@ export function renumberLamps(draft, gone) {
   const numberOf = (lamp) => lamp - [...gone].filter((each) => each < lamp).length;
   return faceLines(draft).flatMap((line) => {
     if (line.kind === "grid") return renumberGrid(draft, line, gone, numberOf);
-    if (!OF_LAMPS.has(line.kind) || !line.place || Number.isNaN(numberOfLine(line))) return [];
+    if (!OF_LAMPS.has(line.kind) || !line.first || Number.isNaN(numberOfLine(line))) return [];
     if (line.last) return renumberRange(draft, line, gone, numberOf);
     return renumberList(draft, line, gone, numberOf);
   });
@@ -168,7 +168,7 @@ function renumberList(draft, line, gone, numberOf) {
   const isGroup = line.kind !== "lamp" && line.kind !== "colour";
   const kept = isGroup ? [...(gone.has(first) ? [] : [first])] : line.words.map((_, at) => first + at).filter((lamp) => !gone.has(lamp));
   if (kept.length === 0) return [removeFaceLine(draft, line)];
-  const head = setWord(/** @type {import("./face_lines.js").PlacedWord} */ (line.place), String(numberOf(kept[0])));
+  const head = setWord(/** @type {import("./face_lines.js").FaceWord} */ (line.first), String(numberOf(kept[0])));
   if (!isGroup) return [...head, ...removeWords(line, (at) => gone.has(first + at))];
   // `scanned by N`: the lamp from which on the digits or the rows are.
   const by = line.words[line.words.findIndex(({ text }) => text === "scanned") + 2];
@@ -183,12 +183,12 @@ function renumberList(draft, line, gone, numberOf) {
  * @returns {TextEdit[]}
  */
 function renumberRange(draft, line, gone, numberOf) {
-  const { place, last } = line;
-  if (!place || !last) return [];
+  const { first, last } = line;
+  if (!first || !last) return [];
   const lamps = Array.from({ length: Math.max(0, Number(last.text) - numberOfLine(line) + 1) }, (_, at) => numberOfLine(line) + at);
   const kept = lamps.filter((lamp) => !gone.has(lamp));
   if (kept.length === 0) return [removeFaceLine(draft, line)];
-  return [...setWord(place, String(numberOf(kept[0]))), ...setWord(last, String(numberOf(kept[kept.length - 1])))];
+  return [...setWord(first, String(numberOf(kept[0]))), ...setWord(last, String(numberOf(kept[kept.length - 1])))];
 }
 
 /**
@@ -199,7 +199,7 @@ function renumberRange(draft, line, gone, numberOf) {
  * @returns {TextEdit[]}
  */
 function renumberGrid(draft, line, gone, numberOf) {
-  const names = new Map(faceLines(draft).filter(({ kind, place, last }) => kind === "lamp" && place && !last)
+  const names = new Map(faceLines(draft).filter(({ kind, first, last }) => kind === "lamp" && first && !last)
     .flatMap((list) => list.words.map(({ text }, at) => /** @type {[string, number]} */ ([text, numberOfLine(list) + at]))));
   const texts = line.words.map(({ text }) => {
     const named = names.get(text);
@@ -214,29 +214,29 @@ function renumberGrid(draft, line, gone, numberOf) {
 /**
  * Ports and chains have gone, or have other numbers.
  * @param {BoardDraft} draft
- * @param {(place: string) => string} newPortOf the port that one is from now on, "" for one that has gone
+ * @param {(port: string) => string} newPortOf the port that one is from now on, "" for one that has gone
  * @returns {TextEdit[]}
  */
 export function renamePorts(draft, newPortOf) {
   return faceLines(draft).flatMap((line) => {
-    if (!line.place || !OF_PORTS.includes(line.kind)) return [];
+    if (!line.first || !OF_PORTS.includes(line.kind)) return [];
     // A printer has the port of its code behind its strobe.
-    const places = [line.place, ...(line.kind === "printer" ? line.words.slice(0, 1) : [])];
-    const renamed = places.map(({ text }, at) => renamedPlace(text, line.kind !== "port" && at === 0, newPortOf));
+    const words = [line.first, ...(line.kind === "printer" ? line.words.slice(0, 1) : [])];
+    const renamed = words.map(({ text }, at) => renamedPort(text, line.kind !== "port" && at === 0, newPortOf));
     if (renamed.includes("")) return [removeFaceLine(draft, line)];
-    return places.flatMap((place, at) => setWord(place, renamed[at]));
+    return words.flatMap((word, at) => setWord(word, renamed[at]));
   });
 }
 
 /**
  * @param {string} text
  * @param {boolean} isLine whether it is one line of a port
- * @param {(place: string) => string} newPortOf
+ * @param {(port: string) => string} newPortOf
  */
-function renamedPlace(text, isLine, newPortOf) {
+function renamedPort(text, isLine, newPortOf) {
   const end = isLine ? text.lastIndexOf(".") : text.length;
-  const place = newPortOf(text.slice(0, end).toLowerCase());
-  return place && place + text.slice(end);
+  const port = newPortOf(text.slice(0, end).toLowerCase());
+  return port && port + text.slice(end);
 }
 
 /**

@@ -1,4 +1,4 @@
-// The lines of a face in a board's text with the places of their words, and what changes one of them.
+// The lines of a face in a board's text with the offsets of their words, and what changes one of them.
 
 import { headOf } from "../board/face_words.js";
 import { removeLines } from "./part_edits.js";
@@ -6,22 +6,22 @@ import { removeLines } from "./part_edits.js";
 /**
  * @typedef {import("./board_draft.js").BoardDraft} BoardDraft
  * @typedef {import("./text_edits.js").TextEdit} TextEdit
- * @typedef {{ text: string, from: number, to: number }} PlacedWord
+ * @typedef {{ text: string, from: number, to: number }} FaceWord
  *
- * A line of a face: its number in the text, what it tells, the place in its head with the last one of a range, where it has them, and its
- * words; places are those of the text.
- * @typedef {{ line: number, kind: string, place: PlacedWord | null, last: PlacedWord | null, words: PlacedWord[], end: number }} FaceLine
+ * A line of a face: its number in the text, what it tells, the first word of its head and the last one of a range, where it has
+ * them, and its words; offsets are those of the text.
+ * @typedef {{ line: number, kind: string, first: FaceWord | null, last: FaceWord | null, words: FaceWord[], end: number }} FaceLine
  */
 
 const HEAD = /^[ \t]*#[ \t]*[A-Za-z]+[ \t]*/;
 
 /**
- * The words of a text, with their places.
+ * The words of a text, with their offsets.
  * @param {string} text
  * @param {number} from where the text begins
- * @returns {PlacedWord[]}
+ * @returns {FaceWord[]}
  */
-function placedWords(text, from) {
+function wordsFrom(text, from) {
   return [...text.matchAll(/[^ \t\r]+/g)].map((found) => {
     const at = from + (found.index || 0);
     return { text: found[0], from: at, to: at + found[0].length };
@@ -39,9 +39,9 @@ export function faceLines(draft) {
     const begin = draft.starts[at];
     const [before] = HEAD.exec(text) || [""];
     const colon = text.indexOf(":", before.length);
-    const [place = null, , last = null] = placedWords(text.slice(before.length, colon), begin + before.length);
-    const words = placedWords(text.slice(colon + 1), begin + colon + 1);
-    return [{ line: at + 1, kind: head.name, place, last, words, end: begin + text.trimEnd().length }];
+    const [first = null, , last = null] = wordsFrom(text.slice(before.length, colon), begin + before.length);
+    const words = wordsFrom(text.slice(colon + 1), begin + colon + 1);
+    return [{ line: at + 1, kind: head.name, first, last, words, end: begin + text.trimEnd().length }];
   });
 }
 
@@ -49,8 +49,8 @@ export function faceLines(draft) {
  * The number in the head of a line; NaN where it has none.
  * @param {FaceLine} line
  */
-export function numberOfLine({ place }) {
-  return place ? Number(place.text) : NaN;
+export function numberOfLine({ first }) {
+  return first ? Number(first.text) : NaN;
 }
 
 /**
@@ -81,7 +81,7 @@ export function removeFaceLine(draft, { line }) {
 
 /**
  * Another word in the place of one.
- * @param {PlacedWord} word
+ * @param {FaceWord} word
  * @param {string} text
  * @returns {TextEdit[]}
  */
@@ -95,8 +95,8 @@ export function setWord(word, text) {
  * @param {(at: number) => boolean} goes
  * @returns {TextEdit[]}
  */
-export function removeWords({ words, place, last }, goes) {
-  const head = last || place;
+export function removeWords({ words, first, last }, goes) {
+  const head = last || first;
   return words.flatMap(({ from, to }, at) => {
     if (!goes(at)) return [];
     const before = words[at - 1] ? words[at - 1].to : from;

@@ -62,7 +62,7 @@ export function addPart(draft, kind, values) {
   const last = draft.of(kind).pop();
   if (!last) return [atEnd(draft, gap, block)];
   const line = draft.lastLine(last);
-  const at = draft.place(line, draft.lines[line - 1].length);
+  const at = draft.offset(line, draft.lines[line - 1].length);
   return [{ from: at, to: at, insert: gap + block }];
 }
 
@@ -81,7 +81,7 @@ function atEnd({ text, lines }, gap, block) {
 }
 
 /**
- * The word behind a place, and the one before it, with their places; ends of lines are none.
+ * The word behind an offset, and the one before it, with their offsets; ends of lines are none.
  * @param {BoardDraft} draft
  * @param {number} from
  * @param {number} to
@@ -89,11 +89,11 @@ function atEnd({ text, lines }, gap, block) {
 function around(draft, from, to) {
   const words = tomlWords(draft.lines).filter(({ kind }) => kind !== "end");
   /** @type {(word: TomlWord | undefined) => { text: string, from: number, to: number } | null} */
-  const placed = (word) => (word
-    ? { text: word.text, from: draft.place(word.line, word.from), to: draft.place(word.line, word.to) } : null);
-  const next = words.find((word) => draft.place(word.line, word.from) >= to);
-  const before = words.filter((word) => draft.place(word.line, word.to) <= from).pop();
-  return { before: placed(before), next: placed(next) };
+  const withOffsets = (word) => (word
+    ? { text: word.text, from: draft.offset(word.line, word.from), to: draft.offset(word.line, word.to) } : null);
+  const next = words.find((word) => draft.offset(word.line, word.from) >= to);
+  const before = words.filter((word) => draft.offset(word.line, word.to) <= from).pop();
+  return { before: withOffsets(before), next: withOffsets(next) };
 }
 
 /**
@@ -117,7 +117,7 @@ export function appendElement(draft, array, element) {
   const hasComma = next !== null && next.text === ",";
   const indent = last.line > array.line ? (/^[ \t]*/.exec(line) || [""])[0] : INDENT;
   // What closes the array goes on behind the new element.
-  const end = next && next.text === "]" && array.end.line === last.end.line ? at : draft.place(last.end.line, line.length);
+  const end = next && next.text === "]" && array.end.line === last.end.line ? at : draft.offset(last.end.line, line.length);
   const comma = { from: at, to: at, insert: "," };
   return [{ from: end, to: end, insert: `\n${indent}${element}${hasComma ? "," : ""}` }, ...(hasComma ? [] : [comma])];
 }

@@ -1,6 +1,6 @@
 // Where the parts that a board's picture shows stand in its text.
 
-import { placesOfParts } from "../bench/board_places.js";
+import { partLines } from "../bench/part_lines.js";
 import { Face } from "../board/face.js";
 
 /**
@@ -8,7 +8,7 @@ import { Face } from "../board/face.js";
  * @param {string} text
  */
 export function linesOfParts(text) {
-  const lines = placesOfParts(text);
+  const lines = partLines(text);
   const { test, buzzer } = new Face(text);
   if (test) lines.set("test", { from: test.line, to: test.line });
   if (buzzer) lines.set("buzzer", { from: buzzer.line, to: buzzer.line });

@@ -8,7 +8,7 @@
  * part goes; what was begun is left; a step is undone, or done again.
  * @typedef {{ pressed: (name: string) => void, wired: (from: string, to: string) => void, moved: (part: string,
  *   point: Point) => void, dropped: () => void, deleted: (name: string) => void, left: () => void,
- *   step: (which: "undo" | "redo") => void }} InputCalls
+ *   undoOrRedo: (which: "undo" | "redo") => void }} InputCalls
  *
  * What the pointer holds: a part or a pin, where it went down, and where the part stood.
  * @typedef {import("../board/wiring.js").Point} Point
@@ -148,7 +148,7 @@ export class PictureInput {
   doesWithControl({ key, shiftKey }) {
     const isUndo = key.toLowerCase() === "z" && !shiftKey;
     const isRedo = key.toLowerCase() === "y" || (key.toLowerCase() === "z" && shiftKey);
-    if (isUndo || isRedo) this.calls.step(isUndo ? "undo" : "redo");
+    if (isUndo || isRedo) this.calls.undoOrRedo(isUndo ? "undo" : "redo");
     return isUndo || isRedo;
   }
 

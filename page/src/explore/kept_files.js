@@ -1,6 +1,6 @@
 // Session files that are kept: of each one the words in which it differs from a first one, since most of a file is the same.
 
-/** @typedef {{ places: Uint32Array, words: Uint32Array }} KeptFile */
+/** @typedef {{ indexes: Uint32Array, words: Uint32Array }} KeptFile */
 
 const WORD = 4;
 
@@ -11,7 +11,7 @@ export class KeptFiles {
     this.scratch = new Uint32Array(first.length / WORD);
     this.bytes = new Uint8Array(this.scratch.buffer);
     /** @type {number[]} */
-    this.places = [];
+    this.indexes = [];
   }
 
   /**
@@ -20,21 +20,21 @@ export class KeptFiles {
    */
   keep(file) {
     const words = wordsOf(file);
-    const { first, places } = this;
-    places.length = 0;
-    for (let at = 0; at < first.length; at++) if (words[at] !== first[at]) places.push(at);
-    return { places: Uint32Array.from(places), words: Uint32Array.from(places, (at) => words[at]) };
+    const { first, indexes } = this;
+    indexes.length = 0;
+    for (let at = 0; at < first.length; at++) if (words[at] !== first[at]) indexes.push(at);
+    return { indexes: Uint32Array.from(indexes), words: Uint32Array.from(indexes, (at) => words[at]) };
   }
 
   /**
    * The bytes of a file. They are the same array each time.
    * @param {KeptFile} kept
    */
-  file({ places, words }) {
+  file({ indexes, words }) {
     const { scratch } = this;
     scratch.set(this.first);
-    places.forEach((place, at) => {
-      scratch[place] = words[at];
+    indexes.forEach((index, at) => {
+      scratch[index] = words[at];
     });
     return this.bytes;
   }

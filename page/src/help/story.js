@@ -21,7 +21,7 @@ export const TEXTS = ["program", "board", "tests", "properties", "wiring", "wave
 export const PANELS = ["front", "processor", "listing", "memory", "ports"];
 
 const ACT = /^(?:(run|stop|back|forward)|(go to|run to|back to|press|release|show) ([^ ]+))$/;
-const PLACE = /\[([^\]]+)\]\(([^()]+)\)/g;
+const LINK = /\[([^\]]+)\]\(([^()]+)\)/g;
 
 /**
  * @param {string} words
@@ -44,7 +44,7 @@ function partsOf(text) {
   /** @type {Part[]} */
   const parts = [];
   let end = 0;
-  for (const found of text.matchAll(PLACE)) {
+  for (const found of text.matchAll(LINK)) {
     const [whole, words, told] = found;
     const act = readAct(told);
     parts.push(text.slice(end, found.index), act ? { words, act } : words);

@@ -75,10 +75,10 @@ export class LinesView {
   /**
    * Brings back what was sent before, or after, what is shown.
    * @param {KeyboardEvent} event
-   * @param {number} step
+   * @param {number} by
    */
-  bring(event, step) {
-    const next = this.at + step;
+  bring(event, by) {
+    const next = this.at + by;
     if (next < 0 || next > this.sent.length) return;
     event.preventDefault();
     if (this.at === this.sent.length) this.typed = this.text;

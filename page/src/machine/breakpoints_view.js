@@ -15,7 +15,7 @@ import * as say from "../words/machine.js";
  * @typedef {import("./source_map.js").SourceMap} SourceMap
  * @typedef {import("../debug/breakpoint_keeper.js").BreakpointKeeper} BreakpointKeeper
  * @typedef {Pick<BreakpointKeeper, "list" | "faults" | "map">} Keeper
- * @typedef {{ root: HTMLLIElement, isOn: HTMLInputElement, mark: Cell, place: Cell, condition: HTMLInputElement, from: HTMLInputElement,
+ * @typedef {{ root: HTMLLIElement, isOn: HTMLInputElement, mark: Cell, where: Cell, condition: HTMLInputElement, from: HTMLInputElement,
  *   note: HTMLInputElement, hits: Cell, fault: Cell, isBroken: Switch }} Row
  *
  * What it calls: a breakpoint gets other words, or is switched; it is taken away; all are switched, or taken away; hits are counted anew;
@@ -94,7 +94,7 @@ export class BreakpointsView {
     row.isOn.checked = isOn;
     row.mark.set(mark);
     row.mark.node.title = words;
-    row.place.set(whereBreakpointIs(breakpoint, map));
+    row.where.set(whereBreakpointIs(breakpoint, map));
     // What is just being typed stays.
     /** @type {[HTMLInputElement, string][]} */
     const fields = [[row.condition, condition], [row.from, String(from)], [row.note, note]];
@@ -119,18 +119,18 @@ export class BreakpointsView {
    */
   makeRow(id, keeper) {
     const isOn = element("input", { "type": "checkbox", "aria-label": "on", "autocomplete": "off" });
-    const [mark, place, hits, fault] = [element("i", { "aria-hidden": "true" }), element("button", { type: "button", className: "place" }),
+    const [mark, where, hits, fault] = [element("i", { "aria-hidden": "true" }), element("button", { type: "button", className: "place" }),
       element("span", { className: "hits" }), element("p", { className: "fault", role: "alert" })].map((node) => new Cell(node));
     const words = say.STOPS_WHERE;
     const condition = makeField("where", say.SUCH_AS_CONDITION, 12, words);
     const from = makeField(say.FROM_HIT, "1", 3, say.STOPS_FROM_HIT);
     const note = makeField("log", say.SUCH_AS_NOTE, 12, say.LOGGED);
     const remove = element("button", { "type": "button", "aria-label": say.REMOVE_BREAKPOINT, "title": say.REMOVES_IT }, "\u00D7");
-    const root = element("li", {}, element("div", { className: "bar" }, isOn, mark.node, place.node, hits.node, remove),
+    const root = element("li", {}, element("div", { className: "bar" }, isOn, mark.node, where.node, hits.node, remove),
       element("div", { className: "words" }, condition.label, from.label, note.label), fault.node);
     isOn.addEventListener("change", () => this.calls.change(id, { isOn: isOn.checked }));
     onClick(remove, () => this.calls.remove(id));
-    onClick(place.node, () => {
+    onClick(where.node, () => {
       const found = keeper.list.get(id);
       if (found) this.calls.goTo(found);
     });
@@ -138,7 +138,7 @@ export class BreakpointsView {
     this.listen(note.field, () => this.calls.change(id, { note: note.field.value.trim() }));
     this.listen(from.field, () => this.changeFrom(id, from.field));
     const isBroken = new Switch((isOne) => condition.field.setAttribute("aria-invalid", String(isOne)));
-    const row = { root, isOn, mark, place, condition: condition.field, from: from.field, note: note.field, hits, fault, isBroken };
+    const row = { root, isOn, mark, where, condition: condition.field, from: from.field, note: note.field, hits, fault, isBroken };
     this.rows.set(id, row);
     return row;
   }
@@ -171,8 +171,8 @@ export class BreakpointsView {
     if (notes.length === 0) return;
     const lines = notes.slice(-MOST_NOTES).map(({ id, cycles, words }) => {
       const found = keeper.list.get(id);
-      const place = found ? whereBreakpointIs(found, keeper.map) : "";
-      return element("p", { title: `at ${wordsOfCycles(cycles)}` }, element("b", {}, place), ` ${words}`);
+      const where = found ? whereBreakpointIs(found, keeper.map) : "";
+      return element("p", { title: `at ${wordsOfCycles(cycles)}` }, element("b", {}, where), ` ${words}`);
     });
     const more = (noted - notes.length).toLocaleString("en");
     if (noted > notes.length) lines.unshift(element("p", { className: "hint" }, say.moreNotes(more)));

@@ -22,7 +22,7 @@ const MOST_PARTS = 50;
  * @param {number} number
  * @param {number} most
  */
-function step(number, most) {
+function degree(number, most) {
   return most <= 1 ? WARMEST : 1 + Math.min(WARMEST - 1, Math.floor(WARMEST * Math.log(number) / Math.log(most + 1)));
 }
 
@@ -37,7 +37,7 @@ export function warmthOf({ cycles, cells }, kind) {
   const most = Math.max(...cells.map(({ count }) => count));
   const last = Math.min(...cells.map(({ ago }) => ago));
   return new Map(cells.map(({ place, count, ago }) => (
-    [place, kind === "often" ? step(count, most) : WARMEST + 1 - step(1 + ago - last, cycles)])));
+    [place, kind === "often" ? degree(count, most) : WARMEST + 1 - degree(1 + ago - last, cycles)])));
 }
 
 /** What changes while time runs, over the last so many cycles of it. */

@@ -8,7 +8,7 @@ import { hex } from "../bench/numbers.js";
  *
  * What is shown of a line: its address and that of its second byte ("" for none) as answers write them, address and bytes, the labels at
  * it, its instruction, and its line of the source in words ("" for none).
- * @typedef {{ address: number, place: string, second: string, bytes: string, labels: string, instruction: string, source: string }}
+ * @typedef {{ address: number, first: string, second: string, bytes: string, labels: string, instruction: string, source: string }}
  *   NamedLine
  */
 
@@ -27,7 +27,7 @@ const COLON = 1;
 export function namedLine({ address, line }, map) {
   const [bytes, instruction] = [line.slice(0, BYTES_END), line.slice(INSTRUCTION_AT)];
   const second = bytes.slice(SECOND_BYTE).trim() === "" ? "" : hex(address + 1, 3);
-  const named = { address, place: hex(address, 3), second, bytes, labels: "", instruction, source: "" };
+  const named = { address, first: hex(address, 3), second, bytes, labels: "", instruction, source: "" };
   if (!map) return named;
   named.labels = map.labelsAt(address).map((label) => `${label}:`).join(" ");
   const number = map.lineOf(address);

@@ -15,13 +15,13 @@ import * as say from "../words/machine.js";
 
 /**
  * The mark of a breakpoint inside an instruction, where the source is not known, so that it is where the bench was told to have it.
- * @param {string} place
+ * @param {string} address
  * @param {Map<string, BreakpointMark>} breakpoints
  * @returns {BreakpointMark | undefined}
  */
-function insideMark(place, breakpoints) {
-  if (!breakpoints.has(place)) return undefined;
-  const words = say.insideBreakpoint(place);
+function insideMark(address, breakpoints) {
+  if (!breakpoints.has(address)) return undefined;
+  const words = say.insideBreakpoint(address);
   return { mark: "\u25CB", words };
 }
 
@@ -90,7 +90,7 @@ export class ListingRows {
       const line = lines[at];
       row.button.hidden = line === undefined;
       if (!line) return;
-      const own = breakpoints.get(line.place);
+      const own = breakpoints.get(line.first);
       const mark = own || insideMark(line.second, breakpoints);
       const title = [mark ? mark.words : "", line.source].filter(Boolean).join("; ");
       row.address = line.address;

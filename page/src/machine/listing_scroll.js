@@ -46,7 +46,7 @@ export class ListingScroll {
    * The first row shows this address.
    * @param {number} address
    */
-  place(address) {
+  beginAt(address) {
     this.root.scrollTop = address * this.rowHeight;
     this.placed = this.root.scrollTop;
   }
@@ -61,13 +61,13 @@ export class ListingScroll {
   /** @param {KeyboardEvent} event */
   typed(event) {
     if (event.ctrlKey || event.altKey || event.metaKey) return;
-    const page = Math.max(1, Math.floor(this.root.clientHeight / this.rowHeight) - 1);
+    const screenful = Math.max(1, Math.floor(this.root.clientHeight / this.rowHeight) - 1);
     /** @type {Record<string, () => void>} */
     const ways = {
       ArrowUp: () => this.calls.went(-1),
       ArrowDown: () => this.calls.went(1),
-      PageUp: () => this.calls.went(-page),
-      PageDown: () => this.calls.went(page),
+      PageUp: () => this.calls.went(-screenful),
+      PageDown: () => this.calls.went(screenful),
       Home: () => this.calls.wentTo("first"),
       End: () => this.calls.wentTo("last"),
     };

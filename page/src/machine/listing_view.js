@@ -183,7 +183,7 @@ export class ListingView {
     if (asked !== this.asked) return false;
     this.take(stretchOf(lines, goal.from, rows));
     this.showRows();
-    if (!isScrolled && this.lines.length > 0) this.scroll.place(this.lines[0].address);
+    if (!isScrolled && this.lines.length > 0) this.scroll.beginAt(this.lines[0].address);
     return true;
   }
 

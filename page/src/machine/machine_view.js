@@ -181,8 +181,8 @@ export class PortsView {
       const chain = this.chains[at];
       if (chain.shown === bits) return;
       chain.shown = bits;
-      chain.bits.forEach((cell, place) => cell.set(bits[place]));
-      chain.ones.forEach((one, place) => one.set(bits[place] === "1"));
+      chain.bits.forEach((cell, index) => cell.set(bits[index]));
+      chain.ones.forEach((one, index) => one.set(bits[index] === "1"));
     });
   }
 }

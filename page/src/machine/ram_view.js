@@ -20,7 +20,7 @@ const STATUS = 4;
 
 /** @param {Register} register */
 function wordsOf({ bank, chip, register }) {
-  return say.registerPlace(bank, chip, register);
+  return say.registerOfChip(bank, chip, register);
 }
 
 /**
@@ -159,15 +159,15 @@ export class RamView {
 
   /** @param {Ram} told */
   show(told) {
-    for (const [place, { characters, status }] of told.registers) {
-      const shown = this.registers.get(place);
+    for (const [name, { characters, status }] of told.registers) {
+      const shown = this.registers.get(name);
       if (!shown || shown.shown === characters + status) continue;
       shown.shown = characters + status;
       shown.characters.forEach((cell, at) => this.changes.set(cell, characters[at]));
       shown.status.forEach((cell, at) => this.changes.set(cell, status[at]));
     }
-    for (const [place, value] of told.ports) {
-      const port = this.ports.get(place);
+    for (const [name, value] of told.ports) {
+      const port = this.ports.get(name);
       if (port) this.changes.set(port, value);
     }
   }
@@ -186,8 +186,8 @@ export class RamView {
   showNames(names) {
     this.names = names;
     for (const place of this.characters.keys()) this.tellOf(place);
-    for (const [place, { names: line }] of this.registers) {
-      line.textContent = namesIn(place, names).join("  ");
+    for (const [name, { names: line }] of this.registers) {
+      line.textContent = namesIn(name, names).join("  ");
       line.hidden = line.textContent === "";
     }
   }

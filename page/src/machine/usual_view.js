@@ -41,12 +41,12 @@ export class UsualView {
 
   /** @param {UsualFault} fault */
   row({ kind, address, words }) {
-    const place = element("button", { type: "button", className: "place" }, this.calls.wordsOf(address));
-    onClick(place, () => this.calls.goTo(address));
+    const button = element("button", { type: "button", className: "place" }, this.calls.wordsOf(address));
+    onClick(button, () => this.calls.goTo(address));
     const stops = element("input", { type: "checkbox", checked: this.stops.has(kind), autocomplete: "off" });
     stops.addEventListener("change", () => this.choose(kind, stops.checked));
     const label = element("label", { className: "check", title: say.stopsBefore(KINDS[kind]) }, stops, say.STOP_AT_THIS);
-    return element("li", {}, element("span", { className: "words" }, place, ` ${words}`), label);
+    return element("li", {}, element("span", { className: "words" }, button, ` ${words}`), label);
   }
 
   /**

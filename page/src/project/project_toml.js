@@ -34,7 +34,7 @@ const LISTS = ["tests", "properties"];
 const NEEDED = ["board", "program"];
 
 /**
- * @param {{ line: number, from: number, to: number }} place
+ * @param {{ line: number, from: number, to: number }} range
  * @param {string} words
  * @returns {Fault}
  */

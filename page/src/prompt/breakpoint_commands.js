@@ -1,7 +1,7 @@
 // Commands of breakpoints and watches.
 
-import { breakpointLines, placeTold } from "./looks.js";
-import { placeIn, refuse } from "./words_of_line.js";
+import { addressTold, breakpointLines } from "./looks.js";
+import { instructionIn, refuse } from "./words_of_line.js";
 import * as say from "../words/prompt.js";
 
 /**
@@ -30,7 +30,7 @@ export class BreakpointCommands {
     const turn = (isOn) => async (rest) => {
       if (rest === "") refuse(say.WHICH_ONE);
       for (const id of this.numbersOf(rest)) this.list.change(id, { isOn });
-      await this.place();
+      await this.apply();
     };
     return {
       break: (rest) => this.add(rest),
@@ -55,25 +55,25 @@ export class BreakpointCommands {
   async add(rest) {
     const { session, machine, calls } = this.prompt;
     const [, where, from = "1", condition = "", note = ""] = /** @type {RegExpExecArray} */ (BREAK.exec(rest));
-    const { line, address } = placeIn(where, session);
+    const { line, address } = instructionIn(where, session);
     const before = this.list.atAddress(address);
     if (before) this.list.remove(before.id);
     const made = this.list.add({ line, address, from: Math.max(1, Number(from)), condition, note });
-    const { faults } = await session.placeBreakpoints();
+    const { faults } = await session.applyBreakpoints();
     const fault = faults.find(([id]) => id === made.id);
     if (fault) {
       this.list.remove(made.id);
       if (before) this.list.add(before);
-      await this.place();
+      await this.apply();
       refuse(fault[1]);
     }
     await machine.stand();
     const { address: placed } = this.list.get(made.id) || made;
-    calls.print(say.breakpointAt(made.id, placeTold(session, placed)));
+    calls.print(say.breakpointAt(made.id, addressTold(session, placed)));
   }
 
-  async place() {
-    await this.prompt.session.placeBreakpoints();
+  async apply() {
+    await this.prompt.session.applyBreakpoints();
     await this.prompt.machine.stand();
   }
 
@@ -90,7 +90,7 @@ export class BreakpointCommands {
     if (/[a-z]/i.test(rest)) return this.unwatch(rest);
     const ids = rest === "" ? this.list.all.map(({ id }) => id) : this.numbersOf(rest);
     for (const id of ids) this.list.remove(id);
-    return this.place();
+    return this.apply();
   }
 
   /** @param {string} rest */

@@ -66,8 +66,8 @@ export class ChangeCommands {
     if (text === null) return refuse(say.NO_FILE);
     const refusal = await session.setProgram(text.replace(/^\uFEFF/, "").replace(/\r\n?/g, "\n"));
     if (refusal) {
-      const place = refusal.line ? `, line ${refusal.line}` : "";
-      refuse(`no ${refusal.number}${place}: ${lines.words.ofRefusal(refusal.number)}`);
+      const where = refusal.line ? `, line ${refusal.line}` : "";
+      refuse(`no ${refusal.number}${where}: ${lines.words.ofRefusal(refusal.number)}`);
     }
     await machine.stand();
     return this.prompt.tellStop(say.SOURCE_IN_ROM);

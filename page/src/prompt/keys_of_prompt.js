@@ -26,8 +26,8 @@ export class KeysOfPrompt {
     const taken = new Set([...this.named.values()].map(({ press }) => press));
     const others = [];
     for (let at = 0; at < rows * columns; at++) {
-      const place = [Math.floor(at / columns), at % columns];
-      if (!taken.has(`press ${place.join(" ")}`)) others.push(place.join("."));
+      const key = [Math.floor(at / columns), at % columns];
+      if (!taken.has(`press ${key.join(" ")}`)) others.push(key.join("."));
     }
     return [...this.named.keys(), ...others];
   }

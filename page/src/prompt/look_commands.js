@@ -3,7 +3,7 @@
 import { valueOfExpression } from "../adapter/values.js";
 import { commandOf, helpOf } from "./command_table.js";
 import * as looks from "./looks.js";
-import { addressIn, countIn, placeIn, refuse } from "./words_of_line.js";
+import { addressIn, countIn, instructionIn, refuse } from "./words_of_line.js";
 import * as say from "../words/prompt.js";
 
 /**
@@ -99,11 +99,11 @@ export class LookCommands {
   /** @param {string} rest */
   examine(rest) {
     const { calls, session } = this.prompt;
-    const [, count = "", place = ""] = /^(?:\/(\d*)[a-z]?)?\s*(.*)$/.exec(rest) || [];
+    const [, count = "", where = ""] = /^(?:\/(\d*)[a-z]?)?\s*(.*)$/.exec(rest) || [];
     const many = countIn(count, MOST_SHOWN);
-    if (/^ram\./i.test(place)) return calls.print(looks.characterLines(session, place, many));
-    const address = place === "" ? session.address : addressIn(place, session);
-    if (address === undefined || address > 4095) return refuse(say.noPlaceOfMemory(place));
+    if (/^ram\./i.test(where)) return calls.print(looks.characterLines(session, where, many));
+    const address = where === "" ? session.address : addressIn(where, session);
+    if (address === undefined || address > 4095) return refuse(say.noPlaceOfMemory(where));
     return calls.print(looks.codeLines(session, address, many));
   }
 
@@ -113,7 +113,7 @@ export class LookCommands {
     const count = looks.linesOfSource(session);
     let from = this.listed + 1;
     if (rest !== "" || this.listed === 0) {
-      const line = /^\d+$/.test(rest) ? Number(rest) : placeIn(rest, session).line;
+      const line = /^\d+$/.test(rest) ? Number(rest) : instructionIn(rest, session).line;
       if (line === 0) refuse(say.NO_LINE_THERE);
       from = Math.max(1, line - LISTED / 2);
     }

@@ -34,9 +34,9 @@ export function sourceLine(session, line) {
   const address = map.addressOf(line);
   const here = line === session.line ? ">" : " ";
   const stop = breakpoints.all.some((each) => each.line === line && each.isOn) ? "*" : " ";
-  const place = address === undefined ? "   " : hex(address, 3);
+  const written = address === undefined ? "   " : hex(address, 3);
   const text = withoutTabs((session.program.split("\n")[line - 1] || "").replace(/\r$/, ""));
-  return `${here}${stop}${String(line).padStart(4)}  ${place}  ${text}`.trimEnd();
+  return `${here}${stop}${String(line).padStart(4)}  ${written}  ${text}`.trimEnd();
 }
 
 /**
@@ -94,11 +94,11 @@ export function registerLines(session) {
 export function ramLines(session) {
   const { ram } = standingOf(session);
   const lines = [...ram].flatMap(([bank, { registers, ports }]) => [
-    ...[...registers].map(([place, { characters, status }]) => {
-      const [, chip, register] = place.split(".").map(Number);
+    ...[...registers].map(([name, { characters, status }]) => {
+      const [, chip, register] = name.split(".").map(Number);
       return `ram.${bank}.0x${hex(chip * 64 + register * 16, 2)}  ${characters}  status ${status}`;
     }),
-    ...[...ports].map(([place, out]) => `ram${place} out ${out}`),
+    ...[...ports].map(([name, out]) => `ram${name} out ${out}`),
   ]);
   return lines.length > 0 ? lines.join("\n") : say.NO_RAM;
 }
@@ -120,7 +120,7 @@ export function callsOpen(session) {
  * @param {DebugSession} session
  * @param {number} address
  */
-export function placeTold(session, address) {
+export function addressTold(session, address) {
   return wordsOfAddress(hex(address, 3), session.map);
 }
 

@@ -2,7 +2,7 @@
 
 import { callsOpen } from "./looks.js";
 import { backOver, pressed } from "./moves.js";
-import { countIn, cyclesIn, placeIn, refuse } from "./words_of_line.js";
+import { countIn, cyclesIn, instructionIn, refuse } from "./words_of_line.js";
 import * as say from "../words/prompt.js";
 
 /**
@@ -34,7 +34,7 @@ export class MoveCommands {
       "finish": (rest) => this.finish(rest),
       "until": (rest) => {
         if (rest === "") refuse(say.UNTIL_FORM);
-        const { address } = placeIn(rest, this.prompt.session);
+        const { address } = instructionIn(rest, this.prompt.session);
         return this.move(() => machine.go({ kind: "here", address }));
       },
       "continue": (rest) => this.goOn(rest),

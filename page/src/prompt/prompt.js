@@ -85,7 +85,7 @@ export class Prompt {
   /** The breakpoints that the session had are those of the prompt, too. */
   async begin() {
     this.breakpoints.takeOwn();
-    await this.session.placeBreakpoints();
+    await this.session.applyBreakpoints();
     this.tellStop(say.standsAt(this.session.counterWords));
   }
 

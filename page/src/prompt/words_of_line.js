@@ -36,12 +36,12 @@ export function addressIn(text, { map }) {
 }
 
 /**
- * A place in the program; without words where time stands. A line without bytes is the next one that has some.
+ * An instruction of the program; without words where time stands. A line without bytes is the next one that has some.
  * @param {string} text
  * @param {DebugSession} session
  * @returns {InProgram}
  */
-export function placeIn(text, session) {
+export function instructionIn(text, session) {
   const words = text.trim().replace(/^[^\s:]*\.[A-Za-z0-9]+:/, "");
   if (words === "") return { line: session.line, address: session.address };
   if (/^\d+$/.test(words)) {
@@ -50,7 +50,7 @@ export function placeIn(text, session) {
     return { line, address };
   }
   const address = addressIn(words, session);
-  if (address === undefined) refuse(say.noPlaceInProgram(words, say.PLACES));
+  if (address === undefined) refuse(say.notInProgram(words, say.FORMS_IN_PROGRAM));
   if (address > 4095) refuse(say.ADDRESS_RANGE);
   return { line: instructionOfAddress(address, session.map).line, address };
 }

@@ -8,7 +8,7 @@ import { completeBoard } from "../text/board_completion.js";
 import { commentAt } from "../text/text_fault.js";
 import { helpForBoard } from "../text/text_help.js";
 import { tomlWords } from "../text/toml_words.js";
-import { BoardPlaces } from "./board_places.js";
+import { BoardReferences } from "./board_references.js";
 import { REQUEST_FAILED, ProtocolError, rangeOf } from "./protocol.js";
 import * as say from "../words/server.js";
 
@@ -57,9 +57,9 @@ export class BoardLanguage {
     const words = helpForBoard(lines, line, character, this.tables);
     const word = wordAt(lines[line], character);
     if (words && word) return { words, range: rangeOf(line + 1, word.from, word.to) };
-    const places = new BoardPlaces(text);
-    const value = places.valueAt(line + 1, character);
-    const told = value ? places.wordsOf(value, new Face(text)) : "";
+    const references = new BoardReferences(text);
+    const value = references.valueAt(line + 1, character);
+    const told = value ? references.wordsOf(value, new Face(text)) : "";
     return value && told ? { words: told, range: rangeOf(value.line, value.from, value.to) } : null;
   }
 
@@ -69,9 +69,9 @@ export class BoardLanguage {
    * @param {Position} position
    */
   definition({ text }, { line, character }) {
-    const places = new BoardPlaces(text);
-    const value = places.valueAt(line + 1, character);
-    const part = value && places.partOf(value);
+    const references = new BoardReferences(text);
+    const value = references.valueAt(line + 1, character);
+    const part = value && references.partOf(value);
     return part ? rangeOf(part.line, part.from, part.to) : null;
   }
 
@@ -82,11 +82,11 @@ export class BoardLanguage {
    * @param {boolean} withDefinition
    */
   references({ text }, { line, character }, withDefinition) {
-    const places = new BoardPlaces(text);
-    const value = places.valueAt(line + 1, character);
-    const part = (value && places.partOf(value)) || places.partAt(line + 1);
+    const references = new BoardReferences(text);
+    const value = references.valueAt(line + 1, character);
+    const part = (value && references.partOf(value)) || references.partAt(line + 1);
     if (!part) return [];
-    const found = places.values.filter((each) => places.partOf(each) === part);
+    const found = references.values.filter((each) => references.partOf(each) === part);
     return [...(withDefinition ? [part] : []), ...found].map((each) => rangeOf(each.line, each.from, each.to));
   }
 
@@ -113,7 +113,7 @@ export class BoardLanguage {
    * @param {OpenText} open
    */
   symbols({ lines, text }) {
-    const { entries, lamps, nameOf } = new BoardPlaces(text);
+    const { entries, lamps, nameOf } = new BoardReferences(text);
     const face = new Face(text);
     return entries.map((entry, at) => {
       const told = face.lamps.get(lamps.indexOf(entry));

@@ -23,8 +23,8 @@ const TEXT_TOO_LONG = 13;
  * @returns {Diagnostic}
  */
 export function diagnosticOf({ number, line, from, to, words }) {
-  const place = { range: rangeOf(line, from, to), source: SOURCE, message: words };
-  return number > 0 ? { ...place, severity: ERROR, code: number } : { ...place, severity: WARNING };
+  const told = { range: rangeOf(line, from, to), source: SOURCE, message: words };
+  return number > 0 ? { ...told, severity: ERROR, code: number } : { ...told, severity: WARNING };
 }
 
 /**

@@ -244,8 +244,8 @@ export class LanguageServer {
   hover(params) {
     const found = this.at(params, (language, open, position) => language.hover(open, position));
     if (!found) return null;
-    const { words, ...place } = found;
-    return { contents: { kind: "plaintext", value: words }, ...place };
+    const { words, ...rest } = found;
+    return { contents: { kind: "plaintext", value: words }, ...rest };
   }
 
   /** @param {any} params */

@@ -13,7 +13,7 @@ const STEPS = Uint32Array.from({ length: 256 }, (_, value) => {
  * @param {number} sum
  * @param {number} byte
  */
-function step(sum, byte) {
+function sumWith(sum, byte) {
   return (sum << 8) ^ STEPS[((sum >>> 24) ^ byte) & 255];
 }
 
@@ -23,7 +23,7 @@ function step(sum, byte) {
  */
 export function checksum(bytes) {
   let sum = 0;
-  for (let at = 0; at < bytes.length; at++) sum = step(sum, bytes[at]);
-  for (let left = bytes.length; left > 0; left = Math.floor(left / 256)) sum = step(sum, left & 255);
+  for (let at = 0; at < bytes.length; at++) sum = sumWith(sum, bytes[at]);
+  for (let left = bytes.length; left > 0; left = Math.floor(left / 256)) sum = sumWith(sum, left & 255);
   return ~sum >>> 0;
 }

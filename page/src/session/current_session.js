@@ -18,10 +18,10 @@ import * as say from "../words/session.js";
  * @typedef {import("./store.js").SessionStore} SessionStore
  *
  * What it calls: another session is shown from here on; what it is now is shown; whether the source is what stands in ROM; time runs, or
- * stands still, and words tell why; no more of it passes; the place where it stands still; something was done in the session; what time
+ * stands still, and words tell why; no more of it passes; where it stands still; something was done in the session; what time
  * has done since that was logged last, and it is logged; why the session is not kept, "" where it is.
  * @typedef {{ begin: (record: SessionRecord) => void, show: (shown: Shown) => void, checkSource: () => void, run: () => void,
- *   halted: (words: string) => void, standStill: () => Promise<void>, place: () => string, touched: () => void, ran: () => RanEntry[],
+ *   halted: (words: string) => void, standStill: () => Promise<void>, where: () => string, touched: () => void, ran: () => RanEntry[],
  *   showRan: (ran: RanEntry[], fault: string) => void, notKept: (words: string) => void }} CurrentCalls
  */
 
@@ -66,7 +66,7 @@ export class CurrentSession {
     await this.keep();
     const { goal, runs } = record;
     if (runs && !goal) calls.run();
-    else calls.halted(goal ? wordsOfBroken(goal, runs, calls.place()) : say.STOPPED);
+    else calls.halted(goal ? wordsOfBroken(goal, runs, calls.where()) : say.STOPPED);
     await this.remember();
   }
 

@@ -1,7 +1,7 @@
 // The picture of an example in the gallery: its front, small, as its text tells it. Which lamps are lit depends on the program, so some
 // are drawn lit: the first of each colour, and the digits of a display.
 
-import { placesOfParts } from "../bench/board_places.js";
+import { partLines } from "../bench/part_lines.js";
 import { Face } from "../board/face.js";
 import { endOf, isScanned, lampsOf } from "../board/face_board.js";
 import { upTo } from "../bench/numbers.js";
@@ -24,7 +24,7 @@ class Drawing {
   /** @param {string} text of a board */
   constructor(text) {
     this.face = new Face(text);
-    this.places = placesOfParts(text);
+    this.parts = partLines(text);
     /** @type {Shape[]} */
     this.shapes = [];
     this.bottom = GAP;
@@ -35,7 +35,7 @@ class Drawing {
   }
 
   get lampCount() {
-    return [...this.places.keys()].filter((name) => name.startsWith("lamp ")).length;
+    return [...this.parts.keys()].filter((name) => name.startsWith("lamp ")).length;
   }
 
   /**
@@ -77,18 +77,18 @@ class Drawing {
 
   /**
    * Lamps on a grid, as large as they fit.
-   * @param {{ lamp: number, column: number, row: number }[]} places
+   * @param {{ lamp: number, column: number, row: number }[]} cells
    */
-  drawAt(places) {
-    if (places.length === 0) return;
-    const columns = Math.max(...places.map(({ column }) => column)) + 1;
-    const rows = Math.max(...places.map(({ row }) => row)) + 1;
-    const step = Math.min(16, (WIDTH - 2 * GAP) / columns);
-    const left = (WIDTH - columns * step) / 2;
-    for (const { lamp, column, row } of places) {
-      this.lamp(lamp, left + (column + 0.5) * step, this.bottom + (row + 0.5) * step, step * 0.36);
+  drawAt(cells) {
+    if (cells.length === 0) return;
+    const columns = Math.max(...cells.map(({ column }) => column)) + 1;
+    const rows = Math.max(...cells.map(({ row }) => row)) + 1;
+    const pitch = Math.min(16, (WIDTH - 2 * GAP) / columns);
+    const left = (WIDTH - columns * pitch) / 2;
+    for (const { lamp, column, row } of cells) {
+      this.lamp(lamp, left + (column + 0.5) * pitch, this.bottom + (row + 0.5) * pitch, pitch * 0.36);
     }
-    this.bottom += rows * step + GAP;
+    this.bottom += rows * pitch + GAP;
   }
 
   drawOtherLamps() {

@@ -118,7 +118,7 @@ function linesOfRun(session, file, texts, { elapsed, cycles }) {
     const after = values.map((group, number) => rowAt(at, number) || group);
     const [acc, cy, ...rest] = after.flat();
     const old = values.flat().slice(2);
-    const changes = told.flatMap(({ tell }, place) => (tell(rest[place]) === tell(old[place]) ? [] : [tell(rest[place])])).join("");
+    const changes = told.flatMap(({ tell }, index) => (tell(rest[index]) === tell(old[index]) ? [] : [tell(rest[index])])).join("");
     values = after;
     const lines = texts.linesOf(elapsed + at, address);
     return [...lines.slice(0, -1), `${lines[lines.length - 1]}acc ${acc} cy ${cy}${changes && ` ${changes}`}`];

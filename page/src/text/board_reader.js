@@ -163,14 +163,14 @@ class BoardReader {
    */
   readValue(key) {
     const { kind, text, line, from, to, fault } = this.word;
-    const place = { line, from, to };
-    if (this.isMark("[")) return { inner: this.readArray(key), whole: true, ...place, end: this.lastEnd };
-    if (this.isMark("{")) return { inner: this.readTable(), whole: true, ...place, end: this.lastEnd };
+    const range = { line, from, to };
+    if (this.isMark("[")) return { inner: this.readArray(key), whole: true, ...range, end: this.lastEnd };
+    if (this.isMark("{")) return { inner: this.readTable(), whole: true, ...range, end: this.lastEnd };
     if (kind === "end") throw new NotToml(this.word, say.valueMissing(key));
     if (kind === "mark" || kind === "bad") throw new NotToml(this.word, fault || say.noValue(text));
     const inner = this.innerOf(kind, text);
     this.at += 1;
-    return { inner, whole: typeof inner !== "number" || INTEGER.test(text), ...place, end: { line, to } };
+    return { inner, whole: typeof inner !== "number" || INTEGER.test(text), ...range, end: { line, to } };
   }
 
   /**

@@ -17,7 +17,7 @@ import * as say from "../words/text.js";
 
 /**
  * @param {number} number
- * @param {{ line: number, from: number, to: number }} place
+ * @param {{ line: number, from: number, to: number }} range
  * @param {string} words
  * @returns {Fault}
  */

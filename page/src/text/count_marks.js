@@ -49,8 +49,8 @@ export class CountMarks {
     const { editor } = this;
     this.isShown = true;
     const longest = Math.max(...covered.map((each) => textOfCount(each).length), 1);
-    editor.place.classList.add("counted");
-    editor.place.style.setProperty("--counts-width", `${longest + 1}ch`);
+    editor.container.classList.add("counted");
+    editor.container.style.setProperty("--counts-width", `${longest + 1}ch`);
     this.marks.showAt("counts", (line) => textAt(lines.get(line), textOfCount), (line) => textAt(lines.get(line), wordsOfCount));
     // The lines that were never run, or whose jump went one way alone.
     const lacking = covered.filter(({ count, isJump, taken }) => count === 0 || (isJump && (taken === 0 || taken === count)));
@@ -62,7 +62,7 @@ export class CountMarks {
     if (!this.isShown) return;
     const { editor } = this;
     this.isShown = false;
-    editor.place.classList.remove("counted");
+    editor.container.classList.remove("counted");
     this.marks.showAt("counts", () => "");
     editor.showLook("lacking", []);
     editor.refresh();

@@ -52,15 +52,15 @@ export class EditorView {
     this.calls = calls;
     const root = block(id);
     const paper = below(root, ".paper", HTMLElement);
-    const place = element("div", { className: "text" });
+    const container = element("div", { className: "text" });
     const list = element("ul", { "className": "faults-told", "aria-label": say.FAULTS });
     this.meaning = new MeaningView(language.offer || (() => {}));
     this.counter = new Cell(element("p", { className: "size" }));
-    paper.append(place, list, element("div", { className: "strip" }, this.meaning.node, this.counter.node));
+    paper.append(container, list, element("div", { className: "strip" }, this.meaning.node, this.counter.node));
     this.told = new Cell(below(root, ".told", HTMLElement));
     const label = below(root, "h2", HTMLElement).textContent || "";
     const { colours, gutters, indent, folds, isInstruction = () => false } = language;
-    this.editor = new TextEditor({ place, label, colours, gutters, indent, folds, keys: this.keys(), calls: this.textCalls() });
+    this.editor = new TextEditor({ container, label, colours, gutters, indent, folds, keys: this.keys(), calls: this.textCalls() });
     const { editor } = this.editor;
     this.marks = new LineMarks(editor);
     this.counts = new CountMarks(editor, this.marks);
@@ -143,16 +143,16 @@ export class EditorView {
    * @param {number} top
    */
   pointedAt(left, top) {
-    const place = this.editor.editor.placeAt({ left, top });
-    const words = this.wordsAt(place);
-    const values = this.valuesAt(place);
+    const position = this.editor.editor.positionAt({ left, top });
+    const words = this.wordsAt(position);
+    const values = this.valuesAt(position);
     if (words || values.length > 0) this.meaning.set(values, words);
     this.meaning.tellAt(values, { left, top });
   }
 
   /**
-   * What the word at a place stands for now; none behind the end of its line.
-   * @param {Position} place
+   * What the word at a position stands for now; none behind the end of its line.
+   * @param {Position} position
    * @returns {Piece[]}
    */
   valuesAt({ line, ch }) {
@@ -162,17 +162,17 @@ export class EditorView {
 
   /** What stands at the caret. */
   tellCaret() {
-    const place = this.editor.editor.getCursor();
+    const position = this.editor.editor.getCursor();
     this.meaning.hideTip();
-    this.meaning.set(this.valuesAt(place), this.wordsAt(place));
+    this.meaning.set(this.valuesAt(position), this.wordsAt(position));
   }
 
   /**
-   * What is wrong at a place, or what its word is; "" where there is nothing to say.
-   * @param {Position} place
+   * What is wrong at a position, or what its word is; "" where there is nothing to say.
+   * @param {Position} position
    */
-  wordsAt(place) {
-    return this.faults.wordsAt(place) || this.language.wordsAt(this.lines, place.line, place.ch);
+  wordsAt(position) {
+    return this.faults.wordsAt(position) || this.language.wordsAt(this.lines, position.line, position.ch);
   }
 
   /** The caret has another place; what stands there is told once it rests, so that no key waits for it. */

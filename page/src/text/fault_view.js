@@ -51,8 +51,8 @@ export class FaultView {
     // A word that is missing has no place of its own: the character before it has.
     const start = to > from ? from : Math.max(0, Math.min(from, length) - 1);
     const end = Math.max(to, start + 1);
-    const [place, behind] = [start, end].map((ch) => this.editor.offset({ line: line - 1, ch }));
-    return place < behind ? [underlined("fault", words).range(place, behind)] : [];
+    const [begin, behind] = [start, end].map((ch) => this.editor.offset({ line: line - 1, ch }));
+    return begin < behind ? [underlined("fault", words).range(begin, behind)] : [];
   }
 
   /** @param {Fault} fault */
@@ -63,8 +63,8 @@ export class FaultView {
   }
 
   /**
-   * What is wrong at a place of the text; "" where nothing is.
-   * @param {import("./line_editor.js").Position} place
+   * What is wrong at a position of the text; "" where nothing is.
+   * @param {import("./line_editor.js").Position} position
    */
   wordsAt({ line, ch }) {
     const found = this.faults.find((fault) => fault.line === line + 1 && ch >= fault.from && ch <= Math.max(fault.to, fault.from + 1));

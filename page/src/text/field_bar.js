@@ -11,10 +11,10 @@ import * as say from "../words/text.js";
 
 export class FieldBar {
   /**
-   * @param {HTMLElement} place takes the bar, before all else
+   * @param {HTMLElement} parent takes the bar, before all else
    * @param {() => void} closed the keyboard is the text's again
    */
-  constructor(place, closed) {
+  constructor(parent, closed) {
     this.closed = closed;
     this.label = new Cell(element("span"));
     this.field = element("input", { autocomplete: "off", spellcheck: false });
@@ -23,7 +23,7 @@ export class FieldBar {
     const close = element("button", { type: "button", title: "Escape" }, say.CLOSE);
     this.bar = element("div", { role: "group", className: "search bar", hidden: true },
       element("label", {}, this.label.node, " ", this.field), this.act, close, this.told.node);
-    place.prepend(this.bar);
+    parent.prepend(this.bar);
     /** @type {Asked["act"]} */
     this.done = () => "";
     onClick(this.act, () => this.finish());

@@ -85,9 +85,9 @@ function foldAllOf(editor) {
  */
 export function unfold({ view, doc }, line) {
   if (line < 0 || line >= doc.lines) return;
-  const place = doc.line(line + 1);
+  const found = doc.line(line + 1);
   /** @type {import("@codemirror/state").StateEffect<any>[]} */
   const effects = [];
-  foldedRanges(view.state).between(place.from, place.to, (from, to) => void effects.push(unfoldEffect.of({ from, to })));
+  foldedRanges(view.state).between(found.from, found.to, (from, to) => void effects.push(unfoldEffect.of({ from, to })));
   if (effects.length > 0) view.dispatch({ effects });
 }

@@ -23,12 +23,12 @@ import { keepRulesInSheet } from "./style_rules.js";
  * many characters is pasted or dropped, and it is said whether it is taken; what the word at a place can become.
  * @typedef {{ edited: (edits: Edit[]) => void, moved: () => void, clickedGutter: (line: number) => void,
  *   askedGutter: (line: number, event: Event) => void, takes: (size: number) => boolean,
- *   complete: (place: Position) => Completion }} EditorCalls
+ *   complete: (position: Position) => Completion }} EditorCalls
  *
- * What an editor is made of: its place, its name for those who do not see it, and what they are told beside it; the colours of its lines;
- * its gutters, "numbers" for those of its lines; the blanks that a new line begins with, where it is not those of the line before; its own
- * keys, and more of CodeMirror's parts.
- * @typedef {{ place: HTMLElement, label: string, description: string, colours: import("./line_colours.js").Colours, gutters: string[],
+ * What an editor is made of: what holds it, its name for those who do not see it, and what they are told beside it; the colours of its
+ * lines; its gutters, "numbers" for those of its lines; the blanks that a new line begins with, where it is not those of the line before;
+ * its own keys, and more of CodeMirror's parts.
+ * @typedef {{ container: HTMLElement, label: string, description: string, colours: import("./line_colours.js").Colours, gutters: string[],
  *   indent?: string, keys: KeyMap, more: Extension[], calls: EditorCalls }} EditorParts
  */
 
@@ -74,7 +74,7 @@ export class LineEditor {
   /** @param {EditorParts} parts */
   constructor(parts) {
     this.calls = parts.calls;
-    this.place = parts.place;
+    this.container = parts.container;
     this.wrapping = new Compartment();
     this.wraps = false;
     /** @type {Map<string, Layer>} by the names of the gutters */
@@ -83,7 +83,7 @@ export class LineEditor {
     /** @type {(() => void)[]} what is to be done after each edit */
     this.afterEdits = [];
     this.extensions = this.extensionsOf(parts);
-    this.view = new EditorView({ parent: parts.place, state: this.stateOf("") });
+    this.view = new EditorView({ parent: parts.container, state: this.stateOf("") });
     // Who looks at the page from outside finds the editor by its element.
     Object.assign(this.view.dom, { lineEditor: this });
   }
@@ -231,8 +231,8 @@ export class LineEditor {
   }
 
   /**
-   * Where a place is in the text; one that the text lacks is the next one that it has.
-   * @param {Position} place
+   * Where a position is in the text; one that the text lacks is the next one that it has.
+   * @param {Position} position
    */
   offset({ line, ch }) {
     const { from, to } = this.doc.line(Math.min(Math.max(line, 0), this.lastLine()) + 1);
@@ -268,9 +268,9 @@ export class LineEditor {
     this.view.dispatch({ selection: { anchor: this.offset(anchor), head: this.offset(head) }, scrollIntoView: true, userEvent: "select" });
   }
 
-  /** @param {Position} place of the caret */
-  setCursor(place) {
-    this.setSelection(place);
+  /** @param {Position} position of the caret */
+  setCursor(position) {
+    this.setSelection(position);
   }
 
   /**
@@ -307,13 +307,13 @@ export class LineEditor {
    * The last step is undone, or done again; false where there is none.
    * @param {"undo" | "redo"} which
    */
-  step(which) {
+  undoOrRedo(which) {
     const [depth, act] = which === "undo" ? [undoDepth, undo] : [redoDepth, redo];
     return depth(this.state) > 0 && act(this.view);
   }
 
   undo() {
-    this.step("undo");
+    this.undoOrRedo("undo");
   }
 
   /**
@@ -373,10 +373,10 @@ export class LineEditor {
   }
 
   /**
-   * The place nearest to a point of the window.
+   * The position nearest to a point of the window.
    * @param {{ left: number, top: number }} point
    */
-  placeAt({ left, top }) {
+  positionAt({ left, top }) {
     return this.position(this.view.posAtCoords({ x: left, y: top }, false));
   }
 
@@ -409,12 +409,12 @@ export class LineEditor {
   }
 
   /**
-   * Brings a place into view, with so many pixels above and below.
-   * @param {Position} place
+   * Brings a position into view, with so many pixels above and below.
+   * @param {Position} position
    * @param {number} margin
    */
-  scrollIntoView(place, margin) {
-    this.view.dispatch({ effects: EditorView.scrollIntoView(this.offset(place), { yMargin: margin }) });
+  scrollIntoView(position, margin) {
+    this.view.dispatch({ effects: EditorView.scrollIntoView(this.offset(position), { yMargin: margin }) });
   }
 
   /** @param {boolean} wraps whether long lines are broken */

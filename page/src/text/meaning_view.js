@@ -71,7 +71,7 @@ export class MeaningView {
   /**
    * Tells values at the pointer.
    * @param {Piece[]} pieces none take them away
-   * @param {{ left: number, top: number }} place in the window
+   * @param {{ left: number, top: number }} point in the window
    */
   tellAt(pieces, { left, top }) {
     this.tip.textContent = textOf(pieces);

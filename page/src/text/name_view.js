@@ -17,15 +17,15 @@ const LONGEST_WORDS = 60;
 export class NameView {
   /**
    * @param {TextEditor} text
-   * @param {HTMLElement} place takes the bar and the list
+   * @param {HTMLElement} parent takes the bar and the list
    * @param {{ isInstruction: (word: string) => boolean, tell: (words: string) => void }} calls
    */
-  constructor(text, place, calls) {
+  constructor(text, parent, calls) {
     this.text = text;
     this.calls = calls;
-    this.bar = new FieldBar(place, () => text.editor.focus());
+    this.bar = new FieldBar(parent, () => text.editor.focus());
     this.list = element("ul", { "className": "places", "aria-label": say.PLACES_OF_NAME, "hidden": true });
-    place.append(this.list);
+    parent.append(this.list);
   }
 
   get lines() {
@@ -40,7 +40,7 @@ export class NameView {
     return name;
   }
 
-  /** @param {Reference} place */
+  /** @param {Reference} reference */
   show({ line, from, to }) {
     const { editor } = this.text;
     this.text.goTo({ line: line - 1, ch: from });
@@ -51,8 +51,8 @@ export class NameView {
   /** To where the name at the caret is defined. */
   define() {
     const name = this.nameAtCaret();
-    const place = name === "" ? null : definitionOf(this.lines, name);
-    if (place) this.show(place);
+    const definition = name === "" ? null : definitionOf(this.lines, name);
+    if (definition) this.show(definition);
   }
 
   /** Lists all places of the name at the caret. */
@@ -60,21 +60,21 @@ export class NameView {
     const name = this.nameAtCaret();
     if (name === "") return;
     const { lines } = this;
-    const places = referencesOf(lines, name);
+    const references = referencesOf(lines, name);
     const close = element("button", { type: "button" }, say.CLOSE);
     onClick(close, () => this.close());
-    this.list.replaceChildren(element("li", {}, say.nameIsAt(name, counted(places.length, "place")), close),
-      ...places.map((place) => this.row(place, lines[place.line - 1])));
+    this.list.replaceChildren(element("li", {}, say.nameIsAt(name, counted(references.length, "place")), close),
+      ...references.map((reference) => this.row(reference, lines[reference.line - 1])));
     this.list.hidden = false;
   }
 
   /**
-   * @param {Reference} place
+   * @param {Reference} reference
    * @param {string} text of its line
    */
-  row(place, text) {
-    const made = element("button", { type: "button" }, say.lineOfName(place.line, place.isDefinition));
-    onClick(made, () => this.show(place));
+  row(reference, text) {
+    const made = element("button", { type: "button" }, say.lineOfName(reference.line, reference.isDefinition));
+    onClick(made, () => this.show(reference));
     return element("li", {}, made, " ", element("code", {}, text.trim().slice(0, LONGEST_WORDS)));
   }
 
@@ -98,10 +98,10 @@ export class NameView {
     const { lines, calls, text } = this;
     const fault = faultOfRenaming(lines, name, wanted, calls.isInstruction);
     if (fault) return fault;
-    const places = referencesOf(lines, name);
-    text.edit([...places].reverse().map(({ line, from, to }) => (
+    const references = referencesOf(lines, name);
+    text.edit([...references].reverse().map(({ line, from, to }) => (
       { from: text.editor.offset({ line: line - 1, ch: from }), to: text.editor.offset({ line: line - 1, ch: to }), insert: wanted })));
-    calls.tell(say.renamed(name, wanted, counted(places.length, "place")));
+    calls.tell(say.renamed(name, wanted, counted(references.length, "place")));
     return "";
   }
 

@@ -27,8 +27,8 @@ export const MOST_FAULTS = 20;
 const NAME_TWICE = 31;
 const TOO_MANY_NAMES = 37;
 const LACKS_ROM = 42;
-/** They hang on the places of bytes. */
-const OF_PLACES = [34, 35, 36];
+/** They hang on the addresses of bytes. */
+const OF_ADDRESSES = [34, 35, 36];
 
 /**
  * How many bytes a statement would put; NaN where that is not known.
@@ -57,7 +57,7 @@ function blanked(line, found, number, facts) {
   // A label at fault goes, and what stands after it is tried again.
   if (label && !defines && word && word.from === label.from) return line.slice(line.indexOf(":") + 1);
   if (defines) return label && NAME.test(label.text) && number !== NAME_TWICE && word !== label ? `${label.text} = 0` : "";
-  const size = OF_PLACES.slice(1).includes(number) ? 0 : sizeOfStatement(parts, facts) || 0;
+  const size = OF_ADDRESSES.slice(1).includes(number) ? 0 : sizeOfStatement(parts, facts) || 0;
   const bytes = size > 0 ? `DB ${Array(size).fill(0).join(",")}` : "";
   return `${label ? `${label.text}: ` : ""}${bytes}`;
 }
@@ -75,10 +75,10 @@ function faultAt(source, line, at, found, number, wordsOf) {
   const code = source.slice(0, partsOf(source).comment);
   const from = code.length - code.trimStart().length;
   const gone = Math.max(0, source.length - line.length);
-  const place = found && found.word ? { from: found.word.from + gone, to: found.word.to + gone }
+  const range = found && found.word ? { from: found.word.from + gone, to: found.word.to + gone }
     : { from, to: Math.max(from, code.trimEnd().length) };
   const cures = found && found.word && found.cures ? { cures: found.cures } : {};
-  return { number, line: at, ...place, words: found ? found.words : wordsOf(number), ...cures };
+  return { number, line: at, ...range, words: found ? found.words : wordsOf(number), ...cures };
 }
 
 /**
@@ -103,8 +103,8 @@ export async function findProgramFaults(program, instructions, wordsOf, refuse) 
     const { number, line } = refusal;
     const found = wordsOfProgramLine(lines[line - 1], number, facts);
     const text = lines[line - 1];
-    if (isCertain || !OF_PLACES.includes(number)) faults.push(faultAt(sources[line - 1], text, line, found, number, wordsOf));
-    isCertain = isCertain && keepsPlaces(text, number, facts);
+    if (isCertain || !OF_ADDRESSES.includes(number)) faults.push(faultAt(sources[line - 1], text, line, found, number, wordsOf));
+    isCertain = isCertain && keepsAddresses(text, number, facts);
     lines[line - 1] = blanked(text, found, number, facts);
     if (number === TOO_MANY_NAMES) break;
   }
@@ -112,15 +112,15 @@ export async function findProgramFaults(program, instructions, wordsOf, refuse) 
 }
 
 /**
- * Whether the lines after one at fault keep their places when it is blanked.
+ * Whether the lines after one at fault keep their addresses when it is blanked.
  * @param {string} line
  * @param {number} number
  * @param {Facts} facts
  */
-function keepsPlaces(line, number, facts) {
+function keepsAddresses(line, number, facts) {
   const parts = partsOf(line);
   if (number === NAME_TWICE || parts.defines || !parts.head) return true;
-  return !OF_PLACES.slice(1).includes(number) && parts.head.text.toUpperCase() !== "ORG"
+  return !OF_ADDRESSES.slice(1).includes(number) && parts.head.text.toUpperCase() !== "ORG"
     && !Number.isNaN(sizeOfStatement(parts, facts));
 }
 

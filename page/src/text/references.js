@@ -15,7 +15,7 @@ import * as say from "../words/text.js";
  * @param {string} name
  * @returns {Reference[]}
  */
-function placesIn(text, line, name) {
+function referencesIn(text, line, name) {
   const { label, operands } = partsOf(text);
   const defined = label && label.text === name ? [{ line, from: label.from, to: label.to, isDefinition: true }] : [];
   const used = operands.filter((word) => word.text === name).map(({ from, to }) => ({ line, from, to, isDefinition: false }));
@@ -29,7 +29,7 @@ function placesIn(text, line, name) {
  * @returns {Reference[]}
  */
 export function referencesOf(lines, name) {
-  return lines.flatMap((text, at) => placesIn(text, at + 1, name));
+  return lines.flatMap((text, at) => referencesIn(text, at + 1, name));
 }
 
 /**
@@ -41,7 +41,7 @@ export function referencesOf(lines, name) {
 export function nameAt(lines, line, at) {
   const text = lines[line] || "";
   const word = wordAt(text, at);
-  const isName = word !== null && placesIn(text, line + 1, word.text).some(({ from }) => from === word.from);
+  const isName = word !== null && referencesIn(text, line + 1, word.text).some(({ from }) => from === word.from);
   return isName && namesOf(lines).has(word.text) ? word.text : "";
 }
 

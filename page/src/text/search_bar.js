@@ -14,10 +14,10 @@ const MOST_COUNTED = 1000;
 export class SearchBar {
   /**
    * @param {LineEditor} editor
-   * @param {HTMLElement} place takes the bar, before all else
+   * @param {HTMLElement} parent takes the bar, before all else
    * @param {string} label of the text
    */
-  constructor(editor, place, label) {
+  constructor(editor, parent, label) {
     this.editor = editor;
     this.field = element("input", { "type": "search", "aria-label": say.searchIn(label), "autocomplete": "off", "spellcheck": false });
     this.told = new Cell(element("p", { role: "status" }));
@@ -32,7 +32,7 @@ export class SearchBar {
     this.replacing = element("div", { className: "bar", hidden: true }, this.other, one, all);
     this.bar = element("div", { role: "search", className: "search bar", hidden: true }, this.field, before, next, close, this.told.node,
       this.replacing);
-    place.prepend(this.bar);
+    parent.prepend(this.bar);
     onClick(one, () => this.replace());
     onClick(all, () => this.replaceAll());
     this.other.addEventListener("keydown", (event) => this.typed(event, () => this.replace()));

@@ -17,11 +17,11 @@ import * as say from "../words/text.js";
  * with Control, and the caret is there; a text was not taken, since it is too long; what the word at a place can become.
  * @typedef {{ edited: (edits: Edit[]) => void, moved: () => void, clickedGutter: (line: number) => void,
  *   askedGutter: (line: number, event: Event) => void, clickedName: () => void,
- *   refused: (size: number) => void, complete: (place: Position) => import("./completion.js").Completion }} TextCalls
+ *   refused: (size: number) => void, complete: (position: Position) => import("./completion.js").Completion }} TextCalls
  *
- * What an editor is made of: its place, its name for those who do not see it, the colours of its lines, the gutters beside the faults, the
- * blanks that a new line begins with, what folds in it, and its own keys.
- * @typedef {{ place: HTMLElement, label: string, colours: import("./line_colours.js").Colours, gutters: string[], indent?: string,
+ * What an editor is made of: what holds it, its name for those who do not see it, the colours of its lines, the gutters beside the faults,
+ * the blanks that a new line begins with, what folds in it, and its own keys.
+ * @typedef {{ container: HTMLElement, label: string, colours: import("./line_colours.js").Colours, gutters: string[], indent?: string,
  *   folds?: import("./folding.js").Parts, keys: KeyMap, calls: TextCalls }} TextParts
  *
  * A text that is not shown, and how far it was scrolled.
@@ -51,15 +51,15 @@ export class TextEditor {
     this.name = "";
     /** @type {string | null} the text, where it was read since the last edit */
     this.value = null;
-    const { place, label, colours, gutters, indent, folds, keys } = parts;
+    const { container, label, colours, gutters, indent, folds, keys } = parts;
     /** @type {LineEditor} */
-    this.editor = new LineEditor({ place, label, description: say.TAB_INDENTS, colours, indent, keys, gutters: ["faults", ...gutters],
+    this.editor = new LineEditor({ container, label, description: say.TAB_INDENTS, colours, indent, keys, gutters: ["faults", ...gutters],
       more: [...(folds ? [folding(folds)] : []), this.handlers()], calls: this.editorCalls() });
     this.editor.onScroll(() => {
-      if (this.due === null && place.offsetHeight > 0) this.top = this.editor.getScrollInfo().top;
+      if (this.due === null && container.offsetHeight > 0) this.top = this.editor.getScrollInfo().top;
     });
     // It cannot be measured while it is hidden.
-    new ResizeObserver(() => this.resized()).observe(place);
+    new ResizeObserver(() => this.resized()).observe(container);
   }
 
   /** @returns {import("./line_editor.js").EditorCalls} */
@@ -100,13 +100,13 @@ export class TextEditor {
     });
   }
 
-  get place() {
-    return this.editor.place;
+  get container() {
+    return this.editor.container;
   }
 
   /** What was hidden comes back as it was: a browser may scroll it elsewhere before it can be measured. */
   resized() {
-    if (this.place.offsetHeight === 0) this.scrollSoon(this.due === null ? this.top : this.due);
+    if (this.container.offsetHeight === 0) this.scrollSoon(this.due === null ? this.top : this.due);
     else if (this.due === null) this.editor.refresh();
     else this.editor.whenMeasured(() => this.scroll());
   }
@@ -117,12 +117,12 @@ export class TextEditor {
    */
   scrollSoon(top) {
     this.due = top;
-    if (this.place.offsetHeight > 0) this.editor.whenMeasured(() => this.scroll());
+    if (this.container.offsetHeight > 0) this.editor.whenMeasured(() => this.scroll());
   }
 
   /** What waited for the text to be measured is done. */
   scroll() {
-    if (this.due === null || this.place.offsetHeight === 0) return;
+    if (this.due === null || this.container.offsetHeight === 0) return;
     this.editor.scrollTo(this.due);
     this.due = null;
     if (this.awaited > 0) this.reveal(this.awaited);
@@ -199,8 +199,8 @@ export class TextEditor {
    * The last step is undone, or done again; false where there is none.
    * @param {"undo" | "redo"} which
    */
-  step(which) {
-    return this.editor.step(which);
+  undoOrRedo(which) {
+    return this.editor.undoOrRedo(which);
   }
 
   /**
@@ -232,11 +232,11 @@ export class TextEditor {
   }
 
   /**
-   * Puts the caret at a place, which a user has asked for.
-   * @param {Position} place
+   * Puts the caret at a position, which a user has asked for.
+   * @param {Position} position
    */
-  goTo(place) {
-    this.editor.setCursor(place);
+  goTo(position) {
+    this.editor.setCursor(position);
     this.editor.focus();
     this.tabLeaves = false;
   }

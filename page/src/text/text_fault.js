@@ -121,11 +121,11 @@ function wordsOfCharacter(character) {
  * @returns {Fault | null}
  */
 function faultOfLine(line, sent, at) {
-  const place = { line: at, from: 0, to: line.length };
-  if (sent === ".") return { number: 0, ...place, words: say.DOT_ENDS };
+  const range = { line: at, from: 0, to: line.length };
+  if (sent === ".") return { number: 0, ...range, words: say.DOT_ENDS };
   if (sent.length > LONGEST_LINE) {
     const words = say.lineTooLong(LONGEST_LINE, sent.length);
-    return { number: LINE_TOO_LONG, ...place, from: line.indexOf(sent) + LONGEST_LINE, words };
+    return { number: LINE_TOO_LONG, ...range, from: line.indexOf(sent) + LONGEST_LINE, words };
   }
   const foreign = /[^\t -~]+/u.exec(line);
   if (!foreign) return null;

@@ -35,8 +35,8 @@ function wordFrom(text, line, from) {
   if (bare) return { kind: "bare", text: bare[0], line, from, to: from + bare[0].length, fault: "" };
   const isMark = /^[[\]{}=,.]/.test(rest);
   const [character] = rest;
-  const place = { text: character, line, from, to: from + 1 };
-  return isMark ? { kind: "mark", ...place, fault: "" } : { kind: "bad", ...place, fault: say.noMeaning(character) };
+  const word = { text: character, line, from, to: from + 1 };
+  return isMark ? { kind: "mark", ...word, fault: "" } : { kind: "bad", ...word, fault: say.noMeaning(character) };
 }
 
 /**

@@ -24,7 +24,7 @@ import * as say from "../words/time.js";
  * listing; whether an instruction is in its middle; the cycles that were counted; where time stands still, with its name and its line; a
  * breakpoint; what a refusal means; a step is served; a call failed.
  * @typedef {{ began: () => void, took: (frame: Frame) => void, drawRest: () => void, drawListing: () => void, isOwed: () => boolean,
- *   cycles: () => number, place: () => string, breakpoint: (id: number) => Breakpoint | undefined,
+ *   cycles: () => number, where: () => string, breakpoint: (id: number) => Breakpoint | undefined,
  *   wordsOfRefusal: (number: number) => string, step: () => Promise<string | null>, failed: (fault: unknown) => void }} RunningCalls
  */
 
@@ -219,7 +219,7 @@ export class Running {
     // A breakpoint may have come first.
     if (current.session && current.session.record.runs) {
       calls.drawRest();
-      this.halted(wordsOfHalt(this.goal, calls.cycles() - this.begun, this.place));
+      this.halted(wordsOfHalt(this.goal, calls.cycles() - this.begun, this.where));
     }
     await current.keep();
   }
@@ -251,8 +251,8 @@ export class Running {
   }
 
   /** Where time stands still, with its name and its line. */
-  get place() {
-    return this.calls.place();
+  get where() {
+    return this.calls.where();
   }
 
   /**
@@ -262,7 +262,7 @@ export class Running {
   reasonOf(stop, goal = this.goal) {
     const refusal = refusalOf(stop.why);
     if (refusal) return say.stoppedBy(stop.why, this.calls.wordsOfRefusal(refusal.number));
-    return wordsOfStop(goal, stop, this.place, wordsOfWhen(this.calls.breakpoint(stop.id || 0)));
+    return wordsOfStop(goal, stop, this.where, wordsOfWhen(this.calls.breakpoint(stop.id || 0)));
   }
 
   async step() {
@@ -272,7 +272,7 @@ export class Running {
     const run = readRun(answer);
     const cycles = run ? run.cycles : 0;
     if (isStop(answer)) this.tell(this.reasonOf({ why: run ? run.end : answer, cycles, returns: false }));
-    else this.tell(wordsOfStop({ kind: "over" }, { why: "goal", cycles, returns: false }, this.place));
+    else this.tell(wordsOfStop({ kind: "over" }, { why: "goal", cycles, returns: false }, this.where));
   }
 
   /**

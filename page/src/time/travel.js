@@ -13,12 +13,12 @@ import * as say from "../words/time.js";
  * @typedef {import("../debug/goals.js").Goal} Goal
  *
  * What it calls: time stands still; a goal is looked for, or not any more; work that changes the session is done, kept and shown, or null
- * is given; time runs up to a goal that the bench knows; breakpoints did something; why time stopped, in words; the place where it stands
+ * is given; time runs up to a goal that the bench knows; breakpoints did something; why time stopped, in words; where it stands
  * still; a breakpoint; the status says something.
  * @typedef {{ stand: () => Promise<void>, aim: (goal: Goal | null) => void,
  *   change: <Result extends ServedLines>(words: string, work: (ways: Ways) => Promise<Result>) => Promise<Result | null>,
  *   runTo: (goal: Goal) => void, counted: (tally: Tally) => void, reasonOf: (stop: Stop, goal: Goal) => string,
- *   place: () => string, breakpoint: (id: number) => import("../debug/breakpoints.js").Breakpoint | undefined,
+ *   where: () => string, breakpoint: (id: number) => import("../debug/breakpoints.js").Breakpoint | undefined,
  *   tell: (words: string) => void }} TravelCalls
  */
 
@@ -52,12 +52,12 @@ export class Travel {
   async goBack(goal) {
     await this.calls.stand();
     const gone = await this.calls.change(say.REPEATING_PAST, (ways) => this.bench.call("goBack", [goal], ways));
-    if (gone) this.calls.tell(wordsOfGone(goal, gone, this.calls.place(), this.calls.breakpoint(gone.id)));
+    if (gone) this.calls.tell(wordsOfGone(goal, gone, this.calls.where(), this.calls.breakpoint(gone.id)));
   }
 
   async goForward() {
     await this.calls.stand();
     const gone = await this.calls.change(say.GOING_FORWARD, () => this.bench.call("goForward", []));
-    if (gone) this.calls.tell(wordsOfGone({ kind: "forward" }, gone, this.calls.place()));
+    if (gone) this.calls.tell(wordsOfGone({ kind: "forward" }, gone, this.calls.where()));
   }
 }

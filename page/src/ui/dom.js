@@ -126,14 +126,14 @@ export function isDialogOpen() {
  */
 export function oneStop(root, columns) {
   /** @type {Record<string, () => number>} */
-  const step = { ArrowLeft: () => -1, ArrowRight: () => 1, ArrowUp: () => -columns(), ArrowDown: () => columns() };
+  const moves = { ArrowLeft: () => -1, ArrowRight: () => 1, ArrowUp: () => -columns(), ArrowDown: () => columns() };
   root.addEventListener("keydown", (event) => {
-    if (!(event.key in step)) return;
+    if (!(event.key in moves)) return;
     const buttons = [...root.querySelectorAll("button")];
     const at = buttons.findIndex((each) => each === document.activeElement);
     if (at < 0) return;
     event.preventDefault();
-    const next = buttons[at + step[event.key]()];
+    const next = buttons[at + moves[event.key]()];
     if (!next) return;
     for (const each of buttons) each.tabIndex = each === next ? 0 : -1;
     next.focus();

@@ -7,7 +7,7 @@ import { block } from "./dom.js";
 /** In pixels. */
 const LEAST = 280;
 const MOST = 900;
-const STEP = 20;
+const MOVE = 20;
 const NAME = "side";
 
 export class Splitter {
@@ -61,9 +61,9 @@ export class Splitter {
   /** @param {KeyboardEvent} event */
   typed(event) {
     /** @type {Record<string, number>} */
-    const steps = { ArrowLeft: STEP, ArrowRight: -STEP };
+    const moves = { ArrowLeft: MOVE, ArrowRight: -MOVE };
     if (event.key === "Home" || event.key === "Escape") this.reset();
-    else if (event.key in steps) this.set(this.width + steps[event.key]);
+    else if (event.key in moves) this.set(this.width + moves[event.key]);
     else return;
     event.preventDefault();
   }

@@ -10,7 +10,7 @@ const GAP = 4;
 /**
  * Puts an element below a place of the page, inside the window's width.
  * @param {HTMLElement} node
- * @param {{ left: number, bottom: number }} place in the window
+ * @param {{ left: number, bottom: number }} point in the window
  * @param {number} gap
  */
 export function putBelow(node, { left, bottom }, gap) {

@@ -74,9 +74,9 @@ function changesOf(waves, chosen) {
   const counts = chosen.map((line) => waves.changesOf(line).length);
   const changes = new Float64Array(counts.reduce((sum, count) => sum + count, 0));
   let at = 0;
-  chosen.forEach((line, place) => {
+  chosen.forEach((line, index) => {
     for (const moment of waves.changesOf(line)) {
-      changes[at] = moment * LINES + place;
+      changes[at] = moment * LINES + index;
       at += 1;
     }
   });
@@ -95,10 +95,10 @@ export function* vcdParts(waves, chosen) {
   let told = waves.from;
   for (const change of changesOf(waves, chosen)) {
     const moment = Math.floor(change / LINES);
-    const place = change % LINES;
+    const index = change % LINES;
     if (moment !== told) text.push(`#${(moment - waves.from) * UNITS}`);
     told = moment;
-    text.push(changeText(waves, chosen[place], moment, codes[place]));
+    text.push(changeText(waves, chosen[index], moment, codes[index]));
     if (text.length < LINES_OF_PART) continue;
     yield `${text.join("\n")}\n`;
     text = [];

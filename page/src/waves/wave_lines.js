@@ -39,12 +39,12 @@ function made(name, group, kind, rest = {}) {
 /**
  * The name of a lamp or a key, by the name that the board's text tells; one that cannot stand in a file is its title.
  * @param {string} group
- * @param {string} place
+ * @param {string} ending
  * @param {Told | undefined} told
  */
-function namesOf(group, place, told) {
+function namesOf(group, ending, told) {
   const text = told ? told.text : "";
-  return PLAIN.test(text) ? { name: `${group}.${text}`, title: "" } : { name: `${group}${place}`, title: text };
+  return PLAIN.test(text) ? { name: `${group}.${text}`, title: "" } : { name: `${group}${ending}`, title: text };
 }
 
 /**
@@ -85,9 +85,9 @@ function linesOfFront({ lamps, rows, columns }, face) {
   });
   for (const row of upTo(rows)) {
     for (const column of upTo(columns)) {
-      const place = `${row}.${column}`;
-      const { name, title } = namesOf("key", place, face.keys.get(`${row} ${column}`));
-      lines.push(made(name, "keys", "key", { places: [place], title }));
+      const key = `${row}.${column}`;
+      const { name, title } = namesOf("key", key, face.keys.get(`${row} ${column}`));
+      lines.push(made(name, "keys", "key", { places: [key], title }));
     }
   }
   return lines;

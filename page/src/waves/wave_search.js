@@ -118,8 +118,8 @@ function readValue(name, sign, value, waves, marked) {
 export function find(waves, { line, fits, each }, moment, isForward) {
   const track = waves.trackOf(line);
   const changes = track.moments.all;
-  const step = isForward ? 1 : -1;
-  for (let at = isForward ? countUpTo(changes, moment) : countUpTo(changes, moment - 1) - 1; at >= 0 && at < changes.length; at += step) {
+  const by = isForward ? 1 : -1;
+  for (let at = isForward ? countUpTo(changes, moment) : countUpTo(changes, moment - 1) - 1; at >= 0 && at < changes.length; at += by) {
     if (fits(track.valueBehind(at + 1)) && (each || !fits(track.valueBehind(at)))) return changes[at];
   }
   // It may be so from the beginning on.

@@ -64,14 +64,14 @@ export class WaveWindow {
   }
 
   /**
-   * Makes the part that is seen smaller, or larger by a factor below 1; what stands at a place stays there.
+   * Makes the part that is seen smaller, or larger by a factor below 1; what stands at a moment stays there.
    * @param {number} factor
-   * @param {number} place in cycles
+   * @param {number} moment in cycles
    */
-  zoom(factor, place) {
-    const share = (place - this.from) / this.span;
+  zoom(factor, moment) {
+    const share = (moment - this.from) / this.span;
     this.span = within(this.span / factor, Math.min(CLOSEST, this.all), this.all);
-    this.goTo(place - share * this.span);
+    this.goTo(moment - share * this.span);
   }
 
   /** @param {number} from in cycles */
@@ -128,12 +128,12 @@ export class WaveWindow {
    * @param {number} line -1 for none
    */
   momentAt(x, waves, line) {
-    const place = within(Math.floor(this.cyclesAt(x)), this.begin, this.end);
-    if (line < 0) return place;
-    const edges = [waves.changeBefore(line, place + 1), waves.changeAfter(line, place)];
+    const cycle = within(Math.floor(this.cyclesAt(x)), this.begin, this.end);
+    if (line < 0) return cycle;
+    const edges = [waves.changeBefore(line, cycle + 1), waves.changeAfter(line, cycle)];
     const near = edges.filter((edge) => edge !== undefined && Math.abs(this.xOf(edge) - x) <= NEAR);
     const [nearest] = near.sort((one, other) => Math.abs(this.xOf(Number(one)) - x) - Math.abs(this.xOf(Number(other)) - x));
-    return nearest === undefined ? place : nearest;
+    return nearest === undefined ? cycle : nearest;
   }
 }
 
@@ -145,8 +145,8 @@ export class WaveWindow {
 export function ticksOf(view, room) {
   const least = (room / view.width) * view.span;
   const power = 10 ** Math.floor(Math.log10(Math.max(1, least)));
-  const step = [1, 2, 5, 10].map((each) => each * power).find((each) => each >= least) || 1;
+  const distance = [1, 2, 5, 10].map((each) => each * power).find((each) => each >= least) || 1;
   const ticks = [];
-  for (let tick = Math.ceil(view.from / step) * step; tick <= view.to; tick += step) ticks.push(tick);
+  for (let tick = Math.ceil(view.from / distance) * distance; tick <= view.to; tick += distance) ticks.push(tick);
   return ticks;
 }

@@ -83,8 +83,8 @@ export const noCharacter = (name) => `${name} is no character of RAM: only these
 export const CONFIGURED_FIRST = "configurationDone comes first";
 export const ONE_THREAD = "there is one thread, 1";
 export const NO_TARGET = "there is no such target";
-/** @type {(place: string) => string} */
-export const standsAt = (place) => `Stands at ${place}.`;
+/** @type {(where: string) => string} */
+export const standsAt = (where) => `Stands at ${where}.`;
 
 // --- adapter/kept_session.js ---
 /** @type {(answer: string) => string} */
@@ -117,8 +117,8 @@ export const loadPuts = (difference) => (
 
 // --- adapter/machine.js ---
 export const TIME_RUNS_ALREADY = "time runs already: pause comes first";
-/** @type {(place: string) => string} */
-export const stoppedAt = (place) => `Stopped at ${place}.`;
+/** @type {(where: string) => string} */
+export const stoppedAt = (where) => `Stopped at ${where}.`;
 /** @type {(count: number) => string} */
 export const notesBefore = (count) => `(${count} notes before these)`;
 

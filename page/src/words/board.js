@@ -2,7 +2,7 @@
 
 // --- board/board_keys.js ---
 /** @type {(legend: string, row: number, column: number) => string} */
-export const keyPlace = (legend, row, column) => `key ${legend}, row ${row}, column ${column}`;
+export const keyAt = (legend, row, column) => `key ${legend}, row ${row}, column ${column}`;
 /** @type {(kind: string, legend: string) => string} */
 export const keyAtTest = (kind, legend) => `${kind} ${legend}, at TEST`;
 export const NO_KEYS = "This board has no keys.";
@@ -33,7 +33,7 @@ export const lit = (name) => `${name}, lit`;
 /** @type {(name: string) => string} */
 export const dark = (name) => `${name}, dark`;
 /** @type {(row: number, column: number) => string} */
-export const placeInGroup = (row, column) => `row ${row}, column ${column}`;
+export const rowAndColumn = (row, column) => `row ${row}, column ${column}`;
 /** @type {(number: number, count: number) => string} */
 export const lampOfRow = (number, count) => `lamp ${number} of ${count}`;
 /** @type {(column: string, row: string) => string} */

@@ -82,9 +82,9 @@ export const SEARCHING_PAST = "Searching the past.";
 export const changedHow = (how) => `changed ${how}`;
 
 // --- machine/listing_rows.js ---
-/** @type {(place: string) => string} */
-export const insideBreakpoint = (place) => (
-  `breakpoint at ${place}, inside this instruction: a run that comes here does not stop; a click clears it`);
+/** @type {(address: string) => string} */
+export const insideBreakpoint = (address) => (
+  `breakpoint at ${address}, inside this instruction: a run that comes here does not stop; a click clears it`);
 
 // --- machine/machine_view.js ---
 export const OWED_STAYS = "No line changes what is owed: a step or a run does.";
@@ -96,7 +96,7 @@ export const SRC_OF_ROMS = "SRC, ROMs";
 // --- machine/ram_view.js ---
 export const RAM_PORTS_STAY = "No line changes the output of a RAM chip's port: a program does, by WMP.";
 /** @type {(bank: number, chip: number, register: number) => string} */
-export const registerPlace = (bank, chip, register) => `bank ${bank}, chip ${chip}, register ${register}`;
+export const registerOfChip = (bank, chip, register) => `bank ${bank}, chip ${chip}, register ${register}`;
 export const NO_RAM = "This board has no RAM.";
 export const CHARACTERS = "characters 0 to F";
 /** @type {(register: string, character: number, source: string) => string} */

@@ -2,8 +2,8 @@
 
 // --- prompt/breakpoint_commands.js ---
 export const WHICH_ONE = "which one? info breakpoints has their numbers";
-/** @type {(id: number, place: string) => string} */
-export const breakpointAt = (id, place) => `Breakpoint ${id} at ${place}.`;
+/** @type {(id: number, where: string) => string} */
+export const breakpointAt = (id, where) => `Breakpoint ${id} at ${where}.`;
 /** @type {(word: string) => string} */
 export const noBreakpoint = (word) => `there is no breakpoint ${word}; info breakpoints has their numbers`;
 /** @type {(place: string) => string} */
@@ -85,14 +85,14 @@ export const CONTINUE_FORM = "continue stands alone; run TIME lets a time pass";
 export const NOTHING_STOPS = "nothing would stop it: set a breakpoint, or let a time pass by run 100 ms";
 /** @type {(words: string, left: string) => string} */
 export const notPressed = (words, left) => `${words} Not pressed: ${left}.`;
-/** @type {(place: string) => string} */
-export const standsAt = (place) => `Stands at ${place}.`;
+/** @type {(where: string) => string} */
+export const standsAt = (where) => `Stands at ${where}.`;
 
 // --- prompt/moves.js ---
-/** @type {(place: string) => string} */
-export const backInSubroutine = (place) => `Back in the subroutine, at ${place}: what is remembered begins in it.`;
-/** @type {(place: string) => string} */
-export const backAt = (place) => `Back at ${place}: this instruction is not done.`;
+/** @type {(where: string) => string} */
+export const backInSubroutine = (where) => `Back in the subroutine, at ${where}: what is remembered begins in it.`;
+/** @type {(where: string) => string} */
+export const backAt = (where) => `Back at ${where}: this instruction is not done.`;
 
 // --- prompt/prompt.js ---
 /** How the words of what did nothing begin. */
@@ -107,11 +107,11 @@ export const noPlace = (text, places) => `${text} is no place: there are ${place
 export const boardHasNo = (place) => `the board has no ${place}`;
 
 // --- prompt/words_of_line.js ---
-export const PLACES = "a line of the source as 12, a label as show or show + 2, an address as 0x00F";
+export const FORMS_IN_PROGRAM = "a line of the source as 12, a label as show or show + 2, an address as 0x00F";
 /** @type {(line: string) => string} */
 export const noInstructionIn = (line) => `no instruction stands in line ${line} of the source, or behind it`;
-/** @type {(text: string, places: string) => string} */
-export const noPlaceInProgram = (text, places) => `${text} is no place in the program: it is ${places}`;
+/** @type {(text: string, forms: string) => string} */
+export const notInProgram = (text, forms) => `${text} is no place in the program: it is ${forms}`;
 export const ADDRESS_RANGE = "addresses are 0x000 to 0xFFF";
 /** @type {(most: string, text: string) => string} */
 export const countIs = (most, text) => `a count is 1 to ${most}, not ${text}`;

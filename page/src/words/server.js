@@ -3,7 +3,7 @@
 // --- server/board_language.js ---
 export const NO_BOARD_NAMES = "A board's text has no names that can be changed here.";
 
-// --- server/board_places.js ---
+// --- server/board_references.js ---
 /** @type {(line: string, chip: string) => string} */
 export const lineOfRom = (line, chip) => `line ${line} of the port of ROM ${chip}`;
 /** @type {(bit: string, chain: string) => string} */

@@ -36,24 +36,24 @@ export function wordsOfAddress(address, map) {
  * What going back or forward came to.
  * @param {BackGoal | { kind: "forward" }} goal
  * @param {Pick<Gone, "isDone" | "why" | "place" | "from" | "to" | "line" | "end" | "cycles">} gone
- * @param {string} place where time stands still
+ * @param {string} where time stands still
  * @param {{ condition: string }} [breakpoint] at which it arrived there
  */
-export function wordsOfGone(goal, gone, place, breakpoint) {
+export function wordsOfGone(goal, gone, where, breakpoint) {
   const { isDone, why, from, to, line, end, cycles } = gone;
   if (!isDone) return `Nothing was done: ${whyNot(goal, why)}.`;
   const over = cycles === 0 ? "" : `, ${wordsOfCycles(cycles)}`;
-  if (goal.kind === "forward") return `Forward again to ${place}${over}${over && " later"}.`;
+  if (goal.kind === "forward") return `Forward again to ${where}${over}${over && " later"}.`;
   const before = cycles === 0 ? "" : `${over} before`;
-  if (goal.kind === "stop") return `Back at the stop at ${place}${before}.`;
-  if (goal.kind === "instruction") return `Back at ${place}${before}: this instruction is not done.`;
+  if (goal.kind === "stop") return `Back at the stop at ${where}${before}.`;
+  if (goal.kind === "instruction") return `Back at ${where}${before}: this instruction is not done.`;
   if (end === "break") {
     const when = wordsOfWhen(breakpoint && { ...breakpoint, from: 1, hits: 0 });
-    return `Back at ${place}${before}, at a breakpoint${when}.`;
+    return `Back at ${where}${before}, at a breakpoint${when}.`;
   }
-  if (end === "beginning") return `Back at ${place}${before}, where what is remembered begins: no breakpoint was passed since.`;
+  if (end === "beginning") return `Back at ${where}${before}, where what is remembered begins: no breakpoint was passed since.`;
   const who = line ? `the line ${line}` : "this instruction";
-  return `Back at ${place}${before}: ${who} changes ${gone.place} from ${from} to ${to}.`;
+  return `Back at ${where}${before}: ${who} changes ${gone.place} from ${from} to ${to}.`;
 }
 
 /**
@@ -103,27 +103,27 @@ export function wordsOfMove(goal) {
 /**
  * @param {Goal} goal
  * @param {boolean} returns whether a return was waited for
- * @param {string} place
+ * @param {string} where
  */
-function reached(goal, returns, place) {
-  if (goal.kind === "here") return `Stopped at ${place}, as wanted`;
-  if (goal.kind === "change") return `Stopped at ${place}, after ${goal.place} changed`;
+function reached(goal, returns, where) {
+  if (goal.kind === "here") return `Stopped at ${where}, as wanted`;
+  if (goal.kind === "change") return `Stopped at ${where}, after ${goal.place} changed`;
   if (goal.kind === "count") return `${goal.count.toLocaleString("en")} instruction${goal.count === 1 ? " was" : "s were"} done`;
-  return returns ? `Returned to ${place}` : `At ${place}`;
+  return returns ? `Returned to ${where}` : `At ${where}`;
 }
 
 /**
  * @param {Goal | null} goal null where time ran to none
  * @param {Pick<Stop, "why" | "cycles" | "returns">} stop
- * @param {string} place where time stands still
+ * @param {string} where time stands still
  * @param {string} [when] what of the breakpoint that stopped it
  */
-export function wordsOfStop(goal, { why, cycles, returns }, place, when = "") {
+export function wordsOfStop(goal, { why, cycles, returns }, where, when = "") {
   if (why === "lacks") return `Nothing was done: this board has no ${goal && goal.kind === "change" ? goal.place : "such place"}.`;
   const after = `after ${wordsOfCycles(cycles)}`;
-  if (goal && why === "goal") return `${reached(goal, returns, place)}, ${after}.`;
+  if (goal && why === "goal") return `${reached(goal, returns, where)}, ${after}.`;
   const reason = (REASONS[why] || why) + (why === "break" ? when : "");
-  return goal ? `Stopped at ${place}, ${reason}, ${after}; ${wordsOfGoal(goal)} was not reached.` : `Stopped at ${place}, ${reason}.`;
+  return goal ? `Stopped at ${where}, ${reason}, ${after}; ${wordsOfGoal(goal)} was not reached.` : `Stopped at ${where}, ${reason}.`;
 }
 
 /**
@@ -140,19 +140,19 @@ export function wordsOfWhen(breakpoint) {
  * Time was stopped by a hand before its goal.
  * @param {Goal | null} goal
  * @param {number} cycles since it began
- * @param {string} place
+ * @param {string} where
  */
-export function wordsOfHalt(goal, cycles, place) {
-  return goal ? `Stopped at ${place}, after ${wordsOfCycles(cycles)}; ${wordsOfGoal(goal)} was not reached.` : `Stopped at ${place}.`;
+export function wordsOfHalt(goal, cycles, where) {
+  return goal ? `Stopped at ${where}, after ${wordsOfCycles(cycles)}; ${wordsOfGoal(goal)} was not reached.` : `Stopped at ${where}.`;
 }
 
 /**
  * A move was under way as the page was loaded anew, or as another session was shown.
  * @param {Goal} goal
  * @param {boolean} ran whether time ran up to it; else it was looked for
- * @param {string} place
+ * @param {string} where
  */
-export function wordsOfBroken(goal, ran, place) {
+export function wordsOfBroken(goal, ran, where) {
   const what = `${wordsOfGoal(goal)} was ${ran ? "not reached" : "looked for, and nothing was done"}`;
-  return `Stopped at ${place}: ${what}, as the page was loaded again or another session was shown.`;
+  return `Stopped at ${where}: ${what}, as the page was loaded again or another session was shown.`;
 }

@@ -6,12 +6,12 @@ import { BenchRefusal, BenchTrap, NO_MEMORY } from "../bench/faults.js";
 /**
  * What came of lines: the status of the shell's end, its first line, `session N`, and the answers after that.
  * @typedef {{ status: number, opened: string, answers: string[] }} Served
- * @typedef {{ place: bigint, room: number }} Stretch a stretch of the module's memory
+ * @typedef {{ offset: bigint, room: number }} Stretch a stretch of the module's memory
  * @typedef {"page_serve_and_settle" | "page_ask"} ServingCall
  * @typedef {(file: bigint, fileSize: bigint, input: bigint, inputSize: bigint, answers: bigint, room: bigint, told: bigint) => number}
  *   Serving
  * @typedef {{ memory: WebAssembly.Memory, page_file_size: () => bigint, page_buffer: (count: bigint) => bigint,
- *   page_buffer_back: (place: bigint) => void, page_begin: (file: bigint, size: bigint) => number,
+ *   page_buffer_back: (offset: bigint) => void, page_begin: (file: bigint, size: bigint) => number,
  *   page_serve_and_settle: Serving, page_ask: Serving }} Calls what the module exports
  */
 
@@ -40,9 +40,9 @@ class Instance {
    * @returns {Stretch}
    */
   stretch(room) {
-    const place = this.calls.page_buffer(BigInt(room));
-    if (place === BigInt(0)) throw new BenchRefusal(NO_MEMORY);
-    return { place, room };
+    const offset = this.calls.page_buffer(BigInt(room));
+    if (offset === BigInt(0)) throw new BenchRefusal(NO_MEMORY);
+    return { offset, room };
   }
 
   /**
@@ -53,7 +53,7 @@ class Instance {
   larger(stretch, room) {
     if (room <= stretch.room) return stretch;
     const found = this.stretch(room);
-    this.calls.page_buffer_back(stretch.place);
+    this.calls.page_buffer_back(stretch.offset);
     return found;
   }
 
@@ -62,10 +62,10 @@ class Instance {
    * @param {Stretch} stretch
    * @param {number} count
    */
-  view({ place }, count) {
+  view({ offset }, count) {
     const { buffer } = this.calls.memory;
     if (this.bytes.buffer !== buffer) this.bytes = new Uint8Array(buffer);
-    return this.bytes.subarray(Number(place), Number(place) + count);
+    return this.bytes.subarray(Number(offset), Number(offset) + count);
   }
 
   /**
@@ -92,7 +92,7 @@ class Instance {
 
   /** What a call has told: a number, and a count. */
   readTold() {
-    const words = new DataView(this.calls.memory.buffer, Number(this.told.place), TOLD_SIZE);
+    const words = new DataView(this.calls.memory.buffer, Number(this.told.offset), TOLD_SIZE);
     return { number: words.getUint32(0, true), count: Number(words.getBigUint64(COUNT_AT, true)) };
   }
 }
@@ -151,7 +151,7 @@ export class Engine {
    */
   begin(into = new Uint8Array(this.size)) {
     const { instance } = this;
-    if (!this.call((calls) => calls.page_begin(instance.file.place, BigInt(this.size)))) throw new BenchRefusal(NO_MEMORY);
+    if (!this.call((calls) => calls.page_begin(instance.file.offset, BigInt(this.size)))) throw new BenchRefusal(NO_MEMORY);
     into.set(instance.view(instance.file, this.size));
     return into;
   }
@@ -209,8 +209,8 @@ export class Engine {
     const { instance } = this;
     instance.takeFile(file);
     const { file: bytes, input, answers, told } = instance;
-    const isServed = this.call((calls) => calls[name](bytes.place, BigInt(file.length), input.place, BigInt(inputSize),
-      answers.place, BigInt(answers.room), told.place));
+    const isServed = this.call((calls) => calls[name](bytes.offset, BigInt(file.length), input.offset, BigInt(inputSize),
+      answers.offset, BigInt(answers.room), told.offset));
     const { number, count } = instance.readTold();
     if (!isServed && number !== 0) throw new BenchRefusal(number);
     return { number, count, answersNeed: isServed ? 0 : count };

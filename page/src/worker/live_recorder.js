@@ -177,10 +177,10 @@ export class LiveRecorder {
   takeEdges({ members, edge }, counts) {
     if (this.triggered >= 0) return;
     const wanted = { rises: 1, falls: 0, changes: -1 }[edge || "changes"];
-    const found = members.flatMap((member, place) => {
+    const found = members.flatMap((member, index) => {
       const track = this.taking.tracks[member];
-      const moments = [...track.moments.all.subarray(counts[place])];
-      return moments.find((_, at) => wanted < 0 || track.valueBehind(counts[place] + at + 1) === wanted) ?? [];
+      const moments = [...track.moments.all.subarray(counts[index])];
+      return moments.find((_, at) => wanted < 0 || track.valueBehind(counts[index] + at + 1) === wanted) ?? [];
     });
     if (found.length > 0) this.triggered = Math.min(...found);
   }

@@ -105,8 +105,8 @@ class Digits {
     const cycles = at - this.since;
     this.since = at;
     if (cycles === 0) return;
-    this.patterns.forEach((pattern, place) => {
-      if (pattern !== NOT_LIT) this.shown[place].set(pattern, (this.shown[place].get(pattern) || 0) + cycles);
+    this.patterns.forEach((pattern, index) => {
+      if (pattern !== NOT_LIT) this.shown[index].set(pattern, (this.shown[index].get(pattern) || 0) + cycles);
     });
   }
 

@@ -100,8 +100,8 @@ export function listedAt(engine, file, addresses) {
  * @param {string[]} told the answers to `breaks` and `watches`
  */
 function linesWithoutStops([breaks, watches]) {
-  const places = readMarks(watches).map((place) => place.split(".")).map(([bank, source]) => `unwatch ${bank} 0x${source}`);
-  return linesOf([...readMarks(breaks).map((address) => `unbreak 0x${address}`), ...places]);
+  const unwatches = readMarks(watches).map((each) => each.split(".")).map(([bank, source]) => `unwatch ${bank} 0x${source}`);
+  return linesOf([...readMarks(breaks).map((address) => `unbreak 0x${address}`), ...unwatches]);
 }
 
 /**

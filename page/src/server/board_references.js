@@ -6,7 +6,7 @@ import * as say from "../words/server.js";
 /**
  * @typedef {import("../text/board_reader.js").Entry} Entry
  * @typedef {import("../text/board_reader.js").Value} Value
- * @typedef {Value & { key: string, entry: Entry }} PlacedValue a value that is no array, with its key and its table
+ * @typedef {Value & { key: string, entry: Entry }} KeyedValue a value that is no array, with its key and its table
  */
 
 const LINE = /^(rom|ram|chain)(\d+)\.(\d+)(?:\.(\d+))?$/;
@@ -23,14 +23,14 @@ function valueOf({ keys }, name) {
   return key && key.value.inner;
 }
 
-export class BoardPlaces {
+export class BoardReferences {
   /** @param {string} text */
   constructor(text) {
     const { entries } = readBoardText(text);
     this.entries = entries;
     this.chains = entries.filter(({ table }) => table === "chain");
     this.lamps = entries.filter(({ table }) => table === "lamp");
-    /** @type {PlacedValue[]} */
+    /** @type {KeyedValue[]} */
     this.values = entries.flatMap((entry) => entry.keys.flatMap(({ name, value }) => {
       const inner = Array.isArray(value.inner) ? value.inner : [value];
       return inner.map((each) => ({ ...each, key: name, entry }));
@@ -49,7 +49,7 @@ export class BoardPlaces {
 
   /**
    * The chip or chain that a value names; null where it names none.
-   * @param {PlacedValue} value
+   * @param {KeyedValue} value
    * @returns {Entry | null}
    */
   partOf({ inner, key, entry }) {
@@ -85,7 +85,7 @@ export class BoardPlaces {
 
   /**
    * What line a value names, whose lamp it is, and where its chip stands; "" where it names none.
-   * @param {PlacedValue} value
+   * @param {KeyedValue} value
    * @param {import("../board/face.js").Face} face
    */
   wordsOf(value, face) {

@@ -34,30 +34,30 @@ function namesOf(kind, text, counts) {
  * @param {string} text
  * @returns {Map<string, Lines>}
  */
-export function placesOfParts(text) {
+export function partLines(text) {
   const lines = text.split("\n");
   const { kind, partOf } = new BoardTextParts(lines);
   /** @type {Map<number, number[]>} */
   const own = new Map();
   partOf.forEach((part, at) => own.set(part, [...(own.get(part) || []), at]));
-  const places = new Map();
+  const named = new Map();
   /** @type {Record<string, number>} */
   const counts = {};
   for (const [part, at] of own) {
     while (at.length > 1 && /^\s*(#.*)?$/.test(lines[at[at.length - 1]])) at.pop();
     const bare = at.map((line) => lines[line].replace(/#.*$/, "")).join("\n");
-    const place = { from: at[0] + 1, to: at[at.length - 1] + 1 };
-    for (const name of namesOf(kind[part], bare, counts)) places.set(name, place);
+    const range = { from: at[0] + 1, to: at[at.length - 1] + 1 };
+    for (const name of namesOf(kind[part], bare, counts)) named.set(name, range);
   }
-  return places;
+  return named;
 }
 
 /**
  * The first part that a line of the text belongs to; "" where it belongs to none.
- * @param {Map<string, Lines>} places
+ * @param {Map<string, Lines>} parts
  * @param {number} line
  */
-export function partAtLine(places, line) {
-  for (const [name, { from, to }] of places) if (from <= line && line <= to) return name;
+export function partAtLine(parts, line) {
+  for (const [name, { from, to }] of parts) if (from <= line && line <= to) return name;
   return "";
 }
