@@ -80,7 +80,7 @@ def check_wiring(browser):
 def run_program(browser):
     """Puts the step's program into the source, and assembles and runs it by its button."""
     browser.click("#tour-put")
-    browser.script("document.querySelector('#program-editor .told').textContent = ''")
+    browser.script("document.querySelector('#program-editor .told').firstChild.data = ''")
     browser.click("#program-editor .send")
     browser.until("return document.querySelector('#program-editor .told').textContent", re.compile("It runs from 000 on"))
     browser.until(STATUS, re.compile("^Time runs"))

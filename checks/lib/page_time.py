@@ -192,7 +192,7 @@ def check_stopwatch(browser):
     lines_answered(browser, "test 0")
     browser.script(CHANGE, "#change-place", "lamps")
     for _ in range(2):
-        browser.script("document.getElementById('status').textContent = ''")
+        browser.script("document.getElementById('status').firstChild.data = ''")
         browser.click("#until-change")
         browser.until(STATUS, re.compile("after lamps changed, after"))
         browser.click("#mark")
@@ -232,7 +232,7 @@ def check_back(browser):
     verdict("the bytes that are kept are the same", browser.until(KEPT_FILE, re.compile(".")) == file, True)
     verdict("and so are the answers", state(browser), there)
     for _ in range(3):
-        browser.script("document.getElementById('status').textContent = ''")
+        browser.script("document.getElementById('status').firstChild.data = ''")
         browser.click("#back-instruction")
         browser.until(STATUS, re.compile("^Back at ..., [12] cycles?, .* before: this instruction is not done.$"))
     verdict("three instructions back it is another moment", state(browser) != there, True)

@@ -39,7 +39,7 @@ return found.size"""
 def record(browser, cycles, where="after"):
     show_text(browser, "waves")
     browser.script("const w = document.getElementById('record-where'); w.value = arguments[0]; w.dispatchEvent(new Event('change'))", where)
-    browser.script("document.getElementById('record-cycles').value = arguments[0]; document.getElementById('scope-told').textContent = ''",
+    browser.script("document.getElementById('record-cycles').value = arguments[0]; document.getElementById('scope-told').firstChild.data = ''",
                    str(cycles))
     browser.click("#record")
     return browser.until(TOLD, re.compile("."), 60)
@@ -308,7 +308,7 @@ def check_refusals(browser):
     browser.script("document.getElementById('waves-none').click()")
     browser.click("#save-waves")
     comes(browser, "a file of no line is refused", TOLD, "No line is chosen: choose the lines for the file.")
-    browser.script("document.getElementById('record-cycles').value = '10000000'; document.getElementById('scope-told').textContent = ''")
+    browser.script("document.getElementById('record-cycles').value = '10000000'; document.getElementById('scope-told').firstChild.data = ''")
     browser.script("document.getElementById('record-where').value = 'after'")
     browser.click("#record")
     browser.until("return document.getElementById('work').hidden", False)
