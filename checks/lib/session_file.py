@@ -167,6 +167,23 @@ class State:
     def place(self):
         return self.counter, self.owed, self.accumulator, self.carry, bytes(self.registers)
 
+    def step(self):
+        """One instruction, or the second cycle of one; tells how many cycles it was."""
+        was_owed = self.owed
+        self.cycle()
+        if not self.owed or was_owed:
+            return " ran 1 end"
+        self.cycle()
+        return " ran 2 end"
+
+    def reset(self):
+        """A power cycle; ROM, keys, TEST, breakpoints, watches and wiring stay."""
+        new = State()
+        for part in ("ram", "status", "ram_ports", "rom_ports", "accumulator", "carry", "registers", "counter", "returns", "bank", "rom_source",
+                     "bank_sources", "owed"):
+            setattr(self, part, getattr(new, part))
+        self.chains = [bytearray(len(chain)) for chain in self.chains]
+
 
 # --- commands
 
@@ -184,6 +201,10 @@ def wire(text, board):
         state.board = board
         state.chains = [bytearray(10 * chips) for _, _, chips in board.chains]
         state.keys = bytearray(board.count_of_keys())
+        state.reset()
+        for chip in range(16):
+            if chip not in board.roms:
+                state.rom[256 * chip:256 * chip + 256] = bytes(256)
     return Command(f"wire\n{text}.\n", bytes([1]) + board.bytes(), do)
 
 
@@ -205,6 +226,11 @@ def load(text, image):
 def run(cycles):
     """It counts all its cycles, also where a breakpoint stops it."""
     return Command(f"run {cycles}\n", bytes([5]) + number(cycles, 4), lambda state: state.run(cycles), cycles)
+
+
+def step():
+    """It counts two cycles."""
+    return Command("step\n", bytes([6]), State.step, 2)
 
 
 def poke_register(register, value):
@@ -260,6 +286,19 @@ def read(file):
     return snapshot, records
 
 
+def file_of(snapshot):
+    """A file that holds a snapshot in its first slot, and no record."""
+    begin = SLOTS[0]
+    file = bytearray(NAME + bytes(SIZE - len(NAME)))
+    file[begin:begin + LENGTH_BYTES + len(snapshot)] = number(len(snapshot), LENGTH_BYTES) + snapshot
+    return file
+
+
+def put_record(file, at, record):
+    """Puts a record into a log, and the log's end behind it."""
+    file[at:at + 3 + len(record) + 1] = b"\x01" + number(len(record), 2) + record + b"\x00"
+
+
 class Kept:
     """A session, and what its file has to hold."""
 
@@ -297,8 +336,7 @@ class Kept:
         record = command.record
         if self.used + 3 + len(record) + 1 > LOG_BYTES or self.cycles + command.cycles > MOST_CYCLES:
             self.checkpoint()
-        at = SLOTS[self.slot] + SNAPSHOT_AREA + self.used
-        self.file[at:at + 3 + len(record) + 1] = b"\x01" + number(len(record), 2) + record + b"\x00"
+        put_record(self.file, SLOTS[self.slot] + SNAPSHOT_AREA + self.used, record)
         self.used += 3 + len(record)
         self.cycles += command.cycles
         self.held[1].append(record)

@@ -1,0 +1,87 @@
+"""Records that a session file may hold, and such as it may not, put down by hand from docs/FORMAT.md ("Bytes of commands")."""
+
+from session_file import Board, Command, State, load, ram_line, rom_line, run, step, wire
+from session_states import LARGEST, chained
+
+NO_ROMS = b"-" * 64
+TWO_KEYS = Board({0: "0000", 1: "1i0i"}, {}, [(rom_line(0, 0), rom_line(0, 1), 1)], (0, 0, 1, [rom_line(1, 0), rom_line(1, 2)]))
+EACH_PART = Board({0: "1i0i"}, {1: 2}, [(rom_line(0, 1), rom_line(0, 3), 3)], (0, 5, 2, [rom_line(0, 2)]), [ram_line(1, 0, 3)])
+
+
+def put(part, value):
+    """A part of a state gets a value."""
+    return lambda state: setattr(state, part, value)
+
+
+def put_at(part, place, value):
+    """A place of a part of a state gets a value."""
+    return lambda state: getattr(state, part).__setitem__(place, value)
+
+
+def written(text, record, do):
+    """A command, by its line and by its bytes."""
+    return Command(f"{text}\n", bytes(record), do)
+
+
+def wired(board, record):
+    """A board, by its bytes."""
+    return Command(wire(board.text(), board).text, record, wire("", board).do)
+
+
+# Boards: nothing; the port characters of a ROM stand for lines 3, 2, 1, 0; each part; as much of each part as there can be.
+BOARDS = [
+    wired(Board(), b"\1" + NO_ROMS + bytes(11)),
+    wired(TWO_KEYS, b"\1" + b"0000" + b"1i0i" + NO_ROMS[:56]
+          + bytes.fromhex("0000000000000000 01 00000000 00000100 01 01000001 02 00010000 00010200 00")),
+    wired(EACH_PART, b"\1" + b"1i0i" + NO_ROMS[:60]
+          + bytes.fromhex("0002000000000000 01 00000100 00000300 03 01000502 01 00000200 01 01010003")),
+    wired(LARGEST, b"\1" + b"1i0i" * 16 + bytes.fromhex("0404040404040404 04") + bytes.fromhex("00000100 00000300 08") * 4
+          + bytes.fromhex("0103460a 08") + bytes.fromhex("000f0000") * 8 + bytes.fromhex("40") + bytes.fromhex("02034f00") * 64),
+]
+LONGEST_BOARD = 404
+# Commands on the largest board. The first one is a program: bytes at 000, 00A and FFF.
+COMMANDS = [
+    Command("asm\n DB 0xD1\n ORG 0x00A\n DB 0xD5\n ORG 0xFFF\n DB 0xF2\n.\n", bytes([2, 1, 4, *bytes(509), 0x80, 0xD1, 0xD5, 0xF2]),
+            load("", {0: 0xD1, 0x00A: 0xD5, 0xFFF: 0xF2}).do),
+    written("press 0 0", [3, 0, 0], put_at("keys", 0, 1)),
+    written("press 9 7", [3, 9, 7], put_at("keys", 79, 1)),
+    written("release 0 0", [4, 0, 0], put_at("keys", 0, 0)),
+    written("poke r3 7", [7, 3, 3, 7], put_at("registers", 3, 7)),
+    written("reset", [9], State.reset),
+    Command("run 100000\n", bytes([5, 0, 1, 0x86, 0xA0]), lambda state: state.run(100_000), 100_000),
+    Command("step\n", bytes([6]), State.step, 2),
+    written("test 0", [8, 0], put("test", 0)),
+    written("break 0x100", [10, 1, 0], put("breakpoints", [0x100])),
+    written("break 0xFFF", [10, 0x0F, 0xFF], put("breakpoints", [0x100, 0xFFF])),
+    written("unbreak 0xFFF", [11, 0x0F, 0xFF], put("breakpoints", [0x100])),
+    written("watch 5 0x3F", [12, 5, 0x3F], put("watches", [(5, 0x3F)])),
+    written("watch 7 0xFF", [12, 7, 0xFF], put("watches", [(5, 0x3F), (7, 0xFF)])),
+    written("unwatch 7 0xFF", [13, 7, 0xFF], put("watches", [(5, 0x3F)])),
+    written("poke acc 15", [7, 0, 15], put("accumulator", 15)),
+    written("poke cy 1", [7, 1, 1], put("carry", 1)),
+    written("poke pc 0xFFE", [7, 2, 0x0F, 0xFE], put("counter", 0xFFE)),
+    written("poke r5 9", [7, 3, 5, 9], put_at("registers", 5, 9)),
+    written("poke dcl 7", [7, 4, 7], put("bank", 7)),
+    written("poke rom.0x123 0xD3", [7, 5, 1, 0x23, 0xD3], put_at("rom", 0x123, 0xD3)),
+    written("poke ram.1.0xFF 3", [7, 6, 1, 0xFF, 3], put_at("ram", 256 + 0xFF, 3)),
+    written("poke st.7.15.3 8", [7, 7, 7, 15, 3, 8], put_at("status", 511, 8)),
+]
+# What spells no command. On the largest board a reader that takes such bytes for a command would find one that is accepted.
+NEW_BOARD = b"\1" + Board().bytes()
+LOAD = bytes([2, 3, *bytes(513)])
+WRONG_RECORDS = [
+    *(bytes(record) for record in (
+        [0], [14], [3, 0], [3, 0, 0, 0], [5, 0, 0, 0], [6, 0], [7], [7, 8, 0], [7, 0, 16], [7, 1, 2], [7, 2, 0x10, 0], [7, 3, 16, 0],
+        [7, 3, 0, 16], [7, 4, 8], [7, 6, 8, 0, 0], [7, 7, 0, 0, 4, 0], [8, 2], [10, 0x10, 0], [11, 0], [12], [12, 8, 0], [12, 0],
+        [13, 0, 0, 0], [13, 8, 0])),
+    # a port of one character, a bank of five chips, a byte less
+    NEW_BOARD[:1] + b"i" + NEW_BOARD[2:], NEW_BOARD[:65] + b"\5" + NEW_BOARD[66:], NEW_BOARD[:75],
+    # two marks and one byte, one mark and two bytes
+    LOAD[:-1], bytes([2, 1]) + LOAD[2:],
+]
+RIGHT_RECORDS = [bytes([3, 0, 0]), bytes([5, 0, 0, 0, 1]), bytes([7, 0, 15]), NEW_BOARD, LOAD]
+# Commands that version 1 has, and such as it has not; all are of version 2.
+FIRST_COMMANDS = [wire(EACH_PART.text(), EACH_PART), wire(chained(2, 4).board.text(), chained(2, 4).board), step(),
+                  written("poke pc 1", [7, 2, 0, 1], put("counter", 1)), run(1)]
+LATER_COMMANDS = [wire(chained(3, 1).board.text(), chained(3, 1).board), wire(chained(1, 5).board.text(), chained(1, 5).board),
+                  written("watch 0 0", [12, 0, 0], put("watches", [(0, 0)])), written("unwatch 0 0", [13, 0, 0], put("watches", []))]

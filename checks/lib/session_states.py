@@ -1,0 +1,150 @@
+"""States that a session file may hold, and such as it may not, put down by hand from docs/FORMAT.md ("Bytes of a state")."""
+
+from session_file import Board, State, break_at, chain_line, press, ram_line, rom_line, watch, wire
+
+# The board of the manual's first hour, and as much of each part as a board can have.
+WORKED = Board({0: "0000", 1: "iiii", 2: "iiii"}, {0: 1, 1: 1}, [(rom_line(0, 0), rom_line(0, 1), 1)],
+               (0, 0, 10, [rom_line(chip, line) for chip in (1, 2) for line in range(4)]),
+               [chain_line(0, 0), chain_line(0, 1), ram_line(0, 0, 3)])
+LARGEST = Board(dict.fromkeys(range(16), "1i0i"), dict.fromkeys(range(8), 4), [(rom_line(0, 1), rom_line(0, 3), 8)] * 4,
+                (3, 70, 10, [rom_line(15, 0)] * 8), [chain_line(3, 79)] * 64)
+# The first and the last place of what version 2 keeps of chips, by the part of a state.
+ENDS = {"rom": (0, 4_095), "ram": (0, 2_047), "status": (0, 511), "ram_ports": (0, 31), "rom_ports": (0, 15), "bank_sources": (0, 7)}
+
+
+def zeros_but(size, values):
+    """So many bytes, which are 0 but at these places."""
+    found = bytearray(size)
+    for place, value in values.items():
+        found[place] = value
+    return found
+
+
+def registers(values):
+    return zeros_but(16, values)
+
+
+def chained(count, chips):
+    """A state on a board with ROM 0 and so many chains of so many chips, alone."""
+    return State(board=Board({0: "0000"}, {}, [(rom_line(0, 1), rom_line(0, 3), chips)] * count), chains=[bytearray(10 * chips)] * count)
+
+
+def on_worked_board(**parts):
+    """A state on the worked board, with a 1 in the last bit of its chain and its last key down."""
+    return State(board=WORKED, chains=[zeros_but(10, {9: 1})], keys=zeros_but(80, {79: 1}), **parts)
+
+
+def in_rom_0(port):
+    """A state on a board with ROM 0 alone, which has this port."""
+    return State(board=Board({0: port}))
+
+
+# What is said of a state, and what is asked of its session and answered, which changes nothing. These are states of both versions.
+STATES = [
+    ("a new one", State(), "", ""),
+    ("a count of commands of four bytes", State(seq=0xFF00_0000), "seq\n", "seq 4278190080\n"),
+    ("the last count of commands", State(seq=0xFFFF_FFFF), "reset\nrun 0\nseq\n", "no 46\nno 46\nseq 4294967295\n"),
+    ("an accumulator of 15, and a carry", State(accumulator=15, carry=1), "", ""),
+    ("registers of 15", State(registers=registers({7: 15, 15: 15})), "", ""),
+    ("the last counter", State(counter=0xFFF), "", ""),
+    ("a counter on the last page", State(counter=0xF00), "", ""),
+    ("return addresses", State(returns=[0xFFF, 0x123, 0xFFE]), "", ""),
+    ("bank 7", State(bank=7), "", ""),
+    ("an SRC byte of the ROMs", State(rom_source=0xFF), "ports\n", "ports\nsrc FF\n"),
+    ("a cycle that is owed", State(owed=1), "", ""),
+    ("a cycle that a jump owes", State(seq=4, board=Board({0: "0000"}), rom=zeros_but(4_096, {0: 0x41, 1: 0x23}), counter=0x123, owed=1),
+     "list 0 1\n", "000 41 23 JUN 0x123\n"),
+    ("TEST at 0", State(test=0), "", ""),
+    ("two breakpoints", State(breakpoints=[9, 300]), "breaks\n", "breaks 009 12C\n"),
+    ("two other breakpoints", State(breakpoints=[3, 0x123]), "breaks\n", "breaks 003 123\n"),
+    *((f"a ROM of {port}", in_rom_0(port), "board\n", f'board\n[[rom]]\nchip = 0\nport = "{port}"\n') for port in ("iiii", "0000", "1111")),
+    ("the worked board", on_worked_board(rom_ports=zeros_but(16, {0: 8})), "", ""),
+    ("all of the worked board",
+     on_worked_board(rom_ports=zeros_but(16, {0: 8}), ram=zeros_but(2_048, {256 + 63: 15}), status=zeros_but(512, {64 + 15: 14}), bank=7,
+                     test=0, returns=[0, 0x123, 0]), "state\nram 1\n",
+     "state seq 0 acc 0 cy 0 pc 000 owed 0 dcl 7 test 0 r 0000000000000000 ret 000,123,000 src 00 banks 0.00,1.00 roms 0.8.0,1.0.0,2.0.8 "
+     "rams 0.0.0,1.0.0 chains 0000000001 keys 9.7 lamps ... breaks - watches -\n"
+     "ram 1 chips 1\n1.0.0 0000000000000000 0000\n1.0.1 0000000000000000 0000\n1.0.2 0000000000000000 0000\n"
+     "1.0.3 000000000000000F 000E\n1.0 out 0\n"),
+    ("two chains of four chips", chained(2, 4), "", ""),
+]
+# States that version 2 alone has.
+LATER_STATES = [
+    ("two watches", State(watches=[(0, 1), (5, 0x3F)]), "watches\n", "watches 0.01 5.3F\n"),
+    ("three watches", State(watches=[(0, 1), (5, 0x3F), (7, 0xFF)]), "watches\n", "watches 0.01 5.3F 7.FF\n"),
+    ("a watch of bank 7", State(watches=[(7, 0)]), "watches\n", "watches 7.00\n"),
+    ("eight watches", State(watches=[(0, source) for source in range(8)]), "watches\n",
+     "watches 0.00 0.01 0.02 0.03 0.04 0.05 0.06 0.07\n"),
+    ("three chains", chained(3, 1), "", ""),
+    ("a chain of five chips", chained(1, 5), "", ""),
+    ("four chains of eight chips", chained(4, 8), "", ""),
+    ("the largest board", State(board=LARGEST, chains=[zeros_but(80, {79: 1})] * 4, keys=zeros_but(80, {79: 1})), "lamps\n",
+     f"lamps {64 * '*'}\n"),
+]
+
+# What is said of a state that spells nothing, in either version.
+WRONG_STATES = [
+    ("R0 at 16", State(registers=registers({0: 16}))),
+    ("R7 at 16", State(registers=registers({7: 16}))),
+    ("an accumulator of 16", State(accumulator=16)),
+    ("a carry of 2", State(carry=2)),
+    ("a counter of 4,096", State(counter=0x1000)),
+    ("the newest return address at 4,096", State(returns=[0x1000, 0, 0])),
+    ("the oldest return address at 4,096", State(returns=[0, 0, 0x1000])),
+    ("bank 8", State(bank=8)),
+    ("two cycles owed", State(owed=2)),
+    ("TEST at 2", State(test=2)),
+    ("a ROM byte without a ROM", State(rom=zeros_but(4_096, {5: 1}))),
+    ("an SRC byte of a bank without chips", State(bank_sources=zeros_but(8, {3: 1}))),
+    *((f"place {place} of {part} without its chip", State(**{part: zeros_but(last + 1, {place: 1})}))
+      for part, (first, last) in ENDS.items() for place in (first, last)),
+    ("an input line that keeps a bit", on_worked_board(rom_ports=zeros_but(16, {1: 8}))),
+    ("a breakpoint twice", State(breakpoints=[9, 300, 300])),
+    ("a breakpoint of one byte twice", State(breakpoints=[3, 3])),
+    ("breakpoints that fall", State(breakpoints=[3, 2])),
+    ("33 breakpoints", State(breakpoints=list(range(33)))),
+    ("a bank of five chips", State(board=Board(banks={0: 5}))),
+    ("65 lamps", State(board=Board({0: "0000"}, lamps=[rom_line(0, 0)] * 65))),
+    ("five chains", chained(5, 1)),
+    ("a chain of nine chips", chained(1, 9)),
+    ("a bit of a chain at 2", State(board=WORKED, chains=[zeros_but(10, {9: 2})], keys=bytearray(80))),
+    ("a key at 2", State(board=WORKED, chains=[bytearray(10)], keys=zeros_but(80, {79: 2}))),
+]
+# The same of watches, which version 2 alone has.
+WRONG_WATCHES = [
+    ("a watch twice", [(0, 1), (5, 0x3F), (5, 0x3F)]),
+    ("two watches that are one", [(5, 0x3F), (5, 0x3F)]),
+    ("watches that fall", [(5, 0x40), (5, 0x3F)]),
+    ("banks of watches that fall", [(8, 0), (5, 0x3F)]),
+    ("a watch of bank 8", [(8, 0)]),
+    ("a watch of bank 8 after others", [(0, 1), (5, 0x3F), (8, 0)]),
+    ("nine watches", [(0, source) for source in range(9)]),
+]
+
+
+def with_byte(snapshot, place, byte):
+    return snapshot[:place] + bytes([byte]) + snapshot[place + 1:]
+
+
+NEW, NEW_OF_VERSION_1 = State().bytes(), State().bytes(1)
+# Snapshots that no state has, whatever version they are of.
+WRONG_SNAPSHOTS = [
+    ("no bytes", b""),
+    ("four bytes of 2", bytes([2] * 4)),
+    ("one byte less", NEW[:-1]),
+    ("one byte more", NEW + bytes(1)),
+    ("version 2 without the count of its watches", NEW[:-1]),
+    ("one byte less of version 1", NEW_OF_VERSION_1[:-1]),
+    ("version 1 with a count of watches", NEW_OF_VERSION_1 + bytes(1)),
+    *((f"version {byte:02X}", with_byte(NEW, 4, byte)) for byte in (0, 1, 3, ord("-"), ord("i"))),
+    *((f"version 01 and a ROM of {port}", with_byte(in_rom_0(port).bytes(), 4, 1)) for port in ("iiii", "0000", "1111")),
+    ("a port of one character", with_byte(NEW, 5, ord("i"))),
+    *((f"{what} without its bytes", with_byte(NEW, place, byte)) for what, place, byte in (
+        ("a chain", 77, 1), ("five chains", 77, 5), ("keys", 78, 1), ("keys twice", 78, 2), ("65 lamps", 79, 65),
+        ("a breakpoint", 6_822, 1), ("33 breakpoints", 6_822, 33), ("a watch", 6_823, 1), ("nine watches", 6_823, 9))),
+]
+
+
+# The longest state: as many breakpoints and watches as there can be, and a key of the largest board; the breakpoints stop runs at once.
+LONGEST = 7_632
+LONGEST_COMMANDS = [wire(LARGEST.text(), LARGEST), *map(break_at, range(32)), *(watch(7, source) for source in range(8)), press(9, 7)]
