@@ -10,4 +10,6 @@ mod files;
 #[cfg(test)]
 mod first_version;
 #[cfg(test)]
+mod lists;
+#[cfg(test)]
 mod tests;

@@ -1,0 +1,25 @@
+//! A state as plain numbers, with lists that are not as long as its board has them: no file spells one.
+use mcs_bench::Flat;
+use mcs_fixtures::boards::worked;
+use std::alloc::Global;
+use std::process::Abort;
+
+fn new_state(alloc: Global, rt: &impl Abort) -> Flat {
+    Flat::new(alloc).expect(rt, "memory")
+}
+
+fn is_valid(flat: &Flat) -> bool {
+    flat.check()
+}
+
+/// A key of a board without keys, and no chains and keys of one that has some.
+#[test]
+fn lists_are_as_long_as_the_board_has_them(rt: HostRuntime) {
+    let mut flat = new_state(rt.alloc(), &rt);
+    assert!(rt; is_valid(&flat));
+    assert!(rt; flat.keys.try_push(0).is_ok());
+    assert!(rt; !is_valid(&flat));
+    let mut flat = new_state(rt.alloc(), &rt);
+    flat.board = worked().expect(&rt, "a board");
+    assert!(rt; !is_valid(&flat));
+}
