@@ -1,4 +1,4 @@
-//! Rigs of other counts: one place of each kind, as many as a board can have, and no chain.
+//! Rigs of other counts: one place of each kind, and no chain.
 use crate::boards::{largest, one_long_chain, one_mixed_rom};
 use crate::checks::equal;
 use mcs_board::Rig;
@@ -67,24 +67,6 @@ fn one_place_of_each_kind(rt: HostRuntime) {
     assert!(rt; !Rig::<1, 1, 1, 80>::fits(&larger));
     let longer = one_long_chain().expect(&rt, "a board");
     assert!(rt; !Rig::<1, 1, 1, 79>::fits(&longer));
-}
-
-/// LDM 7, DCL, FIM P0 FF, SRC P0, LDM 9, WRM, WMP, FIM P0 30, SRC P0, LDM 3, WRR: the last character and the last port of
-/// bank 7, and a shift of chain 3.
-#[test]
-fn as_many_places_as_a_board_can_have(rt: HostRuntime) {
-    let program = [
-        0xD7, 0xFD, 0x20, 0xFF, 0x21, 0xD9, 0xE0, 0xE1, 0x20, 0x30, 0x21, 0xD3, 0xE2,
-    ];
-    let (mut rig, cpu) = ran::<16, 8, 4, 80>(rt.alloc(), &rt, largest(), &program, 13);
-    equal(&rt, cpu.regs().pc.get(), 13);
-    equal(&rt, rig.ram(7, 0xFF), nibble(9));
-    equal(&rt, rig.ram_latch(7, 3), nibble(9));
-    equal(&rt, rig.chain_bit(3, 0), Bit::ONE);
-    equal(&rt, rig.chain_bit(0, 0), Bit::ZERO);
-    comes_to_the_end(&rt, &mut rig);
-    rig.set_rom_byte(Addr::ZERO.plus(0xFFF), 0xA5);
-    equal(&rt, rig.fetch(Addr::ZERO.plus(0xFFF)), 0xA5);
 }
 
 /// LDM 15, WRR, RDR, at a port `1i0i`: the latch takes lines 1 and 3, and the port reads its constants.

@@ -1,5 +1,4 @@
-//! Runs the processor and the commands of a board over rigs (worked boards, with a key matrix, a lamp row and several
-//! banks of RAM), and the chips alone.
+//! Runs rigs of other counts than the bench's, and the chips alone.
 #![tactic(auto)]
 
 #[cfg(test)]
