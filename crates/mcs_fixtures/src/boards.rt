@@ -111,26 +111,3 @@ pub fn two_keys() -> Result<Board, BoardFault> {
         lamps: ArrayVec::new(),
     })
 }
-
-/// Whether two boards are equal, part by part.
-pub fn is_same(one: &Board, other: &Board) -> bool {
-    let (a, b) = (one.parts(), other.parts());
-    a.roms == b.roms
-        && a.banks == b.banks
-        && a.chains.as_slice() == b.chains.as_slice()
-        && is_same_matrix(&a.keys, &b.keys)
-        && a.lamps.as_slice() == b.lamps.as_slice()
-}
-
-fn is_same_matrix(one: &Option<KeyMatrix>, other: &Option<KeyMatrix>) -> bool {
-    match (one, other) {
-        (None, None) => true,
-        (Some(a), Some(b)) => {
-            a.chain == b.chain
-                && a.first == b.first
-                && a.rows == b.rows
-                && a.columns.as_slice() == b.columns.as_slice()
-        }
-        _ => false,
-    }
-}

@@ -4,9 +4,8 @@ use mcs_bench::Bench;
 use mcs_disk::{Disk, FuseDisk, MemDisk};
 use mcs_journal::{CreateFault, FILE_SIZE, OpenFault};
 use mcs_model::command::{Command, Place, Reply};
-use mcs_model::image::Image;
 use mcs_model::stop::Stop;
-use mcs_nibble::{Addr, Nibble, RegNo};
+use mcs_nibble::{Nibble, RegNo};
 use mcs_session::fault::SessionFault;
 use mcs_session::session::Session;
 use std::alloc::Global;
@@ -18,23 +17,6 @@ pub(crate) fn poke(rt: &impl Abort, register: u8, value: u8) -> Command {
         (Some(register), Some(value)) => Command::Poke(Place::Register(register, value)),
         _ => panic!(rt; "no such register or value"),
     }
-}
-
-/// Adds a byte at an address above all others.
-fn push(rt: &impl Abort, image: &mut Image, at: Addr, byte: u8) {
-    assert!(rt; image.pairs().iter().all(|pair| pair.0 < at));
-    image.push(at, byte).expect(rt, "memory");
-}
-
-/// Puts these bytes into ROM, from address 0 on.
-pub(crate) fn load(alloc: Global, rt: &impl Abort, bytes: &[u8]) -> Command {
-    let mut image = Image::new(alloc).expect(rt, "memory");
-    let mut at = Addr::ZERO;
-    for byte in bytes {
-        push(rt, &mut image, at, *byte);
-        at = at.plus(1);
-    }
-    Command::Load(image)
 }
 
 pub(crate) fn blank(alloc: Global, rt: &impl Abort) -> MemDisk {
@@ -55,10 +37,6 @@ pub(crate) fn made<D: Disk + Drop>(alloc: Global, rt: &impl Abort, disk: D) -> S
         Ok(session) => session,
         Err(_) => panic!(rt; "create was refused"),
     }
-}
-
-pub(crate) fn new_session(alloc: Global, rt: &impl Abort) -> Session<MemDisk> {
-    made(alloc, rt, blank(alloc, rt))
 }
 
 /// What the opening of this disk answers.
@@ -84,22 +62,9 @@ pub(crate) fn left<D: Disk + Drop>(session: Session<D>) -> D {
     session.into_disk()
 }
 
-/// A disk with a new session, whose bytes at a place were changed into these.
-pub(crate) fn changed(alloc: Global, rt: &impl Abort, at: usize, bytes: &[u8]) -> MemDisk {
-    let mut disk = left(new_session(alloc, rt));
-    leave(rt, &mut disk, at, bytes);
-    disk
-}
-
 /// The disk holds a session that has accepted that many commands.
 pub(crate) fn expect_seq<D: Disk + Drop>(alloc: Global, rt: &impl Abort, disk: D, seq: u32) {
     equal(rt, bench_of(&opened(alloc, rt, disk)).seq(), seq);
-}
-
-/// The bench has accepted that many commands, and its program counter stands there.
-pub(crate) fn expect_counter(rt: &impl Abort, bench: &Bench, seq: u32, counter: u16) {
-    equal(rt, bench.seq(), seq);
-    equal(rt, bench.regs().pc.get(), counter);
 }
 
 /// The disk holds a session that has accepted that many commands, with this value in this register.
@@ -115,19 +80,6 @@ pub(crate) fn expect_register<D: Disk + Drop>(
     equal(rt, bench.seq(), seq);
     assert!(rt; register < 16);
     equal(rt, bench.regs().r[register].get(), value);
-}
-
-/// The session on this disk is refused.
-pub(crate) fn expect_refusal<D: Disk + Drop>(
-    alloc: Global,
-    rt: &impl Abort,
-    disk: D,
-    want: OpenFault,
-) {
-    match open(alloc, disk) {
-        Ok(_) => panic!(rt; "the disk was taken"),
-        Err((fault, _)) => equal(rt, fault, want),
-    }
 }
 
 /// What the session answers to the command.
@@ -185,13 +137,6 @@ pub(crate) fn expect_bytes<D: Disk>(rt: &impl Abort, disk: &mut D, at: usize, wa
     let found = &mut got[..want.len()];
     read(rt, disk, at, found);
     assert_eq!(rt; &*found, want, "at {at}");
-}
-
-/// The disk holds these bytes at these places.
-pub(crate) fn expect_places<D: Disk>(rt: &impl Abort, disk: &mut D, places: &[(usize, &[u8])]) {
-    for (at, want) in places {
-        expect_bytes(rt, disk, *at, want);
-    }
 }
 
 /// Writes these bytes there, as a stop may have left them.

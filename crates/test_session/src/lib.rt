@@ -1,12 +1,10 @@
-//! Runs sessions over disks in memory: the bytes that they write, where they make a snapshot, and what is found after a stop.
+//! Runs sessions over disks in memory: what is found after a stop at each device call; and lists of a state that no file spells.
 #![tactic(auto)]
 
 #[cfg(test)]
 mod checks;
 #[cfg(test)]
 mod desk;
-#[cfg(test)]
-mod files;
 #[cfg(test)]
 mod first_version;
 #[cfg(test)]
