@@ -92,22 +92,3 @@ pub fn worked() -> Result<Board, BoardFault> {
         lamps: lines(&[Line::Chain(0, 0), Line::Chain(0, 1), Line::Ram(0, 0, 3)]),
     })
 }
-
-/// Two ROMs, the second with a port of both directions, a chain of ten bits, and one row of two keys.
-pub fn two_keys() -> Result<Board, BoardFault> {
-    let mut roms = [None; ROMS];
-    roms[0] = Some(OUTPUTS);
-    roms[1] = Some(MIXED);
-    Board::of(BoardParts {
-        roms,
-        banks: [0; BANKS],
-        chains: chains(1, 1, CLOCK_AND_DATA),
-        keys: Some(KeyMatrix {
-            chain: 0,
-            first: 0,
-            rows: 1,
-            columns: lines(&[Line::Rom(1, 0), Line::Rom(1, 2)]),
-        }),
-        lamps: ArrayVec::new(),
-    })
-}

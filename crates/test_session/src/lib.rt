@@ -1,8 +1,11 @@
-//! Runs sessions over disks in memory: what is found after a stop at each device call; and lists of a state that no file spells.
+//! Runs sessions over disks in memory: what is found after a stop at each device call; and what no session has: commands, and lists of a
+//! state.
 #![tactic(auto)]
 
 #[cfg(test)]
 mod checks;
+#[cfg(test)]
+mod commands;
 #[cfg(test)]
 mod desk;
 #[cfg(test)]
