@@ -1,5 +1,5 @@
-//! Runs sessions over disks in memory: what is found after a stop at each device call; and what no session has: commands, and lists of a
-//! state.
+//! Runs sessions and journals over disks in memory: the bytes that a journal writes, and what is found after a stop at each device call;
+//! and what no session has: commands, and lists of a state.
 #![tactic(auto)]
 
 #[cfg(test)]
@@ -10,6 +10,8 @@ mod commands;
 mod desk;
 #[cfg(test)]
 mod first_version;
+#[cfg(test)]
+mod journal;
 #[cfg(test)]
 mod lists;
 #[cfg(test)]
