@@ -1,10 +1,8 @@
-//! Hostile use: disks that stop and tear, readers and writers that fail, files that others wrote, texts of broken pieces.
+//! Hostile use: disks that stop and tear, readers and writers that fail, memory that is refused.
 #![tactic(auto)]
 
 #[cfg(test)]
 mod disks;
-#[cfg(test)]
-mod files;
 #[cfg(test)]
 mod first_version;
 #[cfg(test)]
@@ -17,7 +15,5 @@ mod scripts;
 mod sessions;
 #[cfg(test)]
 mod stops;
-#[cfg(test)]
-mod texts;
 #[cfg(test)]
 mod torn;

@@ -1,6 +1,5 @@
 //! Writes that a power cut tore: whatever it left opens to a state that the acknowledged commands allow.
 use crate::disks::{Note, NotingDisk};
-use crate::files::changed;
 use crate::scripts::{INPUTS, LAST, POKE, POKES};
 use crate::sessions::{
     blank, disk_behind, disk_of, file_of, found, new_session, opened, put, states_behind,
@@ -29,6 +28,13 @@ const CUTS: [(Left, Left); 5] = [
 
 /// Writes of up to that many bytes are cut at each byte.
 const SMALL: usize = 1_024;
+
+/// A file with other bytes from a place on.
+fn changed(alloc: Global, rt: &impl Abort, file: &[u8], at: usize, bytes: &[u8]) -> Vec<u8> {
+    let mut other = file.to_vec(alloc).expect(rt, "memory");
+    put(rt, other.as_mut_slice(), at, bytes);
+    other
+}
 
 /// The file that is found after a write of these bytes from `at` on was cut.
 fn torn(
