@@ -7,6 +7,8 @@
      noise K     a write puts other bytes in the place of its own, but for the first K, and the program is killed
      rename F    before a lock, the name of its file is given to the file F
      remove      before a lock, the name of its file is taken away
+     cut K       before a read, its file is cut to its first K bytes
+     other K     before a read, its file gets another byte at K
    CALL_MOST=M: no read or write of a file moves more than M bytes at once. CALL_AGAIN=1: each call on a file answers EINTR once before
    it is done; these answers have no line. */
 #define _GNU_SOURCE
@@ -146,11 +148,26 @@ int fdatasync(int fd) {
     return fails(does("sync data %s", name_of(fd))) ? -1 : real(fd);
 }
 
+/* The bytes of a descriptor's file are to be others. */
+static void spoils(int fd, const char *what) {
+    int (*real_ftruncate)(int, off_t) = dlsym(RTLD_NEXT, "ftruncate");
+    ssize_t (*real_pread)(int, void *, size_t, off_t) = dlsym(RTLD_NEXT, "pread");
+    ssize_t (*real_pwrite)(int, const void *, size_t, off_t) = dlsym(RTLD_NEXT, "pwrite");
+    unsigned char byte;
+    if (what && strncmp(what, "cut ", 4) == 0 && real_ftruncate(fd, atol(what + 4)) < 0) _exit(99);
+    if (!what || strncmp(what, "other ", 6) != 0) return;
+    if (real_pread(fd, &byte, 1, atol(what + 6)) != 1) _exit(99);
+    byte ^= 1;
+    if (real_pwrite(fd, &byte, 1, atol(what + 6)) != 1) _exit(99);
+}
+
 ssize_t pread(int fd, void *bytes, size_t length, off_t at) {
     static ssize_t (*real)(int, void *, size_t, off_t);
     if (!real) real = dlsym(RTLD_NEXT, "pread");
     if (interrupts(fd)) return -1;
-    return fails(does("read %s %lld %zu", name_of(fd), (long long)at, length)) ? -1 : real(fd, bytes, most(length), at);
+    const char *what = does("read %s %lld %zu", name_of(fd), (long long)at, length);
+    spoils(fd, what);
+    return fails(what) ? -1 : real(fd, bytes, most(length), at);
 }
 
 ssize_t pwrite(int fd, const void *bytes, size_t length, off_t at) {

@@ -36,26 +36,6 @@ line = \"ram0.0.3\"
 .
 ";
 
-/// The command that puts in two ROMs, the second with a port of both directions, a chain of ten bits, and one row of two keys.
-pub const WIRE_TWO_KEYS: &[u8] = b"wire
-[[rom]]
-chip = 0
-port = \"0000\"
-[[rom]]
-chip = 1
-port = \"1i0i\"
-[[chain]]
-clock = \"rom0.0\"
-data = \"rom0.1\"
-chips = 1
-[keys]
-chain = 0
-first = 0
-rows = 1
-columns = [\"rom1.0\", \"rom1.2\"]
-.
-";
-
 /// The text of the board in such a command: what stands between `wire` and the dot.
 pub fn board_in(command: &[u8]) -> &[u8] {
     let text = command

@@ -1,5 +1,4 @@
-//! Tests of whole sessions: over disks in memory, whose readers, writers and disks fail, and over files of the host, by the arguments of
-//! the command line.
+//! Tests of whole sessions over disks in memory, whose readers, writers and disks fail.
 #![tactic(auto)]
 
 #[cfg(test)]
@@ -11,18 +10,6 @@ mod counted;
 #[cfg(test)]
 mod faults;
 #[cfg(test)]
-mod files;
-#[cfg(test)]
-mod host_disks;
-#[cfg(test)]
-mod host_files;
-#[cfg(test)]
-mod host_sessions;
-#[cfg(test)]
 mod maps;
 #[cfg(test)]
 mod sessions;
-#[cfg(test)]
-mod slots;
-#[cfg(test)]
-mod texts;
