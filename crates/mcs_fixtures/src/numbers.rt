@@ -28,21 +28,4 @@ impl Numbers {
     {
         (self.next() % u64::from(n)) as u8
     }
-
-    /// One of that many places, the first of which is 0; 0 where there is none.
-    pub fn place(&mut self, count: usize) -> usize {
-        (self.next() % (count.max(1) as u64)) as usize
-    }
-
-    /// Any byte.
-    pub fn byte(&mut self) -> u8 {
-        (self.next() % 256) as u8
-    }
-
-    /// Puts any bytes over `count` bytes from `at` on, as far as there are any.
-    pub fn fill(&mut self, bytes: &mut [u8], at: usize, count: usize) {
-        for byte in bytes.iter_mut().skip(at).take(count) {
-            *byte = self.byte();
-        }
-    }
 }

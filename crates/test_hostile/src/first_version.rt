@@ -1,11 +1,6 @@
-//! Files of version 1: a stop and a torn write while opening carries them over.
-use crate::disks::NotingDisk;
+//! Files of version 1: a stop while opening carries them over.
 use crate::scripts::INPUTS;
-use crate::sessions::{
-    disk_behind, disk_of, expect, expect_state, failing_disk_of, file_of, found, left_on, open,
-    opened, opened_in_memory, put, states_behind,
-};
-use crate::torn::{Pace, tear_all};
+use crate::sessions::{expect, expect_state, failing_disk_of, file_of, found, left_on, open, put};
 use mcs_fixtures::files::NEW_BENCH;
 use mcs_journal::{FILE_SIZE, OpenFault};
 use std::alloc::Global;
@@ -60,29 +55,4 @@ fn stopped_at_each_call_of_opening(rt: HostRuntime) {
         }
     }
     assert!(rt; 4 < stops && stops < 64, "{stops}");
-}
-
-#[test]
-fn torn_while_carried_over(rt: HostRuntime) {
-    let alloc = rt.alloc();
-    let mut file = file_of_inputs(alloc, &rt);
-    let mut session = opened_in_memory(alloc, &rt, file.as_slice());
-    // one state, before and after
-    let states = states_behind(alloc, &rt, &mut session, &[b""]);
-    let disk = NotingDisk::new(alloc, disk_of(alloc, &rt, file.as_slice()));
-    let notes = disk_behind(opened(alloc, &rt, disk)).into_notes();
-    let pace = Pace {
-        first: 0,
-        each: usize::MAX,
-    };
-    let images = tear_all(
-        alloc,
-        &rt,
-        file.as_mut_slice(),
-        notes.as_slice(),
-        states.as_slice(),
-        pace,
-    );
-    // 20 places of the snapshot, in 5 ways; the selector has 256 values
-    assert_eq!(rt; images, 5 * 20 + 256);
 }

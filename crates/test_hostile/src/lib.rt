@@ -1,8 +1,6 @@
-//! Hostile use: disks that stop and tear, readers and writers that fail, memory that is refused.
+//! Hostile use: disks that stop, readers and writers that fail, memory that is refused.
 #![tactic(auto)]
 
-#[cfg(test)]
-mod disks;
 #[cfg(test)]
 mod first_version;
 #[cfg(test)]
@@ -15,5 +13,3 @@ mod scripts;
 mod sessions;
 #[cfg(test)]
 mod stops;
-#[cfg(test)]
-mod torn;

@@ -44,12 +44,6 @@ lamps
 regs
 ";
 
-/// How the answers end after all commands: two lamps are lit, and line 1 of the second ROM's port was read as 1.
-pub(crate) const LAST: &[u8] = b"
-lamps **.
-acc 2 cy 0 pc 00A owed 0 dcl 0 test 1 r 1000090000000000 ret 000 000 000
-";
-
 /// A command whose record is seven bytes.
 pub(crate) const POKE: &[u8] = b"poke r0 1\n";
 
