@@ -1,12 +1,7 @@
-//! Readers, writers and disks that fail.
+//! Readers and writers that fail.
 use crate::checks::equal;
-use crate::sessions::{ANSWERS, SCRIPT, new_session, run, serve};
-use mcs_disk::{FuseDisk, MemDisk};
+use crate::sessions::{ANSWERS, SCRIPT, new_session, run};
 use mcs_fixtures::streams::{CutReader, CutWriter};
-use mcs_journal::{CreateFault, FILE_SIZE};
-use mcs_model::command::{Command, Place};
-use mcs_nibble::{Nibble, RegNo};
-use mcs_session::fault::SessionFault;
 use mcs_session::session::Session;
 use mcs_shell::ends::{ShellEnd, status};
 use mcs_shell::shell::run_shell;
@@ -77,44 +72,6 @@ fn the_writer_fails_after_each_count_of_bytes(rt: HostRuntime) -> Result<(), Fai
         for left in 0..ANSWERS.len() {
             expect_cut_writing(&rt, rt.alloc(), left, failures)?;
         }
-    }
-    Ok(())
-}
-
-#[test]
-fn a_stop_at_each_call_of_the_disk(rt: HostRuntime) -> Result<(), Fail> {
-    let alloc = rt.alloc();
-    for calls in 0..14usize {
-        let disk = FuseDisk::after(MemDisk::new(alloc, FILE_SIZE)?, calls);
-        let mut session = match Session::create(alloc, disk) {
-            Ok(session) => session,
-            Err((fault, _)) => {
-                equal(&rt, fault, CreateFault::Device);
-                equal(&rt, calls < 5, true);
-                continue;
-            }
-        };
-        let mut reader = b"poke r5 9\npoke r5 9\n".as_slice();
-        let (end, _) = serve(alloc, &mut reader, &mut session);
-        equal(&rt, end == ShellEnd::DeviceFault, calls < 13);
-        let poke = Command::Poke(Place::Register(RegNo::ZERO, Nibble::ONE));
-        equal(
-            &rt,
-            session.apply(&poke) == Err(SessionFault::Closed),
-            calls < 13,
-        );
-        let mut disk = session.into_disk();
-        disk.mend();
-        let Ok(again) = Session::open(alloc, disk) else {
-            return Err("not opened".into());
-        };
-        // five calls made the session, and each command takes four, of which the last acknowledges it
-        let kept = match calls {
-            0..8 => 0,
-            8..12 => 1,
-            _ => 2,
-        };
-        equal(&rt, again.bench().seq(), kept);
     }
     Ok(())
 }
