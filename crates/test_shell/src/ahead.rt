@@ -1,48 +1,39 @@
 //! What would happen, told by a closed session, and to a writer that fails.
 use crate::checks::equal;
-use crate::sessions::{new_session, serve};
-use mcs_disk::{FuseDisk, MemDisk};
+use crate::sessions::{answered, blank, new_in_memory, new_session, seq_of, serve};
+use mcs_disk::FuseDisk;
 use mcs_fixtures::streams::CutWriter;
-use mcs_journal::FILE_SIZE;
-use mcs_session::session::Session;
 use mcs_shell::ends::ShellEnd;
-use mcs_shell::shell::run_shell;
-use std::test::Fail;
 
 /// A session that a device fault has closed still tells what would happen.
 #[test]
-fn a_closed_session(rt: HostRuntime) -> Result<(), Fail> {
+fn a_closed_session(rt: HostRuntime) {
     let alloc = rt.alloc();
-    let disk = FuseDisk::after(MemDisk::new(alloc, FILE_SIZE)?, 5);
-    let Ok(mut session) = Session::create(alloc, disk) else {
-        return Err("not made".into());
-    };
+    let mut session = new_session(alloc, &rt, FuseDisk::after(blank(alloc, &rt), 5));
     let mut reader = b"poke r5 9\n".as_slice();
-    let (end, _) = serve(alloc, &mut reader, &mut session);
+    let (end, _) = answered(alloc, &mut reader, &mut session);
     equal(&rt, end, ShellEnd::DeviceFault);
     let mut reader = b"count 2\ntrace 2 pc\nrun 2\n".as_slice();
-    let (_, told) = serve(alloc, &mut reader, &mut session);
+    let (_, told) = answered(alloc, &mut reader, &mut session);
     equal(
         &rt,
         told.as_slice(),
         b"session 0\ncount ran 2 end lines 2\n000 1\n001 1\ntrace ran 2 end lines 2 000\n0 000 001\n1 001 002\nno 54\n",
     );
-    Ok(())
 }
 
 /// A writer that fails in an answer ends the shell, and what comes after it is not done.
 #[test]
-fn the_writer_fails_in_an_answer(rt: HostRuntime) -> Result<(), Fail> {
+fn the_writer_fails_in_an_answer(rt: HostRuntime) {
     let answers =
         b"session 0\ncount ran 2 end lines 2\n000 1\n001 1\ntrace ran 2 end lines 2\n0 000\n1 001\n".as_slice();
     for left in 0..answers.len() {
-        let mut session = new_session(rt.alloc())?;
+        let mut session = new_in_memory(rt.alloc(), &rt);
         let mut writer = CutWriter::new(rt.alloc(), left, 1);
         let mut reader = b"count 2\ntrace 2\npoke r5 9\n".as_slice();
-        let end = run_shell(rt.alloc(), &mut reader, &mut writer, &mut session);
+        let end = serve(rt.alloc(), &mut reader, &mut writer, &mut session);
         equal(&rt, end, ShellEnd::WriteFault);
         equal(&rt, Some(writer.held()), answers.get(..left));
-        equal(&rt, session.bench().seq(), 0);
+        equal(&rt, seq_of(&session), 0);
     }
-    Ok(())
 }

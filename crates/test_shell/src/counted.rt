@@ -2,7 +2,8 @@
 ghost use Rattle.std.specs.Prelude.{Some};
 
 use crate::checks::equal;
-use crate::sessions::{ANSWERS, SCRIPT, new_session};
+use crate::faults::{ANSWERS, SCRIPT};
+use crate::sessions::new_in_memory;
 use mcs_disk::Disk;
 use mcs_fixtures::streams::{CutReader, CutWriter};
 use mcs_session::session::Session;
@@ -11,7 +12,6 @@ use mcs_shell::sending::{WriteStopped, send_two};
 use mcs_shell::shell::run_shell;
 use mcs_shell::streams::{AnswerSink, InputSource, ReadFailed};
 use std::io::{Read, Write};
-use std::test::Fail;
 
 /// A reader, and how often it failed.
 #[derive(Drop)]
@@ -67,14 +67,14 @@ impl<W: Write + Drop> AnswerSink for CountedWriter<W> {
 /// A script is read whole, or fails once after so many bytes, and its answers go to a writer that takes all of them, or fails once after so
 /// many bytes: the shell ends by that, and it is counted where it failed.
 #[test]
-fn a_fault_is_counted_where_it_was(rt: HostRuntime) -> Result<(), Fail> {
+fn a_fault_is_counted_where_it_was(rt: HostRuntime) {
     let rows = [
         (0, 0, ShellEnd::End),
         (1, 0, ShellEnd::ReadFault),
         (0, 1, ShellEnd::WriteFault),
     ];
     for (reads, writes, wanted) in rows {
-        let mut session = new_session(rt.alloc())?;
+        let mut session = new_in_memory(rt.alloc(), &rt);
         let mut reader = CountedReader {
             reader: CutReader::new(SCRIPT, 12, reads),
             faults: 0,
@@ -88,5 +88,4 @@ fn a_fault_is_counted_where_it_was(rt: HostRuntime) -> Result<(), Fail> {
         equal(&rt, reader.faults, reads as u64);
         equal(&rt, writer.faults, writes as u64);
     }
-    Ok(())
 }

@@ -1,13 +1,15 @@
 //! Readers and writers that fail.
 use crate::checks::equal;
-use crate::sessions::{ANSWERS, SCRIPT, new_session, run};
+use crate::sessions::{answered, disk_behind, new_in_memory, opened, seq_of, serve};
 use mcs_fixtures::streams::{CutReader, CutWriter};
-use mcs_session::session::Session;
 use mcs_shell::ends::{ShellEnd, status};
-use mcs_shell::shell::run_shell;
 use std::alloc::Global;
 use std::process::Abort;
-use std::test::Fail;
+
+pub(crate) const SCRIPT: &[u8] = b"poke r5 9\nseq\nregs\n";
+
+pub(crate) const ANSWERS: &[u8] =
+    b"session 0\nok 1\nseq 1\nacc 0 cy 0 pc 000 owed 0 dcl 0 test 1 r 0000090000000000 ret 000 000 000\n";
 
 /// How often a reader or a writer fails: a second try would find the first one well again.
 const FAILURES: [usize; 2] = [1, usize::MAX];
@@ -19,16 +21,17 @@ fn expect_cut_reading(
     left: usize,
     failures: usize,
     told: usize,
-) -> Result<(), Fail> {
-    let (end, written) = run(alloc, CutReader::new(SCRIPT, left, failures))?;
+) {
+    let mut session = new_in_memory(alloc, rt);
+    let mut reader = CutReader::new(SCRIPT, left, failures);
+    let (end, written) = answered(alloc, &mut reader, &mut session);
     equal(rt, end, ShellEnd::ReadFault);
     equal(rt, status(end), 1);
     equal(rt, Some(written.as_slice()), ANSWERS.get(..told));
-    Ok(())
 }
 
 #[test]
-fn the_reader_fails_after_each_count_of_bytes(rt: HostRuntime) -> Result<(), Fail> {
+fn the_reader_fails_after_each_count_of_bytes(rt: HostRuntime) {
     for left in 0..SCRIPT.len() + 1 {
         // the lines end after 10, 14 and 19 bytes, and their answers after 15, 21 and all
         let told = match left {
@@ -38,10 +41,9 @@ fn the_reader_fails_after_each_count_of_bytes(rt: HostRuntime) -> Result<(), Fai
             _ => ANSWERS.len(),
         };
         for failures in FAILURES {
-            expect_cut_reading(&rt, rt.alloc(), left, failures, told)?;
+            expect_cut_reading(&rt, rt.alloc(), left, failures, told);
         }
     }
-    Ok(())
 }
 
 /// A writer that fails so often after that many bytes of the answers ends the shell. The command is recorded once the first answer is
@@ -51,27 +53,23 @@ fn expect_cut_writing(
     alloc: Global,
     left: usize,
     failures: usize,
-) -> Result<(), Fail> {
-    let mut session = new_session(alloc)?;
+) {
+    let mut session = new_in_memory(alloc, rt);
     let mut writer = CutWriter::new(alloc, left, failures);
     let mut reader = SCRIPT;
-    let end = run_shell(alloc, &mut reader, &mut writer, &mut session);
+    let end = serve(alloc, &mut reader, &mut writer, &mut session);
     equal(rt, end, ShellEnd::WriteFault);
     equal(rt, status(end), 1);
     equal(rt, Some(writer.held()), ANSWERS.get(..left));
-    let Ok(again) = Session::open(alloc, session.into_disk()) else {
-        return Err("not opened".into());
-    };
-    equal(rt, again.bench().seq() == 1, 10 <= left);
-    Ok(())
+    let again = opened(alloc, rt, disk_behind(session));
+    equal(rt, seq_of(&again) == 1, 10 <= left);
 }
 
 #[test]
-fn the_writer_fails_after_each_count_of_bytes(rt: HostRuntime) -> Result<(), Fail> {
+fn the_writer_fails_after_each_count_of_bytes(rt: HostRuntime) {
     for failures in FAILURES {
         for left in 0..ANSWERS.len() {
-            expect_cut_writing(&rt, rt.alloc(), left, failures)?;
+            expect_cut_writing(&rt, rt.alloc(), left, failures);
         }
     }
-    Ok(())
 }

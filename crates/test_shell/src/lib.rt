@@ -1,4 +1,4 @@
-//! Tests of whole sessions over disks in memory, whose readers, writers and disks fail.
+//! Tests of whole sessions over disks in memory: disks that stop, readers and writers that fail, memory that is refused.
 #![tactic(auto)]
 
 #[cfg(test)]
@@ -10,6 +10,16 @@ mod counted;
 #[cfg(test)]
 mod faults;
 #[cfg(test)]
+mod first_version;
+#[cfg(test)]
 mod maps;
 #[cfg(test)]
+mod questions;
+#[cfg(test)]
+mod refused;
+#[cfg(test)]
+mod scripts;
+#[cfg(test)]
 mod sessions;
+#[cfg(test)]
+mod stops;
