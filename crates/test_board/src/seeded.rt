@@ -203,12 +203,18 @@ fn run_bank<const CHIPS: usize>(rt: &impl Abort, bank: &mut Bank<CHIPS>, wired: 
 
 #[test]
 fn banks_under_seeded_calls(rt: HostRuntime) {
-    run_bank(&rt, &mut Bank::<1>::new(1), 1);
-    run_bank(&rt, &mut Bank::<2>::new(2), 2);
-    run_bank(&rt, &mut Bank::<3>::new(3), 3);
-    run_bank(&rt, &mut Bank::<4>::new(4), 4);
-    run_bank(&rt, &mut Bank::<4>::new(2), 2);
-    run_bank(&rt, &mut Bank::<4>::new(0), 0);
+    for wired in 0..=1 {
+        run_bank(&rt, &mut Bank::<1>::new(wired), wired);
+    }
+    for wired in 0..=2 {
+        run_bank(&rt, &mut Bank::<2>::new(wired), wired);
+    }
+    for wired in 0..=3 {
+        run_bank(&rt, &mut Bank::<3>::new(wired), wired);
+    }
+    for wired in 0..=4 {
+        run_bank(&rt, &mut Bank::<4>::new(wired), wired);
+    }
 }
 
 /// A chain of at most 80 bits as a plain list, with room for what lies past its end, which is 0.
@@ -297,8 +303,11 @@ fn run_chain<const MAX: usize>(rt: &impl Abort, chain: &mut Chain<MAX>) {
 fn chains_under_seeded_calls(rt: HostRuntime) {
     run_chain(&rt, &mut Chain::<7>::new(7));
     run_chain(&rt, &mut Chain::<10>::new(10));
+    run_chain(&rt, &mut Chain::<10>::new(0));
     run_chain(&rt, &mut Chain::<13>::new(13));
+    run_chain(&rt, &mut Chain::<13>::new(1));
     run_chain(&rt, &mut Chain::<40>::new(40));
+    run_chain(&rt, &mut Chain::<40>::new(20));
     run_chain(&rt, &mut Chain::<80>::new(80));
     run_chain(&rt, &mut Chain::<80>::new(61));
     run_chain(&rt, &mut Chain::<13>::new(0));

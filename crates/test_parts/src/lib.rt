@@ -15,8 +15,6 @@ mod lines;
 #[cfg(test)]
 mod nibbles;
 #[cfg(test)]
-mod probes;
-#[cfg(test)]
 mod processor;
 #[cfg(test)]
 mod state_line;
