@@ -15,13 +15,7 @@ pub(crate) const ANSWERS: &[u8] =
 const FAILURES: [usize; 2] = [1, usize::MAX];
 
 /// A reader that fails so often after that many bytes of the script ends the shell; that many bytes of the answers are told then.
-fn expect_cut_reading(
-    rt: &impl Abort,
-    alloc: Global,
-    left: usize,
-    failures: usize,
-    told: usize,
-) {
+fn expect_cut_reading(rt: &impl Abort, alloc: Global, left: usize, failures: usize, told: usize) {
     let mut session = new_in_memory(alloc, rt);
     let mut reader = CutReader::new(SCRIPT, left, failures);
     let (end, written) = answered(alloc, &mut reader, &mut session);
@@ -48,12 +42,7 @@ fn the_reader_fails_after_each_count_of_bytes(rt: HostRuntime) {
 
 /// A writer that fails so often after that many bytes of the answers ends the shell. The command is recorded once the first answer is
 /// out.
-fn expect_cut_writing(
-    rt: &impl Abort,
-    alloc: Global,
-    left: usize,
-    failures: usize,
-) {
+fn expect_cut_writing(rt: &impl Abort, alloc: Global, left: usize, failures: usize) {
     let mut session = new_in_memory(alloc, rt);
     let mut writer = CutWriter::new(alloc, left, failures);
     let mut reader = SCRIPT;
