@@ -1,4 +1,5 @@
-//! Tests of whole sessions over disks in memory: disks that stop, readers and writers that fail, memory that is refused.
+//! Tests of whole sessions over disks in memory: disks that stop, readers and writers that fail, memory that is refused; and of the
+//! calls of the page.
 #![tactic(auto)]
 
 #[cfg(test)]
@@ -13,6 +14,8 @@ mod faults;
 mod first_version;
 #[cfg(test)]
 mod maps;
+#[cfg(test)]
+mod page;
 #[cfg(test)]
 mod questions;
 #[cfg(test)]

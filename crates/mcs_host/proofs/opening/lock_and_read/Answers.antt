@@ -31,3 +31,9 @@ returns-in_ok-map_err-clause-asked g c =
     rewritten_as_opened c.args.make c.args.file.now bytes c.deref-then-is_blank.result.now _ c.in_ok-found.found (state c.args.opened.now) (state c.lock.new.opened) (state c.length.new.self)
     (state c.sync_and_read.new.opened) _ c.if-make-2.true c.requires.named c.requires.begun c.in_ok-lock.ensures.same c.in_ok-lock.ensures.asked measured size
     c.in_ok-is_name_stable.ensures.same c.in_ok-is_name_stable.ensures.asked blank still these writes
+
+pub returns-else-make-2-clause-asked : goal.returns-else-make-2-clause-asked
+returns-else-make-2-clause-asked g c = search rules
+
+pub returns-then-found-eq0-clause-not_empty : goal.returns-then-found-eq0-clause-not_empty
+returns-then-found-eq0-clause-not_empty g c = search rules

@@ -102,3 +102,6 @@ pub returns-clause-durable : goal.returns-clause-durable
 returns-clause-durable g c = λ h.
     rests_durable _ _ (rests_then _ _ _ c.read_header.ensures.reads.rests (rests_then _ _ _ c.read_snapshot.ensures.reads.rests c.read_log.ensures.reads.rests))
     (synced_durable (g.D.Disk.state c.sync.new.self) _ c.in_ok-sync.ensures.noted.all)
+
+pub returns-in_err-slot-clause-refused_calls : goal.returns-in_err-slot-clause-refused_calls
+returns-in_err-slot-clause-refused_calls g c = search rules

@@ -48,3 +48,9 @@ returns-clause-changes g c = λ h durable old_snap records held other.
     (λ x torn. selector_torn f old_snap c.args.snap.now _ records c.start.result held at area (bytes_of mid) x first there torn)
     (λ here torn. selector_done f old_snap c.args.snap.now _ records c.start.result held at area (bytes_of mid) _ first there torn _ here names)
     step (c.commit-2.ensures.commits h_mid)
+
+pub returns-in_err-commit-clause-calls : goal.returns-in_err-commit-clause-calls
+returns-in_err-commit-clause-calls g c = search rules
+
+pub returns-clause-calls : goal.returns-clause-calls
+returns-clause-calls g c = search rules

@@ -1,4 +1,4 @@
-use Rattle.std.proofs.Common.{◌≡◌, ◌∙◌, sym}
+use Rattle.std.proofs.Common.{◌≡◌, ◌∙◌, sym, rules}
 use Rattle.mcs_asm.specs.ByteCells.{cells_after}
 use Rattle.mcs_asm.proofs.SpelledLists.{free_goes}
 use Rattle.mcs_asm.proofs.passes.SpelledLines.add.Goals as goal
@@ -9,3 +9,6 @@ returns-clause-bytes c = λ pairs kept.
     let r = free_goes c.args.self.now.cells pairs c.args.self.now.at c.args.next c.args.bytes.now c.requires.room free kept in
     let same : c.write.new.self ≡ cells_after c.args.self.now.at c.args.bytes.now c.args.self.now.cells = rw (← c.from-at.ensures) c.write.ensures in
     (r.0, r.1, r.2, rw same r.3)
+
+pub returns-clause-span : goal.returns-clause-span
+returns-clause-span c = search rules

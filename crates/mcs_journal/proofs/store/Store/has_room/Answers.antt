@@ -1,4 +1,4 @@
-use Rattle.std.proofs.Common.{List, ℕ, length, ◌∙◌, ap}
+use Rattle.std.proofs.Common.{List, ℕ, length, ◌∙◌, ap, rules}
 use Rattle.mcs_journal.specs.File.{frames_of}
 use Rattle.mcs_journal.proofs.Unique.{same_records}
 use Rattle.mcs_journal.proofs.store.Store.has_room.Goals as goal
@@ -7,3 +7,6 @@ pub returns-clause-used : goal.returns-clause-used
 returns-clause-used g c = rw (← c.self.view_is) (λ live h snap records held.
     let intact = c.self.invariant.intact live h in
     intact.count ∙ ap (λ (l : List (List ℕ)). length (frames_of l)) (same_records _ _ _ _ _ intact.holds held))
+
+pub returns-clause-room : goal.returns-clause-room
+returns-clause-room g c = search rules

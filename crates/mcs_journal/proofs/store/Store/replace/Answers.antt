@@ -1,6 +1,6 @@
 use Rattle.mcs_disk.specs.CallList.{unsynced}
 use Rattle.mcs_journal.proofs.Asking.{replace_one}
-use Rattle.std.proofs.Common.{[], length, refl, sym, ◌∙◌, ap, subst, arith, IsTrue, length-take, length-append, length-drop}
+use Rattle.std.proofs.Common.{[], length, refl, sym, ◌∙◌, ap, subst, arith, IsTrue, length-take, length-append, length-drop, rules}
 use Rattle.mcs_journal.specs.Store.{StoreView}
 use Rattle.mcs_journal.specs.Writing.{other_slot}
 use Rattle.mcs_journal.proofs.store.Store.replace.Goals as goal
@@ -55,3 +55,6 @@ pub returns-in-Err-clause-one_unsynced : goal.returns-in-Err-clause-one_unsynced
 returns-in-Err-clause-one_unsynced g c = rw (← c.self.view_is) (
     let live : IsTrue c.self.inside.live = subst (λ (v : StoreView g.row.D.Denot). IsTrue v.live) (sym c.self.view_is) c.requires.live in
     replace_one _ (c.self.invariant.synced live) _ _ _ _ c.in-Err.ensures.calls)
+
+pub returns-in-Ok-clause-slot : goal.returns-in-Ok-clause-slot
+returns-in-Ok-clause-slot g c = search rules

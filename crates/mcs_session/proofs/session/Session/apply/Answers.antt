@@ -10,3 +10,9 @@ invariant_of-self g c =
           let honest = c.in-Ok.ensures.counts.honest.0 h in
           rw c.apply.ensures.state (c.in-Ok.ensures.recorded honest (c.self.invariant.recorded live honest));
     }
+
+pub record-requires-clause-accepted : goal.record-requires-clause-accepted
+record-requires-clause-accepted g c = search rules
+
+pub returns-in-Ok-clause-applied : goal.returns-in-Ok-clause-applied
+returns-in-Ok-clause-applied g c = search rules

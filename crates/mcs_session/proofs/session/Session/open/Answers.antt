@@ -1,3 +1,4 @@
+use Rattle.std.proofs.Common.{rules}
 use Rattle.mcs_disk.proofs.Calling.{none_added, one_then}
 use Rattle.mcs_disk.proofs.Composing.{counts_then}
 use Rattle.mcs_session.proofs.Files.{failed_by, held_on, left_store, migrated_by, opened_by, recorded_by, refused_by, refuses_pair, refuses_store}
@@ -76,3 +77,33 @@ returns-in-Ok-begin-clause-one_unsynced g c = one_then _ _ _ c.in-Ok-open.ensure
 
 pub returns-in-Ok-Some-clause-refused_one_unsynced : goal.returns-in-Ok-Some-clause-refused_one_unsynced
 returns-in-Ok-Some-clause-refused_one_unsynced g c = one_then _ _ _ c.in-Ok-open.ensures.one_unsynced c.in-Err-begin.ensures.refused_one_unsynced
+
+pub returns-in-Ok-Some-clause-refusal_counts : goal.returns-in-Ok-Some-clause-refusal_counts
+returns-in-Ok-Some-clause-refusal_counts g c = search rules
+
+pub returns-in-Ok-None-clause-unwritten : goal.returns-in-Ok-None-clause-unwritten
+returns-in-Ok-None-clause-unwritten g c = search rules
+
+pub returns-in-Ok-None-clause-refused_one_unsynced : goal.returns-in-Ok-None-clause-refused_one_unsynced
+returns-in-Ok-None-clause-refused_one_unsynced g c = search rules
+
+pub returns-in-Ok-open-clause-unwritten : goal.returns-in-Ok-open-clause-unwritten
+returns-in-Ok-open-clause-unwritten g c = search rules
+
+pub returns-in-Ok-open-clause-refused_one_unsynced : goal.returns-in-Ok-open-clause-refused_one_unsynced
+returns-in-Ok-open-clause-refused_one_unsynced g c = search rules
+
+pub returns-in-Ok-open-clause-refused : goal.returns-in-Ok-open-clause-refused
+returns-in-Ok-open-clause-refused g c = search rules
+
+pub returns-clause-refusal_counts : goal.returns-clause-refusal_counts
+returns-clause-refusal_counts g c = search rules
+
+pub returns-clause-unwritten : goal.returns-clause-unwritten
+returns-clause-unwritten g c = search rules
+
+pub returns-clause-wrong_size : goal.returns-clause-wrong_size
+returns-clause-wrong_size g c = search rules
+
+pub returns-clause-refused_one_unsynced : goal.returns-clause-refused_one_unsynced
+returns-clause-refused_one_unsynced g c = search rules

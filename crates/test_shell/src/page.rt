@@ -1,0 +1,4 @@
+//! The calls of the page.
+mod calls;
+mod files;
+mod no_memory;

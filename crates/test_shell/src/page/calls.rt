@@ -1,0 +1,261 @@
+//! The calls of the page: sessions over several calls, refused files, buffers that are too short.
+use crate::checks::equal;
+use crate::page::files::{
+    CALLS, CARRIED_OVER, Call, answers, copy, expect_answers, expect_answers_by, file_of_version_1,
+    new_file, served, settled,
+};
+use crate::sessions::put;
+use mcs_disk::{Disk, MemDisk};
+use mcs_journal::{FILE_SIZE, OpenFault};
+use mcs_page::fault::ServeFault;
+use mcs_session::session::Session;
+use mcs_shell::shell::run_shell;
+use std::alloc::Global;
+use std::process::Abort;
+
+const FIRST: &[u8] = b"wire
+[[rom]]
+chip = 0
+port = \"0000\"
+.
+poke r5 9
+asm
+LDM 3
+XCH R4
+JUN 2
+.
+run 1000
+";
+
+const SECOND: &[u8] = b"seq\nregs\n";
+
+const FIRST_ANSWERS: &[u8] = b"session 0\nok 1\nok 2\nok 3 bytes 4\nok 4 ran 1000 end\n";
+
+const SECOND_ANSWERS: &[u8] =
+    b"session 4\nseq 4\nacc 0 cy 0 pc 002 owed 0 dcl 0 test 1 r 0000390000000000 ret 000 000 000\n";
+
+/// Serves an input on a session that goes on after it.
+fn serve_on(alloc: Global, session: &mut Session<MemDisk>, input: &[u8]) {
+    let mut reader = input;
+    let mut writer = Vec::new(alloc);
+    let _ = run_shell(alloc, &mut reader, &mut writer, session);
+}
+
+/// The bytes of a disk.
+fn bytes_of(alloc: Global, rt: &impl Abort, mut disk: MemDisk) -> Vec<u8> {
+    let mut bytes = vec![in alloc; 0u8; disk.size()].expect(rt, "memory");
+    disk.read(0, bytes.as_mut_slice()).expect(rt, "read");
+    bytes
+}
+
+/// The bytes of the file after both inputs, where one session of the shell serves them.
+fn file_of_one_session(alloc: Global, rt: &impl Abort) -> Vec<u8> {
+    let disk = MemDisk::new(alloc, FILE_SIZE).expect(rt, "memory");
+    let Ok(mut session) = Session::create(alloc, disk) else {
+        panic!(rt; "not made");
+    };
+    for input in [FIRST, SECOND] {
+        serve_on(alloc, &mut session, input);
+    }
+    bytes_of(alloc, rt, session.into_disk())
+}
+
+#[test]
+fn one_session_over_two_calls(rt: HostRuntime) {
+    let alloc = rt.alloc();
+    let mut file = new_file(alloc, &rt);
+    for row in [(FIRST, FIRST_ANSWERS), (SECOND, SECOND_ANSWERS)] {
+        expect_answers(alloc, &rt, file.as_mut_slice(), row);
+    }
+    let whole = file_of_one_session(alloc, &rt);
+    assert!(rt; file.as_slice() == whole.as_slice());
+    expect_answers(alloc, &rt, file.as_mut_slice(), (b"", b"session 4\n"));
+}
+
+/// The commit byte of the first record of the slot that the selector names.
+fn commit_byte(file: &[u8]) -> Option<u8> {
+    let log = if file.get(8) == Some(&0) {
+        16_400
+    } else {
+        98_320
+    };
+    file.get(log).copied()
+}
+
+/// Settles a file, and serves an input on it then with these answers.
+fn expect_settled(alloc: Global, rt: &impl Abort, file: &mut [u8], row: (&[u8], &[u8])) {
+    equal(rt, settled(alloc, file), Ok(()));
+    equal(rt, commit_byte(file), Some(0));
+    expect_answers(alloc, rt, file, row);
+}
+
+#[test]
+fn a_settled_file_has_no_records(rt: HostRuntime) {
+    let alloc = rt.alloc();
+    let mut file = new_file(alloc, &rt);
+    expect_answers(alloc, &rt, file.as_mut_slice(), (FIRST, FIRST_ANSWERS));
+    equal(&rt, commit_byte(file.as_slice()), Some(1));
+    // and again, in the other slot
+    let third: (&[u8], &[u8]) = (b"step\nseq\n", b"session 4\nok 5 ran 2 end\nseq 5\n");
+    for row in [(SECOND, SECOND_ANSWERS), third] {
+        expect_settled(alloc, &rt, file.as_mut_slice(), row);
+    }
+}
+
+/// The file holds a snapshot of version 2 in the slot that its selector names, and tells the
+/// registers.
+fn expect_carried_over(alloc: Global, rt: &impl Abort, file: &mut [u8]) {
+    let at = if file.get(8) == Some(&0) { 24 } else { 81_944 };
+    equal(rt, file.get(at), Some(&2));
+    expect_answers(alloc, rt, file, (b"regs\n", CARRIED_OVER));
+}
+
+#[test]
+fn a_file_of_version_1_is_carried_over(rt: HostRuntime) {
+    let alloc = rt.alloc();
+    let mut file = file_of_version_1(alloc, &rt);
+    expect_answers(alloc, &rt, file.as_mut_slice(), (b"regs\n", CARRIED_OVER));
+    expect_carried_over(alloc, &rt, file.as_mut_slice());
+}
+
+#[test]
+fn a_settled_file_of_version_1_is_carried_over(rt: HostRuntime) {
+    let alloc = rt.alloc();
+    let mut file = file_of_version_1(alloc, &rt);
+    equal(&rt, settled(alloc, file.as_mut_slice()), Ok(()));
+    expect_carried_over(alloc, &rt, file.as_mut_slice());
+}
+
+/// An input that is served and settled in one call has the answers and leaves the bytes that two
+/// calls have and leave.
+fn expect_both_at_once(alloc: Global, rt: &impl Abort, file: &mut [u8], row: (&[u8], &[u8])) {
+    let mut other = copy(alloc, rt, file);
+    expect_answers(alloc, rt, other.as_mut_slice(), row);
+    equal(rt, settled(alloc, other.as_mut_slice()), Ok(()));
+    expect_answers_by(alloc, rt, Call::ServeAndSettle, file, row);
+    assert!(rt; other.as_slice() == file);
+}
+
+#[test]
+fn serving_and_settling_at_once(rt: HostRuntime) {
+    let alloc = rt.alloc();
+    let mut file = new_file(alloc, &rt);
+    for row in [(FIRST, FIRST_ANSWERS), (SECOND, SECOND_ANSWERS)] {
+        expect_both_at_once(alloc, &rt, file.as_mut_slice(), row);
+        equal(&rt, commit_byte(file.as_slice()), Some(0));
+    }
+    let mut first_version = file_of_version_1(alloc, &rt);
+    let row: (&[u8], &[u8]) = (b"regs\n", CARRIED_OVER);
+    expect_both_at_once(alloc, &rt, first_version.as_mut_slice(), row);
+    expect_carried_over(alloc, &rt, first_version.as_mut_slice());
+}
+
+#[test]
+fn questions_leave_the_file(rt: HostRuntime) {
+    let alloc = rt.alloc();
+    let mut file = new_file(alloc, &rt);
+    let before = copy(alloc, &rt, file.as_slice());
+    // commands too are answered, as if they were done; asked again, they are answered alike
+    for _ in 0..2 {
+        let row = (FIRST, FIRST_ANSWERS);
+        expect_answers_by(alloc, &rt, Call::Ask, file.as_mut_slice(), row);
+        assert!(rt; file.as_slice() == before.as_slice());
+    }
+    expect_answers(alloc, &rt, file.as_mut_slice(), (FIRST, FIRST_ANSWERS));
+    expect_answers_by(
+        alloc,
+        &rt,
+        Call::Ask,
+        file.as_mut_slice(),
+        (SECOND, SECOND_ANSWERS),
+    );
+}
+
+/// A file is refused by this fault, in every call, and stays as it was.
+fn expect_refused(alloc: Global, rt: &impl Abort, file: &[u8], fault: OpenFault) {
+    let mut kept = copy(alloc, rt, file);
+    for call in CALLS {
+        let why = answers(alloc, rt, call, kept.as_mut_slice(), SECOND).err();
+        equal(rt, why, Some(ServeFault::Refused(fault)));
+    }
+    equal(rt, settled(alloc, kept.as_mut_slice()), Err(fault));
+    assert!(rt; kept.as_slice() == file);
+}
+
+#[test]
+fn files_of_another_size(rt: HostRuntime) {
+    let alloc = rt.alloc();
+    let mut made = new_file(alloc, &rt);
+    made.push(0).expect(&rt, "memory");
+    // a byte more, a byte less, eight bytes, no byte
+    for size in [FILE_SIZE + 1, FILE_SIZE - 1, 8, 0] {
+        made.truncate(size);
+        expect_refused(alloc, &rt, made.as_slice(), OpenFault::NotASession);
+    }
+}
+
+#[test]
+fn files_of_one_byte_over_and_over(rt: HostRuntime) {
+    let alloc = rt.alloc();
+    // rubbish, and all bytes 0
+    for byte in [0xA5, 0] {
+        let file = vec![in alloc; byte; FILE_SIZE].expect(&rt, "memory");
+        expect_refused(alloc, &rt, file.as_slice(), OpenFault::NotASession);
+    }
+}
+
+#[test]
+fn files_that_hold_no_session(rt: HostRuntime) {
+    let alloc = rt.alloc();
+    let made = new_file(alloc, &rt);
+    // another name, the length of the snapshot, a state of a version to come, a record that spells
+    // no command
+    let changes: [(usize, &[u8], OpenFault); 4] = [
+        (7, b"2", OpenFault::NotASession),
+        (19, &[0], OpenFault::Damaged),
+        (24, &[3], OpenFault::Damaged),
+        (16_400, &[1, 0, 1, 0], OpenFault::Damaged),
+    ];
+    for (at, bytes, fault) in changes {
+        let mut changed = copy(alloc, &rt, made.as_slice());
+        put(&rt, changed.as_mut_slice(), at, bytes);
+        expect_refused(alloc, &rt, changed.as_slice(), fault);
+    }
+}
+
+/// The answers to the first input have no room in so many bytes of a buffer, which stays as it was.
+fn expect_no_room(alloc: Global, rt: &impl Abort, file: &mut [u8], room: usize) {
+    let mut buffer = [b'#'; 128];
+    let Some(short) = buffer.get_mut(..room) else {
+        panic!(rt; "a short buffer");
+    };
+    for call in CALLS {
+        let why = served(alloc, call, file, FIRST, short).err();
+        equal(rt, why, Some(ServeFault::NoRoom(FIRST_ANSWERS.len())));
+    }
+    equal(rt, buffer, [b'#'; 128]);
+}
+
+/// The answers to the first input stand at the front of a buffer.
+fn expect_room(alloc: Global, rt: &impl Abort, file: &mut [u8]) {
+    let count = FIRST_ANSWERS.len();
+    let mut buffer = [b'#'; 128];
+    let Ok(served) = served(alloc, Call::Serve, file, FIRST, &mut buffer) else {
+        panic!(rt; "not served");
+    };
+    equal(rt, served.count, count);
+    equal(rt, buffer.get(..count), Some(FIRST_ANSWERS));
+    equal(rt, buffer.get(count), Some(&b'#'));
+}
+
+#[test]
+fn answers_that_have_no_room(rt: HostRuntime) {
+    let alloc = rt.alloc();
+    let mut file = new_file(alloc, &rt);
+    let before = copy(alloc, &rt, file.as_slice());
+    for room in [0, 1, FIRST_ANSWERS.len() - 1] {
+        expect_no_room(alloc, &rt, file.as_mut_slice(), room);
+        assert!(rt; file.as_slice() == before.as_slice());
+    }
+    expect_room(alloc, &rt, file.as_mut_slice());
+}

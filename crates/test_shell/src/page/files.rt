@@ -1,0 +1,107 @@
+//! Session files as a page keeps them, and what is asked of them.
+use crate::checks::equal;
+use crate::sessions::put;
+use mcs_fixtures::files::{NEW_BENCH, POKE};
+use mcs_journal::{FILE_SIZE, OpenFault};
+use mcs_page::fault::ServeFault;
+use mcs_page::page::{ServedInput, ask, begin, serve, serve_and_settle, settle};
+use mcs_shell::ends::ShellEnd;
+use std::alloc::Global;
+use std::process::Abort;
+
+/// The file of a new session.
+pub(crate) fn new_file(alloc: Global, rt: &impl Abort) -> Vec<u8> {
+    let mut file = vec![in alloc; 0u8; FILE_SIZE].expect(rt, "memory");
+    begin(alloc, file.as_mut_slice()).expect(rt, "memory");
+    file
+}
+
+/// A copy of these bytes.
+pub(crate) fn copy(alloc: Global, rt: &impl Abort, bytes: &[u8]) -> Vec<u8> {
+    bytes.to_vec(alloc).expect(rt, "memory")
+}
+
+/// Makes a file one of version 1: a new bench, and the record of `poke r5 9`.
+pub(crate) fn put_version_1(rt: &impl Abort, file: &mut [u8]) {
+    file.fill(0);
+    for (at, bytes) in NEW_BENCH {
+        put(rt, file, at, bytes);
+    }
+    put(rt, file, POKE.0, POKE.1);
+}
+
+/// The file of that session.
+pub(crate) fn file_of_version_1(alloc: Global, rt: &impl Abort) -> Vec<u8> {
+    let mut file = vec![in alloc; 0u8; FILE_SIZE].expect(rt, "memory");
+    put_version_1(rt, file.as_mut_slice());
+    file
+}
+
+/// What it answers to `regs`.
+pub(crate) const CARRIED_OVER: &[u8] =
+    b"session 1\nacc 0 cy 0 pc 000 owed 0 dcl 0 test 1 r 0000090000000000 ret 000 000 000\n";
+
+/// A call that answers an input.
+#[derive(Clone, Copy)]
+pub(crate) enum Call {
+    Serve,
+    ServeAndSettle,
+    Ask,
+}
+
+/// All of them.
+pub(crate) const CALLS: [Call; 3] = [Call::Serve, Call::ServeAndSettle, Call::Ask];
+
+/// Has an input answered on a file, with the answers put into a buffer.
+pub(crate) fn served(
+    alloc: Global,
+    call: Call,
+    file: &mut [u8],
+    input: &[u8],
+    buffer: &mut [u8],
+) -> Result<ServedInput, ServeFault> {
+    match call {
+        Call::Serve => serve(alloc, file, input, buffer),
+        Call::ServeAndSettle => serve_and_settle(alloc, file, input, buffer),
+        Call::Ask => ask(alloc, file, input, buffer),
+    }
+}
+
+/// Puts a snapshot in the place of a file's records.
+pub(crate) fn settled(alloc: Global, file: &mut [u8]) -> Result<(), OpenFault> {
+    settle(alloc, file)
+}
+
+/// Has an input answered on a file: the answers, or why there are none.
+pub(crate) fn answers(
+    alloc: Global,
+    rt: &impl Abort,
+    call: Call,
+    file: &mut [u8],
+    input: &[u8],
+) -> Result<Vec<u8>, ServeFault> {
+    let mut buffer = vec![in alloc; 0u8; 65_536].expect(rt, "memory");
+    let served = served(alloc, call, file, input, buffer.as_mut_slice())?;
+    equal(rt, served.end, ShellEnd::End);
+    buffer.truncate(served.count);
+    Ok(buffer)
+}
+
+/// An input is served on a file with these answers.
+pub(crate) fn expect_answers(alloc: Global, rt: &impl Abort, file: &mut [u8], row: (&[u8], &[u8])) {
+    expect_answers_by(alloc, rt, Call::Serve, file, row);
+}
+
+/// A call has these answers to an input.
+pub(crate) fn expect_answers_by(
+    alloc: Global,
+    rt: &impl Abort,
+    call: Call,
+    file: &mut [u8],
+    (input, wanted): (&[u8], &[u8]),
+) {
+    match answers(alloc, rt, call, file, input) {
+        Ok(told) => equal(rt, told.as_slice(), wanted),
+        Err(_) => panic!(rt; "not served"),
+    }
+}
