@@ -2,8 +2,9 @@
 import assert from "node:assert/strict";
 import { test } from "node:test";
 import {
-  isStop, readBoard, readListing, readMarks, readRam, readRegisters, readRun, refusalOf,
+  isStop, readBoard, readListing, readMap, readMarks, readRam, readRegisters, readRun, refusalOf, watchedPlaces,
 } from "../src/bench/answers.js";
+import { Answers, readTraced, valuesOf } from "../src/worker/tracing.js";
 
 test("refusals, with a line and without", () => {
   assert.deepEqual(refusalOf("no 34 line 2"), { number: 34, line: 2 });
@@ -37,6 +38,31 @@ test("RAM", () => {
 test("marks", () => {
   assert.deepEqual(readMarks("breaks 000 003"), ["000", "003"]);
   assert.deepEqual(readMarks("watches -"), []);
+});
+
+test("what is watched", () => {
+  assert.deepEqual(watchedPlaces("watches 0.3F 7.00"), ["ram.0.0x3F", "ram.7.0x00"]);
+  assert.deepEqual(watchedPlaces("watches -"), []);
+});
+
+test("where a program's lines and names stand", () => {
+  const answers = ["map lines 3 names 2", "line 1 000 0", "line 2 FFF 1", "line 3 1000 0", "name time 00C", "name go FFF"];
+  assert.deepEqual(readMap(answers), {
+    lines: [{ line: 1, address: 0, size: 0 }, { line: 2, address: 0xFFF, size: 1 }, { line: 3, address: 0x1000, size: 0 }],
+    names: [{ name: "time", value: 12 }, { name: "go", value: 0xFFF }],
+  });
+  for (const none of [[], ["no 31 line 2"], ["map lines 0 names 0"]]) assert.deepEqual(readMap(none), { lines: [], names: [] });
+});
+
+test("what a run would do, among other answers", () => {
+  const answers = new Answers(["trace ran 3 end lines 2 0 -", "0 000 1 -", "2 00A 2 *", "count ran 3 code lines 2", "000 1", "00A 12 3",
+    "ok 7 ran 3 code", "no 11"]);
+  const { row, lines, cycles } = answers.takeTrace();
+  assert.deepEqual([valuesOf(row), lines.map(readTraced), cycles],
+    [["0", "-"], [{ cycles: 0, address: 0, row: " 1 -" }, { cycles: 2, address: 10, row: " 2 *" }], 3]);
+  assert.deepEqual(answers.takeCounts(), [{ address: 0, begun: 1, jumped: -1 }, { address: 10, begun: 12, jumped: 3 }]);
+  assert.deepEqual([answers.takeRun(), answers.takeRun()], [{ cycles: 3, end: "code" }, { cycles: 0, end: "no 11" }]);
+  assert.equal(answers.isEmpty, true);
 });
 
 test("listings, but not the answers between them", () => {

@@ -245,8 +245,14 @@ test("what stands at places is what trace tells of them", () => {
     const told = new Told(answers);
     const row = looks.row(told);
     assert.equal(row, told.row(places));
-    assert.match(told.next(), /^seq /);
+    assert.match(told.take(), /^seq /);
   }
+});
+
+test("a count that is refused tells nothing", () => {
+  const told = new Told(["no 11", "count ran 2 end lines 1", "00F 2", "seq 4"]);
+  assert.deepEqual([told.counts(), told.counts()], [[], [{ address: 15, begun: 2, jumped: -1 }]]);
+  assert.equal(told.take(), "seq 4");
 });
 
 test("a walk that is counted leaves what one that is watched does", () => {

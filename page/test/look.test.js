@@ -2,7 +2,7 @@ import assert from "node:assert/strict";
 import { test } from "node:test";
 import { readInputs, linesOf } from "../src/bench/inputs.js";
 import { LookReader, lookOf, questionsOf } from "../src/bench/look.js";
-import { partsOfState, portsOf, registersOf } from "../src/bench/state_line.js";
+import { itemsOf, partsOfState, portsOf, registersOf, valueIn, withoutSeq } from "../src/bench/state_line.js";
 
 // The line that docs/MANUAL.md shows.
 const STATE = "state seq 8 acc 6 cy 0 pc 00A owed 0 dcl 0 test 1 r 1000000000000000 ret 000,001,000 src 10 banks 0.10,1.00 "
@@ -45,6 +45,19 @@ test("what is not drawn at each look is new since it was drawn last", () => {
   const { registers, ram, ...others } = reader.readRest();
   assert.deepEqual([registers.accumulator, registers.test, ram[0].ports.get("0.0"), others], ["8", "0", "2", {}]);
   assert.deepEqual(reader.readRest(), {});
+});
+
+test("one value of a state", () => {
+  assert.deepEqual(["seq", "acc", "r", "ret", "test", "rams", "lamps", "watches"].map((key) => valueIn(STATE, key)),
+    ["8", "6", "1000000000000000", "000,001,000", "1", "0.0.0,1.0.0", "**.", "0.3F"]);
+  assert.deepEqual(["banks", "keys", "watches"].map((key) => itemsOf(valueIn(EMPTY, key))), [[], [], []]);
+  assert.throws(() => valueIn("no 90", "acc"), /the bench answers state by no 90/);
+});
+
+test("two sessions are the same whatever commands were done", () => {
+  assert.equal(withoutSeq(STATE), withoutSeq(STATE.replace("seq 8", "seq 12345")));
+  assert.notEqual(withoutSeq(STATE), withoutSeq(STATE.replace("acc 6", "acc 7")));
+  assert.equal(withoutSeq(`${EMPTY}\n${RAM.join("\n")}`), `${EMPTY.slice("state seq 0 ".length)}\n${RAM.join("\n")}`);
 });
 
 test("the registers and the ports of a state", () => {

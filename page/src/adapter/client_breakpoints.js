@@ -1,7 +1,7 @@
 // The breakpoints that the client sets, of lines, labels and addresses, with those that the session had before; put together they are the
 // list that the debugger has.
 
-import { readBoard } from "../bench/answers.js";
+import { readBoard, watchedPlaces } from "../bench/answers.js";
 import { hex } from "../bench/numbers.js";
 import { BreakpointList, MOST_BREAKPOINTS, MOST_ON, instructionOfAddress, instructionOfLine } from "../debug/breakpoints.js";
 import { placeOf } from "../bench/places.js";
@@ -234,8 +234,7 @@ export class ClientBreakpoints {
  * @param {DebugSession} session
  */
 function watchesOf(session) {
-  const [, ...words] = session.debugger.session.ask("watches\n")[0].split(" ");
-  return words.filter((word) => word !== "-").map((word) => `${word[0]} 0x${word.slice(2)}`);
+  return watchedPlaces(session.debugger.session.ask("watches\n")[0]).map(watchOf);
 }
 
 /**

@@ -1,6 +1,6 @@
 // ROM as the protocol wants it: instructions around an address, and bytes.
 
-import { readListing } from "../bench/answers.js";
+import { readListing, readRam } from "../bench/answers.js";
 import { LAST_ADDRESS, hex, upTo } from "../bench/numbers.js";
 
 /**
@@ -82,10 +82,9 @@ export function bytesAt(session, reference) {
   const bank = /^ram\.([0-7])$/.exec(reference);
   const bench = session.debugger.session;
   if (!bank) return romBytes(session);
-  const answers = bench.ask(`ram ${bank[1]}\n`);
-  const registers = answers.slice(1).map((line) => line.split(" ")).filter(([, first]) => first !== "out");
-  if (registers.length === 0) return null;
-  return Uint8Array.from(registers.flatMap(([, digits]) => [...digits].map((digit) => parseInt(digit, 16))));
+  const { registers } = readRam(bench.ask(`ram ${bank[1]}\n`));
+  if (registers.size === 0) return null;
+  return Uint8Array.from([...registers.values()].flatMap(({ characters }) => [...characters].map((digit) => parseInt(digit, 16))));
 }
 
 /** @param {DebugSession} session */

@@ -1,6 +1,6 @@
 // What stands in the machine, as scopes of variables: registers, pairs, RAM, ports, lamps, keys, names of the program.
 
-import { readBoard } from "../bench/answers.js";
+import { readBoard, readMarks } from "../bench/answers.js";
 import { hex, upTo } from "../bench/numbers.js";
 import { keysOf } from "../board/board_keys.js";
 import { Standing, wordsOfCharacter } from "../debug/standing.js";
@@ -116,8 +116,7 @@ function sourceOf(source) {
 
 /** @param {Seen} seen */
 function lamps({ session, face, board }) {
-  const [answer] = session.debugger.session.ask("lamps\n");
-  const marks = answer.split(" ").slice(1).join("");
+  const marks = readMarks(session.debugger.session.ask("lamps\n")[0]).join("");
   return board.lamps.map((line, at) => {
     const name = (face.lamps.get(at) || { text: "" }).text.replace(/_/g, " ");
     return { ...variable(name || `lamp ${at}`, marks[at] === "*" ? "on" : "off"), evaluateName: `lamp ${at}` };

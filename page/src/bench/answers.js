@@ -12,6 +12,8 @@ import { isListed } from "./answer_table.js";
  * @typedef {{ chip: string, out: string, in: string }} RomPort
  * @typedef {{ sources: string[], roms: RomPort[], chains: string[], keys: string[] }} Ports
  * @typedef {{ address: number, line: string }} Listed
+ * @typedef {{ line: number, address: number, size: number }} MappedLine a line of a program, and how many bytes it puts from an address on
+ * @typedef {{ lines: MappedLine[], names: { name: string, value: number }[] }} ProgramMap
  * @typedef {{ clock: string, data: string, chips: number }} Chain
  * @typedef {{ chain: number, first: number, rows: number, columns: string[] }} Matrix row r is driven by bit `first + r` of the chain
  * @typedef {{ banks: { bank: number, chips: number }[], chains: Chain[], roms: { chip: number, port: string }[], lamps: string[],
@@ -92,6 +94,30 @@ export function readRam(answers) {
 export function readMarks(answer) {
   const words = answer.split(" ").slice(1);
   return words[0] === "-" ? [] : words;
+}
+
+/**
+ * The characters of RAM that are watched, as places, `ram.0.0x3F`.
+ * @param {string} answer to `watches`
+ */
+export function watchedPlaces(answer) {
+  return readMarks(answer).map((each) => `ram.${each.replace(".", ".0x")}`);
+}
+
+/**
+ * The answer to `map`; a refusal maps nothing.
+ * @param {string[]} answers
+ * @returns {ProgramMap}
+ */
+export function readMap(answers) {
+  /** @type {ProgramMap} */
+  const map = { lines: [], names: [] };
+  for (const answer of answers) {
+    const [kind, first, second, third] = answer.split(" ");
+    if (kind === "line") map.lines.push({ line: Number(first), address: parseInt(second, 16), size: Number(third) });
+    if (kind === "name") map.names.push({ name: first, value: parseInt(second, 16) });
+  }
+  return map;
 }
 
 /**

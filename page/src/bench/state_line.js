@@ -25,6 +25,25 @@ export function partsOfState(answer) {
 }
 
 /**
+ * The value behind a key of the line, as it is written.
+ * @param {string} answer
+ * @param {string} key
+ */
+export function valueIn(answer, key) {
+  const at = answer.indexOf(` ${key} `);
+  if (at < 0) throw new Error(`the bench answers state by ${answer}`);
+  return answer.slice(at + key.length + 2).split(" ", 1)[0];
+}
+
+/**
+ * What the line says but for how many commands were done: two sessions that are the same have the same.
+ * @param {string} answer other answers may stand behind it
+ */
+export function withoutSeq(answer) {
+  return answer.replace(/^state seq \d+ /, "");
+}
+
+/**
  * The items of a value that is a list.
  * @param {string} value
  */

@@ -12,7 +12,7 @@
 // called. A breakpoint that always stops is one of the bench (`break`). One with a condition, a count or a note is found ahead
 // (arrivals.js), and no file ever has it.
 
-import { readBoard, readCounter, readRun, refusalOf } from "../bench/answers.js";
+import { readBoard, readRun } from "../bench/answers.js";
 import { hex } from "../bench/numbers.js";
 import { placeOf } from "../bench/places.js";
 import { NOTHING_TOLD, aimBack } from "../worker/going_back.js";
@@ -22,7 +22,7 @@ import { Answers, valuesOf } from "../worker/tracing.js";
 import { cyclesToGoal, seek, linesUpTo } from "./ahead.js";
 import { Arrivals, MOST_NOTES, nothingSeen } from "./arrivals.js";
 import { MOST_PLACES } from "./conditions.js";
-import { watcherOf } from "./goals.js";
+import { counterOf, watcherOf } from "./goals.js";
 import { lastArrival } from "./last_arrival.js";
 import { isSoft, softBreakpointOf } from "./soft_breakpoints.js";
 import { planTyped } from "./typed_lines.js";
@@ -250,7 +250,7 @@ export class Debugger {
   }
 
   get counter() {
-    return parseInt(this.session.ask("regs\n")[0].split(" ")[5], 16);
+    return counterOf(this.session.ask("regs\n")[0]).counter;
   }
 
   stopped() {
@@ -389,8 +389,8 @@ export class Debugger {
     const { moment, present, ...told } = await aimBack(session.engine, session, { kind: "change", place }, goesOn);
     if (!moment) return { ...told, isFound: false, cycles: 0, address: -1 };
     const { file, count } = present || await session.timeline.at(session.engine, moment, goesOn);
-    const { counter } = readCounter(session.engine.ask(file, "regs\n").answers[0]);
-    return { ...told, isFound: true, cycles: session.count.total - count.total, address: told.line ? -1 : parseInt(counter, 16) };
+    const { counter } = counterOf(session.engine.ask(file, "regs\n").answers[0]);
+    return { ...told, isFound: true, cycles: session.count.total - count.total, address: told.line ? -1 : counter };
   }
 
   /**
@@ -442,9 +442,8 @@ export class Debugger {
     /** @type {string[]} */
     const values = [];
     for (let from = 0; from < probes.length; from += MOST_PLACES) {
-      const [head] = this.session.ask(`trace 1 ${probes.slice(from, from + MOST_PLACES).join(" ")}\n`);
-      if (refusalOf(head)) throw new Error(`the bench answered a question by: ${head}`);
-      values.push(...valuesOf(new Answers([head.replace(/ lines \d+/, " lines 0")]).takeTrace().row));
+      const answers = this.session.ask(`trace 1 ${probes.slice(from, from + MOST_PLACES).join(" ")}\n`);
+      values.push(...valuesOf(new Answers(answers).takeTrace().row));
     }
     return values;
   }

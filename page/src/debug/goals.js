@@ -90,7 +90,7 @@ function counted(count, isOwed) {
     before: (cycles) => `count ${cycles}\n`,
     after: "regs\n",
     take: (answers) => {
-      const begun = answers.takeCount();
+      const begun = answers.takeCounts().reduce((sum, each) => sum + each.begun, 0);
       const ran = answers.takeRun();
       const isNowOwed = counterOf(answers.take()).isOwed;
       left -= begun + Number(wasOwed) - Number(isNowOwed);

@@ -1,7 +1,7 @@
 // The last arrival at a breakpoint before the present, or the last change of what is watched: the past is done again, block by block, on a
 // copy that has the breakpoints of now. A breakpoint with a note stops nothing; how many hits it is to have is not asked.
 
-import { readMarks } from "../bench/answers.js";
+import { readMarks, watchedPlaces } from "../bench/answers.js";
 import { aim, changeFinder, lastInPast } from "../worker/going_back.js";
 import { Arrivals } from "./arrivals.js";
 import { counterOf } from "./goals.js";
@@ -108,8 +108,7 @@ function lastOf(finders) {
  */
 export async function lastArrival(session, breakpoints, place, goesOn) {
   const { engine, file, timeline } = session;
-  const watched = readMarks(session.ask("watches\n")[0]).map((each) => `ram.${each.replace(".", ".0x")}`);
-  const places = [...watched, ...(place === "" ? [] : [place])];
+  const places = [...watchedPlaces(session.ask("watches\n")[0]), ...(place === "" ? [] : [place])];
   const changes = places.map((each) => changeFinder(engine, file, each));
   if (changes.some((each) => each === null)) return aim({ why: "lacks", place });
   const finders = changes.flatMap((each) => (each ? [each] : []));

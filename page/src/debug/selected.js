@@ -2,6 +2,7 @@
 // another SRC was meant.
 
 import { hex, numberOf } from "../bench/numbers.js";
+import { itemsOf, valueIn } from "../bench/state_line.js";
 import * as say from "../words/debug.js";
 
 /**
@@ -48,8 +49,7 @@ export class Selected {
 
   /** @param {string} state the answer to `state` */
   begin(state) {
-    const [, banks] = / banks (\S+)/.exec(state) || ["", "-"];
-    for (const item of banks.split(",").filter((each) => each !== "-")) {
+    for (const item of itemsOf(valueIn(state, "banks"))) {
       const [bank, byte] = item.split(".");
       this.kept.set(Number(bank), parseInt(byte, 16));
     }

@@ -2,6 +2,8 @@
 // program goes on with each of the inputs that may be down, up to where it asks again. Where no state is new any more, what holds in all of
 // them holds whatever is pressed, and whenever.
 
+import { readRun } from "../bench/answers.js";
+import { withoutSeq } from "../bench/state_line.js";
 import { KeptFiles } from "./kept_files.js";
 import { runLines } from "./walks.js";
 import { Watcher } from "./watching.js";
@@ -130,8 +132,8 @@ export class AllStates {
     const down = choice.map((at) => `${inputs[at].down}\n`).join("");
     if (down) engine.serve(file, down, file);
     const { answers } = engine.ask(file, `${breaks.map((address) => `break ${address}\n`).join("")}run ${LONGEST_RUN}\n`);
-    const [, cycles, end] = / ran (\d+) (\w+)$/.exec(answers[breaks.length]) || ["", "0", ""];
-    const wait = Number(cycles) + (end === "code" ? 1 : 0);
+    const { cycles, end } = readRun(answers[breaks.length]) || { cycles: 0, end: "" };
+    const wait = cycles + (end === "code" ? 1 : 0);
     const after = this.watch({ file, time: 0, down: choice, memories }, wait);
     // A code that is no instruction ends it there.
     if (after && end !== "code") this.keep(file, wait, choice, after.memories);
@@ -160,7 +162,7 @@ export class AllStates {
     const { inputs } = this.campaign;
     const up = choice.map((at) => `${inputs[at].up}\n`).join("");
     const { answers } = this.subject.engine.serve(file, `${runLines(wait)}${up}state\n${this.rams}`, file);
-    const told = answers.slice(answers.findIndex((answer) => answer.startsWith("state "))).join("\n").replace(/^state seq \d+ /, "");
+    const told = withoutSeq(answers.slice(answers.findIndex((answer) => answer.startsWith("state "))).join("\n"));
     const key = `${told} ${this.watcher.calls.map((at) => memories[at]).join(" ")}`;
     if (this.seen.has(key)) return;
     this.seen.add(key);

@@ -51,7 +51,7 @@ export function countWalk({ subject: { engine, codes }, campaign, coverage }, st
   let { time, down, memories } = start;
   return steps.map((step) => {
     const counts = told.counts();
-    told.at += step.kind === "none" ? 1 : 2;
+    told.skip(step.kind === "none" ? 1 : 2);
     let deeper = 0;
     for (const { address, begun } of counts) {
       if (isCall(codes[address])) deeper += begun;

@@ -1,6 +1,8 @@
 // A find as a test in the words of tools/test: it fails for as long as the program is as it is (of a goal: it passes).
 
+import { readMarks } from "../bench/answers.js";
 import { hex } from "../bench/numbers.js";
+import { Answers, valuesOf } from "../worker/tracing.js";
 import { linesOf, runLines } from "./walks.js";
 import * as say from "../words/explore.js";
 
@@ -103,8 +105,8 @@ class Writer {
    */
   valueOf(place) {
     const { answers } = this.subject.engine.ask(this.file, `${this.linesThere}trace 1 ${place.replace(/ .*/, "")}\n`);
-    const told = answers.filter((answer) => answer.startsWith("trace "));
-    return parseInt(told[told.length - 1].split(" ")[6], 16);
+    const told = new Answers(answers.filter((answer) => answer.startsWith("trace ")).slice(-1));
+    return parseInt(valuesOf(told.takeTrace().row)[0], 16);
   }
 
   /**
@@ -112,7 +114,7 @@ class Writer {
    */
   get lamps() {
     const { answers } = this.subject.engine.ask(this.file, `${this.linesThere}lamps\n`);
-    return answers[answers.length - 1].slice("lamps ".length);
+    return readMarks(answers[answers.length - 1]).join("");
   }
 
   /**

@@ -59,7 +59,8 @@ function memorySpot(name, board) {
 }
 
 /**
- * The port of a RAM chip: `ram0.1`. It is driven by its latch alone.
+ * The port of a RAM chip: `ram0.1`. It is driven by its latch alone. As all spots it is read letter by letter, and not by
+ * bench/state_line.js: a search has thousands of looks in a second.
  * @param {string} name
  * @param {Board} board
  * @returns {Spot | null}
@@ -127,7 +128,7 @@ export class Looks {
       const begin = after === "" ? from : answer.indexOf(after) + after.length + from;
       row += `${each === 0 ? "" : " "}${length === 0 ? answer.slice(begin) : answer.substr(begin, length)}`;
     }
-    told.at += this.count;
+    told.skip(this.count);
     if (rest.names.length === 0) return row;
     return row === "" ? told.row(rest) : `${row} ${told.row(rest)}`;
   }

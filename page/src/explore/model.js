@@ -2,6 +2,7 @@
 // prints a line for each, what the display shows after them; an empty line says nothing of it. A chain is keyed from where all is begun
 // with, at the pace of the properties.
 
+import { readMarks } from "../bench/answers.js";
 import { conditionOf } from "../debug/conditions.js";
 import { lineOf, runLines, upToRandom } from "./walks.js";
 
@@ -83,7 +84,7 @@ export class Model {
       + `${lineOf(this.campaign, { wait: 0, kind: "up", input })}${runLines(up)}`)).join("");
     const { answers } = this.subject.engine.ask(this.start.file, `${lines}lamps\n`);
     const { condition } = conditionOf(`display ${wanted}`, this.subject.names);
-    return condition !== null && condition.holds([answers[answers.length - 1].slice("lamps ".length)]);
+    return condition !== null && condition.holds([readMarks(answers[answers.length - 1]).join("")]);
   }
 
   /**

@@ -1,10 +1,8 @@
 // The places of `trace` that properties and notes look at, in questions of at most 16, and where each condition finds its values.
 
+import { refusalOf } from "../bench/answers.js";
 import { MOST_PLACES } from "../debug/conditions.js";
-
-/** @typedef {import("./properties.js").Property} Property */
-
-const HEAD = /^trace ran \d+ \w+ lines (\d+) ?(.*)$/;
+import { Answers, readTraced, valuesOf } from "../worker/tracing.js";
 
 export class Places {
   /** @param {string[]} names */
@@ -32,33 +30,16 @@ export class Places {
   }
 }
 
-/** Answers, one after the other. */
-export class Told {
-  /** @param {string[]} answers */
-  constructor(answers) {
-    this.answers = answers;
-    this.at = 0;
-  }
-
-  next() {
-    this.at += 1;
-    return this.answers[this.at - 1];
-  }
-
+/** Answers that follow each other, to questions about places. */
+export class Told extends Answers {
   /**
    * What stands at all places now; the lines of what comes are left out.
    * @param {Places} places
    */
   row(places) {
     let row = "";
-    for (let group = 0; group < places.groups.length; group++) {
-      const answer = this.next();
-      const head = HEAD.exec(answer);
-      if (!head) throw new Error(`the bench answered a question by: ${answer}`);
-      this.at += Number(head[1]);
-      row += row === "" ? head[2] : ` ${head[2]}`;
-    }
-    return row;
+    for (let group = 0; group < places.groups.length; group++) row += this.takeTrace().row;
+    return row.slice(1);
   }
 
   /**
@@ -72,40 +53,19 @@ export class Told {
     /** @type {Change[][]} */
     const all = [];
     for (let group = 0; group < places.groups.length; group++) {
-      const answer = this.next();
-      const head = HEAD.exec(answer);
-      if (!head) throw new Error(`the bench answered a question by: ${answer}`);
-      const lines = this.answers.slice(this.at, this.at + Number(head[1]));
-      this.at += lines.length;
+      const { row, lines } = this.takeTrace();
       const from = values.length;
       all.push(lines.map((line) => changeOf(line, from)));
-      values = [...values, ...head[2].split(" ")];
+      values = [...values, ...valuesOf(row)];
     }
     return { values, changes: all.length === 1 ? all[0] : all.flat().sort((one, other) => one.cycles - other.cycles) };
   }
 
-  /** @returns {{ address: number, begun: number, jumped: number }[]} what `count` tells */
+  /** What `count` tells; nothing where the bench refuses a wait. */
   counts() {
-    const count = Number((/ lines (\d+)$/.exec(this.next()) || ["", "0"])[1]);
-    const lines = this.answers.slice(this.at, this.at + count);
-    this.at += count;
-    return lines.map((line) => {
-      // `HHH N`, or `HHH N N`
-      const blank = line.indexOf(" ", 4);
-      const begun = Number(blank < 0 ? line.slice(4) : line.slice(4, blank));
-      return { address: parseInt(line.slice(0, 3), 16), begun, jumped: blank < 0 ? -1 : Number(line.slice(blank + 1)) };
-    });
-  }
-
-  /** The addresses of all instructions of a run, by the cycles before them. */
-  instructions() {
-    const count = Number((/ lines (\d+)/.exec(this.next()) || ["", "0"])[1]);
-    const lines = this.answers.slice(this.at, this.at + count);
-    this.at += count;
-    return lines.map((line) => {
-      const blank = line.indexOf(" ");
-      return { cycles: Number(line.slice(0, blank)), address: parseInt(line.slice(blank + 1, blank + 4), 16) };
-    });
+    if (!refusalOf(this.answers[this.at])) return this.takeCounts();
+    this.skip(1);
+    return [];
   }
 }
 
@@ -120,6 +80,6 @@ export class Told {
  * @returns {Change}
  */
 function changeOf(line, from) {
-  const [cycles, address, ...values] = line.split(" ");
-  return { cycles: Number(cycles), address: parseInt(address, 16), from, values };
+  const { cycles, address, row } = readTraced(line);
+  return { cycles, address, from, values: valuesOf(row) };
 }

@@ -236,7 +236,7 @@ export class Search {
     const lines = steps.map((step) => (
       `${counts ? `count ${step.wait}\n` : ""}run ${step.wait}\n${lineOf(campaign, step)}${places.lines}`)).join("");
     const told = new Told(this.subject.engine.ask(file, stops.map((address) => `break ${address}\n`).join("") + lines).answers);
-    told.at = stops.length;
+    told.skip(stops.length);
     /** @type {number[]} */
     const fresh = [];
     /** @type {Look[]} */
@@ -244,8 +244,8 @@ export class Search {
     const seem = new Seeming(this, state);
     for (const [at, step] of steps.entries()) {
       const begun = counts ? told.counts() : [];
-      if (!told.next().endsWith(" end")) return { fresh, isSuspect: true, looks };
-      if (step.kind !== "none") told.next();
+      if (told.takeRun().end !== "end") return { fresh, isSuspect: true, looks };
+      if (step.kind !== "none") told.skip(1);
       const look = this.lookOf(places.row(told));
       looks.push(look);
       if (seem.isBroken(step, look, begun)) return { fresh, isSuspect: true, looks };
@@ -360,7 +360,7 @@ class Seeming {
   /**
    * @param {WalkStep} step
    * @param {Look} look
-   * @param {ReturnType<Told["counts"]>} begun how often each address was begun at
+   * @param {import("../worker/tracing.js").Counted[]} begun how often each address was begun at
    */
   isBroken(step, { holds }, begun) {
     const { campaign: { properties, inputs }, asked, memories } = this;

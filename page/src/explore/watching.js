@@ -2,6 +2,7 @@
 // is told what happens, in the order of time. Looked at so is each walk that brought something new, and one of some others.
 
 import { isCall, isReturn } from "../worker/rom_codes.js";
+import { readTraced } from "../worker/tracing.js";
 import { Places, Told } from "./places.js";
 import { downAfter, lineOf } from "./walks.js";
 
@@ -12,6 +13,7 @@ import { downAfter, lineOf } from "./walks.js";
  * @typedef {import("./subject.js").Subject} Subject
  * @typedef {import("./walks.js").WalkStep} WalkStep
  * @typedef {import("./places.js").Change} Change
+ * @typedef {import("../worker/tracing.js").Counted} Counted
  *
  * From where a walk goes on: the session, the cycles since power-on, what is down, and what each property remembers.
  * @typedef {{ file: Uint8Array, time: number, down: number[], memories: number[][] }} Start
@@ -23,7 +25,7 @@ import { downAfter, lineOf } from "./walks.js";
  * @typedef {{ time: number, down: number[], memories: number[][], isNew: boolean }} After
  *
  * What was asked about one step.
- * @typedef {{ values: string[], changes: Change[], counts: ReturnType<Told["counts"]>, ran: string,
+ * @typedef {{ values: string[], changes: Change[], counts: Counted[], ran: string,
  *   list: { cycles: number, address: number }[] | null }} StepTold
  */
 
@@ -96,8 +98,8 @@ export class Watcher {
     for (const step of steps) {
       const { values, changes } = told.changes(places);
       const counts = this.counts ? told.counts() : [];
-      all.push({ values, changes, counts, ran: told.next(), list: null });
-      if (step.kind !== "none") told.next();
+      all.push({ values, changes, counts, ran: told.take(), list: null });
+      if (step.kind !== "none") told.skip(1);
     }
     const asksCalls = this.calls.some((at) => open.includes(at));
     this.list(file, steps, all, all.map((each) => this.needsList(each, asksCalls)));
@@ -118,9 +120,8 @@ export class Watcher {
       `${isListed[at] ? `trace ${step.wait}\n` : ""}run ${step.wait}\n${lineOf(this.campaign, step)}`)).join("");
     const told = new Told(this.subject.engine.ask(file, lines).answers);
     for (const [at, step] of steps.slice(0, last + 1).entries()) {
-      if (isListed[at]) all[at].list = told.instructions();
-      told.next();
-      if (step.kind !== "none") told.next();
+      if (isListed[at]) all[at].list = told.takeTrace().lines.map(readTraced);
+      told.skip(step.kind === "none" ? 1 : 2);
     }
   }
 

@@ -1,5 +1,6 @@
 // Where a program's text stands in ROM, as the bench answers the line `map`: the address and the bytes of each line, and the names.
 
+import { readMap } from "../bench/answers.js";
 import { hex } from "../bench/numbers.js";
 import * as say from "../words/machine.js";
 
@@ -38,19 +39,13 @@ export class SourceMap {
   /** @param {string[]} answers */
   read(answers) {
     const labels = new Set(this.sources.map((line) => (LABEL.exec(line) || ["", ""])[1]));
-    for (const answer of answers) {
-      const [kind, first, second, third] = answer.split(" ");
-      if (kind === "line") this.addLine(Number(first), parseInt(second, 16), Number(third));
-      if (kind === "name") this.addName({ name: first, value: parseInt(second, 16), isLabel: labels.has(first) });
-    }
+    const { lines, names } = readMap(answers);
+    for (const line of lines) this.addLine(line);
+    for (const { name, value } of names) this.addName({ name, value, isLabel: labels.has(name) });
   }
 
-  /**
-   * @param {number} line
-   * @param {number} address
-   * @param {number} size
-   */
-  addLine(line, address, size) {
+  /** @param {import("../bench/answers.js").MappedLine} mapped */
+  addLine({ line, address, size }) {
     this.addresses[line] = address;
     this.sizes[line] = size;
     this.lines.fill(line, address, address + size);

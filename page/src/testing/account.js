@@ -7,6 +7,7 @@ import { isCall, isReturn } from "../worker/rom_codes.js";
 
 /**
  * @typedef {import("../worker/tracing.js").Answers} Answers
+ * @typedef {import("../worker/tracing.js").Counted} Counted
  * @typedef {{ times: number, withCalls: number, longest: number }} Calls those of one routine
  * @typedef {{ presses: number, answered: number, first: number, last: number }} KeyTimes the longest until the first lamp that changed,
  *   and until the last one before the next key
@@ -73,7 +74,7 @@ export class Account {
    * @param {() => Answers} askAll asks for all instructions of the run
    */
   take(answers, elapsed, askAll) {
-    const links = this.count(answers.takeTrace().lines);
+    const links = this.count(answers.takeCounts());
     const told = answers.takeTrace().lines;
     if (this.waiting.key !== "") this.followLamps(answers.takeTrace().lines, elapsed);
     // A JMS or a BBL after which the return addresses are those of before has no line.
@@ -82,19 +83,17 @@ export class Account {
 
   /**
    * Counts what a run begins; gives how many JMS and BBL are among it.
-   * @param {string[]} lines
+   * @param {Counted[]} counts
    */
-  count(lines) {
+  count(counts) {
     let links = 0;
-    for (const line of lines) {
-      const address = parseInt(line.slice(0, 3), 16);
-      const [, times, jumps = "0"] = line.split(" ");
+    for (const { address, begun, jumped } of counts) {
       const code = this.codes[address];
-      this.runs[address] += Number(times);
-      this.taken[address] += Number(jumps);
-      this.own[address] += cyclesOf(code) * Number(times);
-      if (isCall(code)) this.callsOf(this.targetOf(address)).times += Number(times);
-      if (isCall(code) || isReturn(code)) links += Number(times);
+      this.runs[address] += begun;
+      this.taken[address] += Math.max(0, jumped);
+      this.own[address] += cyclesOf(code) * begun;
+      if (isCall(code)) this.callsOf(this.targetOf(address)).times += begun;
+      if (isCall(code) || isReturn(code)) links += begun;
     }
     return links;
   }

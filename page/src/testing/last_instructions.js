@@ -1,6 +1,7 @@
 // The last instructions of a session under test, a line each as tools/test tells them: what was done in its last cycles is done once more,
 // on a copy of what it was before.
 
+import { readRegisters } from "../bench/answers.js";
 import { hex, upTo } from "../bench/numbers.js";
 import { MOST_PLACES } from "../debug/conditions.js";
 import { runLines } from "../worker/key_queue.js";
@@ -146,8 +147,8 @@ function beginOf(done) {
  * @param {number} elapsed
  */
 function secondCycle(regs, elapsed) {
-  const [, acc, , cy, , , , owed] = regs.split(" ", 8);
-  return owed === "1" ? [`${String(elapsed).padStart(8)}  ${say.SECOND_CYCLE.padEnd(HEAD)}  acc ${acc} cy ${cy}`] : [];
+  const { accumulator, carry, owed } = readRegisters(regs);
+  return owed === "1" ? [`${String(elapsed).padStart(8)}  ${say.SECOND_CYCLE.padEnd(HEAD)}  acc ${accumulator} cy ${carry}`] : [];
 }
 
 /**

@@ -39,8 +39,8 @@ export function lastPassed({ engine, begun, all }, addresses) {
       engine.serve(file, `${line}\n`, file);
       continue;
     }
-    const { lines } = new Answers(engine.ask(file, `count ${cycles}\n`).answers).takeTrace();
-    if (lines.some((told) => addresses.has(parseInt(told.slice(0, 3), 16)))) {
+    const counts = new Answers(engine.ask(file, `count ${cycles}\n`).answers).takeCounts();
+    if (counts.some(({ address }) => addresses.has(address))) {
       before.set(file);
       [found, from] = [cycles, elapsed];
     }

@@ -1,6 +1,7 @@
 // Runs tests: each on a session of its own in memory, as tools/test does. Without a document: the page's worker and node call it.
 
 import { counted, hex } from "../bench/numbers.js";
+import { itemsOf, valueIn } from "../bench/state_line.js";
 import { LONGEST_RUN } from "../worker/key_queue.js";
 import { Answers, readTraced, valuesOf } from "../worker/tracing.js";
 import { cyclesOf } from "./account.js";
@@ -122,13 +123,11 @@ export class TestRun {
    * @param {TestSession} session
    */
   toldOf(session) {
-    const words = session.ask("state\n")[0].split(" ");
-    /** @type {(word: string) => string} */
-    const valueOf = (word) => words[words.indexOf(word) + 1];
-    const registers = ["acc", "cy", "pc", "dcl", "test", "r"].map((word) => `${word} ${valueOf(word)}`).join(" ");
+    const [state] = session.ask("state\n");
+    const registers = ["acc", "cy", "pc", "dcl", "test", "r"].map((key) => `${key} ${valueIn(state, key)}`).join(" ");
     return {
-      cycles: session.elapsed, lamps: valueOf("lamps").replace(/^-$/, ""), file: session.file.slice(),
-      registers: `${registers} ret ${valueOf("ret").replace(/,/g, " ")}`,
+      cycles: session.elapsed, lamps: itemsOf(valueIn(state, "lamps")).join(""), file: session.file.slice(),
+      registers: `${registers} ret ${itemsOf(valueIn(state, "ret")).join(" ")}`,
       trace: lastInstructions(session, this.prepared.names),
     };
   }

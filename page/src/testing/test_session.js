@@ -2,7 +2,7 @@
 // run is counted before it is done.
 
 import { SEEN_QUESTION } from "../worker/seen_text.js";
-import { readCounter } from "../bench/answers.js";
+import { readCounter, readRegisters } from "../bench/answers.js";
 import { romCodes } from "../worker/rom_codes.js";
 import { LONGEST_RUN } from "../worker/key_queue.js";
 import { Answers, readTraced, valuesOf } from "../worker/tracing.js";
@@ -156,7 +156,7 @@ export class TestSession {
     const seen = needs.includes("seen") ? this.ask(SEEN_QUESTION) : [];
     const answers = this.ask(`${places.length > 0 ? `trace 1 ${places.join(" ")}\n` : ""}regs\n`);
     const values = places.length > 0 ? valuesOf(new Answers(answers).takeTrace().row) : [];
-    const [, , , , , , , owed, , , , test] = answers[answers.length - 1].split(" ", 12);
+    const { owed, test } = readRegisters(answers[answers.length - 1]);
     /** @type {Beside} */
     const beside = { test, owed, cycles: this.elapsed - this.marked, seen, printed: this.paper ? this.paper.words : [] };
     return { holds: condition.holds(values, beside), told: condition.tell(values, beside) };

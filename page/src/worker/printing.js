@@ -17,9 +17,6 @@ import { Answers, readTraced, valuesOf } from "./tracing.js";
 /** So many codes are kept: some hundred lines. */
 const MOST_CODES = 4000;
 
-/** @param {string} head of an answer to `trace` */
-const cyclesOf = (head) => Number(head.split(" ", 3)[2]);
-
 export class Printing {
   /** @param {Printed} printed */
   constructor({ strobe, port, codes }) {
@@ -89,7 +86,7 @@ export class Printing {
     let before = total;
     for (const answers of told) {
       if (answers.length === 0) continue;
-      const { row, lines } = new Answers(answers).takeTrace();
+      const { row, lines, cycles } = new Answers(answers).takeTrace();
       let [level] = valuesOf(row);
       for (const line of lines) {
         const traced = readTraced(line);
@@ -97,7 +94,7 @@ export class Printing {
         if (level === "0" && strobe === "1") this.codes.push([before + traced.cycles + 1, parseInt(code, 16)]);
         level = strobe;
       }
-      before += cyclesOf(answers[0]);
+      before += cycles;
     }
     this.codes.splice(0, this.codes.length - MOST_CODES);
   }

@@ -1,7 +1,7 @@
 // Whether a program's text is what stands in ROM: the text is assembled on a session of its own, which has all ROMs, and the bytes are
 // compared.
 
-import { readBoard, refusalOf } from "../bench/answers.js";
+import { readBoard, readMap, refusalOf } from "../bench/answers.js";
 import { matchAnswers, readInputs } from "../bench/inputs.js";
 import { upTo } from "../bench/numbers.js";
 import { ADDRESSES, NONE, PAGES, PAGE_BYTES, bytesOf, listsOf } from "../bench/rom_bytes.js";
@@ -58,10 +58,7 @@ export function readProgram(engine, text) {
  */
 function putBy(map) {
   const isPut = new Uint8Array(ADDRESSES);
-  for (const answer of map) {
-    const [kind, , address, size] = answer.split(" ");
-    if (kind === "line") isPut.fill(1, parseInt(address, 16), parseInt(address, 16) + Number(size));
-  }
+  for (const { address, size } of readMap(map).lines) isPut.fill(1, address, address + size);
   return isPut;
 }
 

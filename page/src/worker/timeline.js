@@ -3,6 +3,7 @@
 // told what comes to it (session/kept_past.js), and can give it back after a reload.
 
 import { Cancelled } from "../bench/faults.js";
+import { withoutSeq } from "../bench/state_line.js";
 import { CycleCount } from "./accepted.js";
 
 /**
@@ -276,7 +277,7 @@ function sumOf(numbers) {
  * @param {Uint8Array} file
  */
 function stateOf(engine, file) {
-  return engine.ask(file, "state\n").answers[0].replace(/ seq \d+/, "");
+  return withoutSeq(engine.ask(file, "state\n").answers[0]);
 }
 
 /**

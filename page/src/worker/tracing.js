@@ -6,16 +6,32 @@ import { readRun } from "../bench/answers.js";
  * An instruction that is told: how many cycles are done before it, its address, and the row of what is looked at after it, each value
  * after a blank.
  * @typedef {{ cycles: number, address: number, row: string }} Traced
+ * @typedef {{ address: number, begun: number, jumped: number }} Counted how often the instruction at an address is begun, and how often it
+ *   jumps, -1 for one that never does
  * @typedef {{ row: string, lines: string[], cycles: number }} Trace the row before the run, the lines of the instructions, its cycles
  * @typedef {{ cycles: number, end: string }} Ran how many cycles a run did, and what stopped it, "end" where nothing did
  */
 
 const HEAD = /^(?:trace|count) ran (\d+) \w+ lines (\d+)(.*)$/;
 
-/** @param {string} line */
+/**
+ * @param {string} line
+ * @returns {Traced}
+ */
 export function readTraced(line) {
   const blank = line.indexOf(" ");
   return { cycles: Number(line.slice(0, blank)), address: parseInt(line.slice(blank + 1, blank + 4), 16), row: line.slice(blank + 4) };
+}
+
+/**
+ * `00A 12`, or `00A 12 3` of an instruction that may jump.
+ * @param {string} line
+ * @returns {Counted}
+ */
+function readCounted(line) {
+  const blank = line.indexOf(" ", 4);
+  const begun = Number(blank < 0 ? line.slice(4) : line.slice(4, blank));
+  return { address: parseInt(line.slice(0, 3), 16), begun, jumped: blank < 0 ? -1 : Number(line.slice(blank + 1)) };
 }
 
 /**
@@ -69,9 +85,9 @@ export class Answers {
     return trace;
   }
 
-  /** How many instructions a run begins, by the answer to `count`. */
-  takeCount() {
-    return this.takeTrace().lines.reduce((sum, line) => sum + Number(line.split(" ", 2)[1]), 0);
+  /** What a run begins, by the answer to `count`. */
+  takeCounts() {
+    return this.takeTrace().lines.map(readCounted);
   }
 
   /**

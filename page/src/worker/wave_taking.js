@@ -1,5 +1,6 @@
 // What is taken of the bench's answers for a recording: the moments at which each line changes, and those at which each instruction begins.
 
+import { valueIn } from "../bench/state_line.js";
 import { Growing } from "../waves/growing.js";
 import { Track, emptyTrack } from "../waves/track.js";
 import { readTraced, valuesOf } from "./tracing.js";
@@ -119,16 +120,6 @@ function isSame(one, other, from, to) {
   return true;
 }
 
-/**
- * A value in the answer to `state`.
- * @param {string} state
- * @param {string} key
- */
-function fieldOf(state, key) {
-  const words = state.split(" ");
-  return words[words.indexOf(key, 1) + 1];
-}
-
 /** Takes the answers to its questions and to runs, and those to other commands. */
 export class WaveTaking {
   /** @param {WaveLine[]} lines */
@@ -162,7 +153,7 @@ export class WaveTaking {
    */
   begin(answers) {
     const state = answers.take();
-    this.isOwed = fieldOf(state, "owed") === "1";
+    this.isOwed = valueIn(state, "owed") === "1";
     this.takeState(state);
     answers.takeTrace();
     for (const group of this.groups) this.takeRow(group, answers.takeTrace().row, 0);
@@ -220,15 +211,15 @@ export class WaveTaking {
    * @param {string} state
    */
   takeState(state) {
-    const keys = `,${fieldOf(state, "keys")},`;
-    const test = Number(fieldOf(state, "test"));
+    const keys = `,${valueIn(state, "keys")},`;
+    const test = Number(valueIn(state, "test"));
     this.lines.forEach(({ kind, places }, member) => {
       if (kind === "key") this.tracks[member].set(Number(keys.includes(`,${places[0]},`)), this.elapsed);
       if (kind === "test") this.tracks[member].set(test, this.elapsed);
     });
     // Inside an instruction the counter is that of the next one.
-    if (fieldOf(state, "owed") === "0" || !this.hasBegun) {
-      this.takeInstruction(this.elapsed, parseInt(fieldOf(state, "pc"), 16));
+    if (valueIn(state, "owed") === "0" || !this.hasBegun) {
+      this.takeInstruction(this.elapsed, parseInt(valueIn(state, "pc"), 16));
     }
   }
 
