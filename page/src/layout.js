@@ -1,5 +1,6 @@
 // How the page is laid out: tabs and panels, as a user likes them, and how much room what stands above them leaves.
 
+import { TEXTS } from "./help/story.js";
 import { Choices } from "./ui/choices.js";
 import { block } from "./ui/dom.js";
 import { NARROW, makeFolds } from "./ui/folds.js";
@@ -9,9 +10,6 @@ import { Splitter } from "./ui/splitter.js";
 import { Tabs } from "./ui/tabs.js";
 
 /** @typedef {import("./print_view.js").Printed} Printed */
-
-/** The tabs of the texts, in their order. */
-const TEXTS = ["program", "board", "tests", "properties", "wiring", "waves"];
 
 export class Layout {
   /** @param {() => Printed} printed what is to be printed */

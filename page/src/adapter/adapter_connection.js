@@ -1,8 +1,9 @@
 // Requests, responses and events of the protocol of debug adapters over a stream: one request after the other, `initialize` first.
 
-import { MessageReader, framed } from "../server/framing.js";
-import { AdapterError, fieldOf, wordsOf } from "./protocol.js";
+import { MessageReader, fieldOf, framed } from "../server/framing.js";
+import { AdapterError, wordsOf } from "./protocol.js";
 import * as say from "../words/adapter.js";
+import { INITIALIZE_FIRST, INITIALIZE_ONCE, NOT_JSON, messageTooLong } from "../words/server.js";
 
 /** @typedef {(args: any) => unknown} Act what a request does: it gives the body of the response, or a promise of it */
 
@@ -35,7 +36,7 @@ export class AdapterConnection {
   take(bytes) {
     for (const received of this.reader.take(bytes)) {
       if ("text" in received) this.takeText(received.text);
-      else this.refuse(0, "", new AdapterError(say.messageTooLong(received.tooLong)));
+      else this.refuse(0, "", new AdapterError(messageTooLong(received.tooLong)));
     }
   }
 
@@ -46,7 +47,7 @@ export class AdapterConnection {
     try {
       message = JSON.parse(text);
     } catch {
-      this.refuse(0, "", new AdapterError(say.NOT_JSON));
+      this.refuse(0, "", new AdapterError(NOT_JSON));
       return;
     }
     const [seq, type, command] = ["seq", "type", "command"].map((name) => fieldOf(message, name));
@@ -66,8 +67,8 @@ export class AdapterConnection {
    * @param {string} command
    */
   faultOfOrder(command) {
-    if (!this.isOpen && command !== "initialize") return say.INITIALIZE_FIRST;
-    return this.isOpen && command === "initialize" ? say.INITIALIZE_ONCE : "";
+    if (!this.isOpen && command !== "initialize") return INITIALIZE_FIRST;
+    return this.isOpen && command === "initialize" ? INITIALIZE_ONCE : "";
   }
 
   /**

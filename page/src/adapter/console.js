@@ -4,11 +4,12 @@ import { FORMS } from "../bench/answer_table.js";
 import { readRun, refusalOf } from "../bench/answers.js";
 import { readInputs } from "../bench/inputs.js";
 import { putNames } from "../bench/names_in_lines.js";
-import { numberOf } from "../bench/numbers.js";
+import { LAST_ADDRESS, numberOf } from "../bench/numbers.js";
 import { keysOf } from "../testing/test_text.js";
 import { AdapterError, fail, wordsOf } from "./protocol.js";
 import { valueOfExpression } from "./values.js";
 import * as say from "../words/adapter.js";
+import { noKey } from "../words/testing.js";
 
 /**
  * @typedef {import("./machine.js").Machine} Machine
@@ -82,7 +83,7 @@ export class Console {
   keyOf(name) {
     const there = [...this.keys.keys()].join(" ");
     const key = this.keys.get(name);
-    return key || fail(say.noKey(name, there));
+    return key || fail(noKey(name, there));
   }
 
   /**
@@ -184,5 +185,5 @@ export function addressOf(text, { session }) {
   const number = /^[0-9A-Fa-f]{3}$/.test(word) && Number.isNaN(numberOf(word)) ? parseInt(word, 16) : numberOf(word);
   const named = Number.isNaN(number) ? session.map.valueOf(word) : number;
   if (named === undefined) return fail(say.noAddress(word));
-  return named <= 4095 ? named : fail(say.ADDRESS_RANGE);
+  return named <= LAST_ADDRESS ? named : fail(say.ADDRESS_RANGE);
 }

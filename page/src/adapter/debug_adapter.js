@@ -4,11 +4,13 @@
 //     const adapter = new DebugAdapter(new AdapterConnection(write), engine, dataOfPage, host);   (launching.js says what a host gives)
 //     connection.take(bytes) ..; await adapter.leave() where the client has gone
 
-import { hex } from "../bench/numbers.js";
+import { LAST_ADDRESS, hex } from "../bench/numbers.js";
 import { Face } from "../board/face.js";
 import { instructionOfLine } from "../debug/breakpoints.js";
 import { KINDS } from "../words/debug.js";
+import { standsAt } from "../words/stops.js";
 import { instructionsOf } from "../help/manual.js";
+import { fieldOf } from "../server/framing.js";
 import { Words } from "../bench/words.js";
 import { Followed } from "./adapter_connection.js";
 import { Answering } from "./answering.js";
@@ -16,7 +18,7 @@ import { ClientBreakpoints, dataOf, referenceOf } from "./client_breakpoints.js"
 import { Console, addressOf } from "./console.js";
 import { differenceWords, launch } from "./launching.js";
 import { Machine } from "./machine.js";
-import { NOT_STOPPED, fail, fieldOf, listOf, needNumber, needText, textOrNone } from "./protocol.js";
+import { NOT_STOPPED, fail, listOf, needNumber, needText, textOrNone } from "./protocol.js";
 import { Scopes } from "./scopes.js";
 import { ShownBoard, changeKey } from "./shown_board.js";
 import * as say from "../words/adapter.js";
@@ -355,7 +357,7 @@ export class DebugAdapter {
     this.needThread(args);
     const { machine, launched } = this.there;
     const address = needNumber(args, "targetId");
-    if (!(address >= 0 && address <= 4095)) fail(say.NO_TARGET);
+    if (!(address >= 0 && address <= LAST_ADDRESS)) fail(say.NO_TARGET);
     await launched.session.debugger.session.serve(`poke pc ${address}\n`, async () => true);
     await machine.stand();
     return new Followed(undefined, () => this.stopped(this.standing("goto")));
@@ -476,7 +478,7 @@ export class DebugAdapter {
    * @returns {Ended}
    */
   standing(reason) {
-    return { reason, words: say.standsAt(this.there.launched.session.counterWords), id: 0 };
+    return { reason, words: standsAt(this.there.launched.session.counterWords), id: 0 };
   }
 
   /** @param {Ended} ended */

@@ -2,6 +2,7 @@
 
 import { readListing, readRam } from "../bench/answers.js";
 import { LAST_ADDRESS, hex, upTo } from "../bench/numbers.js";
+import { MOST_LISTED } from "../bench/rom_bytes.js";
 
 /**
  * @typedef {import("../debug/debug_session.js").DebugSession} DebugSession
@@ -9,8 +10,6 @@ import { LAST_ADDRESS, hex, upTo } from "../bench/numbers.js";
  * @typedef {{ address: number, bytes: string, words: string, line: number, name: string }} Row `address` may be none of ROM; `line` is 0
  *   where the program has none
  */
-
-const PAGE = 256;
 
 /** @param {Listed} listed */
 const endOf = ({ address, line }) => address + (line.slice(7, 9).trim() === "" ? 1 : 2);
@@ -25,7 +24,7 @@ function listed(session, from, to) {
   /** @type {Listed[]} */
   const all = [];
   for (let address = from; address < to;) {
-    const some = readListing(session.debugger.session.ask(`list ${address} ${PAGE}\n`));
+    const some = readListing(session.debugger.session.ask(`list ${address} ${MOST_LISTED}\n`));
     all.push(...some.filter((each) => each.address < to));
     address = endOf(some[some.length - 1]);
   }

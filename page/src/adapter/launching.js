@@ -4,12 +4,13 @@ import { refusalOf } from "../bench/answers.js";
 import { hex } from "../bench/numbers.js";
 import { DebugSession } from "../debug/debug_session.js";
 import { PROJECT_FILE, readProjectToml } from "../project/project_toml.js";
+import { fieldOf } from "../server/framing.js";
 import { boardUriOf } from "../server/kinds.js";
 import { faultsOfLines, sentText } from "../text/text_fault.js";
 import { readProgram, differenceOf } from "../worker/program_check.js";
 import { sourceOfRom } from "../worker/sources.js";
 import { KeptSession } from "./kept_session.js";
-import { AdapterError, fieldOf, flagOf, textOrNone } from "./protocol.js";
+import { AdapterError, flagOf, textOrNone } from "./protocol.js";
 import * as say from "../words/adapter.js";
 
 /**

@@ -6,6 +6,7 @@ import { CYCLE_TIME } from "../time/cycles.js";
 import { Shown } from "./shown.js";
 import { fail, wordsOf } from "./protocol.js";
 import * as say from "../words/adapter.js";
+import { stoppedAt } from "../words/stops.js";
 
 /**
  * @typedef {import("../debug/debug_session.js").DebugSession} DebugSession
@@ -118,7 +119,7 @@ export class Machine {
     } catch (thrown) {
       const isPause = thrown instanceof Cancelled;
       if (!isPause) this.calls.output(`${wordsOf(thrown)}\n`, "stderr");
-      const words = isPause ? say.stoppedAt(this.session.counterWords) : wordsOf(thrown);
+      const words = isPause ? stoppedAt(this.session.counterWords) : wordsOf(thrown);
       ended = { reason: isPause ? "pause" : "exception", words, id: 0 };
     }
     this.isOpen = () => false;

@@ -1,6 +1,8 @@
 // What the protocol of debug adapters says of messages, and what is read out of their arguments.
 
+import { fieldOf } from "../server/framing.js";
 import * as say from "../words/adapter.js";
+import { isText } from "../words/server.js";
 
 /** What a request is answered in the place of a body. */
 export class AdapterError extends Error {
@@ -26,22 +28,13 @@ export function fail(words) {
 }
 
 /**
- * What an object of a message has by a name; undefined where it is none.
- * @param {any} value
- * @param {string} name
- */
-export function fieldOf(value, name) {
-  return typeof value === "object" && value !== null && !Array.isArray(value) ? value[name] : undefined;
-}
-
-/**
  * @param {any} from
  * @param {string} name
  * @returns {string}
  */
 export function needText(from, name) {
   const value = fieldOf(from, name);
-  return typeof value === "string" ? value : fail(say.isText(name));
+  return typeof value === "string" ? value : fail(isText(name));
 }
 
 /**

@@ -119,7 +119,7 @@ function lamps({ session, face, board }) {
   const marks = readMarks(session.debugger.session.ask("lamps\n")[0]).join("");
   return board.lamps.map((line, at) => {
     const name = (face.lamps.get(at) || { text: "" }).text.replace(/_/g, " ");
-    return { ...variable(name || `lamp ${at}`, marks[at] === "*" ? "on" : "off"), evaluateName: `lamp ${at}` };
+    return { ...variable(name || `lamp ${at}`, say.lampIs(marks[at] === "*")), evaluateName: `lamp ${at}` };
   });
 }
 
@@ -128,7 +128,7 @@ function keys({ standing, face, board }) {
   const down = new Set(standing.ports.keys);
   return keysOf(board, face).filter(({ legend }) => legend !== "").map(({ key, legend }) => {
     const isDown = key.startsWith("test ") ? standing.registers.test === key[5] : down.has(key.replace(" ", "."));
-    return { ...variable(legend, isDown ? "down" : "up"), place: `key ${key}` };
+    return { ...variable(legend, isDown ? say.DOWN : say.UP), place: `key ${key}` };
   });
 }
 

@@ -40,8 +40,8 @@ export function valueOf(text, session) {
 function linesFor(place, text, session) {
   if (place.startsWith("key ")) {
     const word = text.trim().toLowerCase();
-    if (word !== "down" && word !== "up") throw new AdapterError(say.KEY_IS);
-    return `${lineOfChange({ key: place.slice(4), word: word === "down" ? "press" : "release" })}\n`;
+    if (word !== say.DOWN && word !== say.UP) throw new AdapterError(say.KEY_IS);
+    return `${lineOfChange({ key: place.slice(4), word: word === say.DOWN ? "press" : "release" })}\n`;
   }
   const value = valueOf(text, session);
   if (value > mostOf(place)) throw new AdapterError(say.holds(place, mostOf(place)));

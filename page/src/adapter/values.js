@@ -30,7 +30,7 @@ function placeValue(text, { session, face }) {
   const place = placeOf(name);
   const value = place ? session.values([name])[0] : "";
   if (value === "" || !place) return "";
-  if (place.name.startsWith("lamp ")) return value === "*" ? "on" : "off";
+  if (place.name.startsWith("lamp ")) return say.lampIs(value === "*");
   return /^(acc|dcl|r\d+|ram\.\d\..*|st\..*|rom\d+|ram\d\.\d)$/.test(place.name) ? `0x${value}` : value;
 }
 

@@ -8,7 +8,7 @@
 /** @type {string[]} */
 const DEPENDENCE = ["lamp", "keys", "chain", "ram", "rom"];
 const MOST_PARTS = 400;
-const NOT_TOML = 20;
+export const NOT_TOML = 20;
 const UNKNOWN_KEY = 21;
 
 /**

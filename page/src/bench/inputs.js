@@ -4,7 +4,7 @@ import { FORMS } from "./answer_table.js";
 import { LAST_ADDRESS, numberOf } from "./numbers.js";
 
 /** Longer lines are refused whole. */
-const LONGEST_LINE = 255;
+export const LONGEST_LINE = 255;
 const ONE_WORD = /^[ \t]*([a-z]+)[ \t]*$/;
 
 /**

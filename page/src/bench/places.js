@@ -10,6 +10,10 @@ import { hex, numberOf, upTo } from "./numbers.js";
  *   where the board lacks it
  */
 
+/** A register of a RAM chip has so many characters, and so many status characters. */
+export const CHARACTERS = 16;
+export const STATUS = 4;
+
 /** @param {string[]} told */
 const first = ([told]) => told;
 

@@ -1,12 +1,14 @@
 // The bytes of ROM, by what `list` tells of them.
 
 import { readListing } from "./answers.js";
-import { hex, upTo } from "./numbers.js";
+import { LAST_ADDRESS, hex, upTo } from "./numbers.js";
 
-export const ADDRESSES = 4096;
+export const ADDRESSES = LAST_ADDRESS + 1;
 export const PAGE_BYTES = 256;
 /** The numbers of all ROMs. */
 export const PAGES = upTo(ADDRESSES / PAGE_BYTES);
+/** `list` gives so many lines at most. */
+export const MOST_LISTED = 256;
 /** What stands where no line tells a byte. */
 export const NONE = -1;
 

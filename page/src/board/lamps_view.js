@@ -181,7 +181,7 @@ export class LampsView {
       return node;
     });
     const list = element("ul", { className: named ? "group grid named" : "group grid" }, ...cells);
-    list.setAttribute("aria-label", "lamps");
+    list.setAttribute("aria-label", say.LAMPS);
     return list;
   }
 
@@ -202,7 +202,7 @@ export class LampsView {
     return rows.map(({ port, cells }) => {
       const list = element("ul", {}, ...cells);
       const told = this.face && this.face.ports.get(port);
-      list.setAttribute("aria-label", port || "lamps");
+      list.setAttribute("aria-label", port || say.LAMPS);
       if (!port) return element("div", { className: "lamp-row named" }, list);
       return element("div", { className: "lamp-row" }, element("b", { title: port }, told ? told.text : port), list);
     });

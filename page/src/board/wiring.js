@@ -144,7 +144,7 @@ class Uses {
  * @param {string} chip `rom1` or `ram0.2`
  */
 function linesOfPort(chip) {
-  return [0, 1, 2, 3].map((number) => ({ id: `${chip}.${number}`, line: `${chip}.${number}`, label: String(number) }));
+  return [0, 1, 2, 3].map((number) => ({ id: `${chip}.${number}`, line: `${chip}.${number}` }));
 }
 
 /**
@@ -180,8 +180,9 @@ function drawTest(column, test) {
  * @param {Uses} uses
  */
 function drawRom(column, { chip, port }, uses) {
-  const pins = linesOfPort(`rom${chip}`).map((pin, at) => ({ ...pin, label: `${port[3 - at] === "i" ? "in" : "out"} ${at}` }));
-  const says = pins.map(({ line, label }) => uses.say(say.lineOfPort(line, label.startsWith("in")), line));
+  const isInput = (/** @type {number} */ at) => port[3 - at] === "i";
+  const pins = linesOfPort(`rom${chip}`).map((pin, at) => ({ ...pin, label: say.portPin(isInput(at), at) }));
+  const says = pins.map(({ line }, at) => uses.say(say.lineOfPort(line, isInput(at)), line));
   return column.add({ id: `rom ${chip}`, kind: "rom", title: say.romTitle(chip), says }, [], pins);
 }
 
@@ -192,7 +193,7 @@ function drawRom(column, { chip, port }, uses) {
  * @param {Uses} uses
  */
 function drawRam(column, bank, chip, uses) {
-  const pins = linesOfPort(`ram${bank}.${chip}`).map((pin) => ({ ...pin, label: `out ${pin.label}` }));
+  const pins = linesOfPort(`ram${bank}.${chip}`).map((pin, at) => ({ ...pin, label: say.portPin(false, at) }));
   const says = pins.map(({ line }) => uses.say(say.lineOfPort(line, false), line));
   return column.add({ id: `ram ${bank}.${chip}`, kind: "ram", title: say.ramTitle(bank, chip), says }, [], pins);
 }
@@ -206,11 +207,11 @@ function drawRam(column, bank, chip, uses) {
  */
 function drawChain(column, { clock, data, chips }, at, uses) {
   const bits = Array.from({ length: BITS * chips }, (_, bit) => (
-    { id: `chain${at}.${bit}`, line: `chain${at}.${bit}`, label: `bit ${bit}` }));
+    { id: `chain${at}.${bit}`, line: `chain${at}.${bit}`, label: say.bitPin(bit) }));
   const used = bits.filter(({ line }) => uses.of(line).length > 0).sort((one, other) => uses.orderOf(one.line) - uses.orderOf(other.line));
   const free = bits.filter(({ line }) => uses.of(line).length === 0).slice(0, FREE_BITS);
   const says = [say.clockIs(clock), say.dataIs(data), ...used.map(({ line, label }) => uses.say(label, line))];
-  const inputs = [{ id: `clock ${at}`, line: clock, label: "clock" }, { id: `data ${at}`, line: data, label: "data" }];
+  const inputs = [{ id: `clock ${at}`, line: clock, label: say.CLOCK_PIN }, { id: `data ${at}`, line: data, label: say.DATA_PIN }];
   return column.add({ id: `chain ${at}`, kind: "chain", title: say.chainTitle(at, chips), says }, inputs, [...used, ...free]);
 }
 
@@ -220,8 +221,8 @@ function drawChain(column, { clock, data, chips }, at, uses) {
  */
 function drawKeys(column, { chain, first, rows, columns }) {
   const rowPins = Array.from({ length: rows }, (_, row) => (
-    { id: `row ${row}`, line: `chain${chain}.${first + row}`, label: `row ${row}` }));
-  const columnPins = columns.map((line, at) => ({ id: `column ${at}`, line, label: `column ${at}` }));
+    { id: `row ${row}`, line: `chain${chain}.${first + row}`, label: say.rowPin(row) }));
+  const columnPins = columns.map((line, at) => ({ id: `column ${at}`, line, label: say.columnPin(at) }));
   const says = [...rowPins.map(({ line, label }) => say.drivenBy(label, line)), ...columnPins.map(({ line, label }) => (
     say.readAt(label, line)))];
   return column.add({ id: "keys", kind: "keys", title: say.keysTitle(rows, columns.length), says }, [...rowPins, ...columnPins], []);
@@ -233,7 +234,7 @@ function drawKeys(column, { chain, first, rows, columns }) {
  * @param {Appearance} look
  */
 function drawLamps(column, lamps, { names, colours }) {
-  const pins = lamps.map((line, at) => ({ id: `lamp ${at}`, line, label: names[at] || `lamp ${at}`, colour: colours[at] || "red" }));
+  const pins = lamps.map((line, at) => ({ id: `lamp ${at}`, line, label: names[at] || say.lampPin(at), colour: colours[at] || "red" }));
   const says = pins.map(({ line, label }) => say.isAt(label, line));
   return column.add({ id: "lamps", kind: "lamps", title: say.lampsTitle(lamps.length), says }, pins, []);
 }

@@ -1,7 +1,7 @@
 // What one condition is about: of its words the places of `trace` that tell it, and how it is judged by what these are. Each kind is
 // written as in a test (docs/MANUAL.md, "The lines of a test").
 
-import { hex, numberOf, upTo } from "../bench/numbers.js";
+import { LAST_ADDRESS, hex, numberOf, upTo } from "../bench/numbers.js";
 import { DisplayText } from "../board/display_text.js";
 import { lampsOf, printerOf } from "../board/face_board.js";
 import { SeenText, hasScannedDisplay } from "../worker/seen_text.js";
@@ -34,7 +34,7 @@ export function fail(words) {
 const first = ([value]) => value;
 
 /** The largest value of a place, but for one of a register or of RAM. */
-const LARGEST = new Map([["cy", 1], ["test", 1], ["owed", 1], ["pc", 4095], ["dcl", 7]]);
+const LARGEST = new Map([["cy", 1], ["test", 1], ["owed", 1], ["pc", LAST_ADDRESS], ["dcl", 7]]);
 
 /** @param {string} place */
 export const largestOf = (place) => LARGEST.get(place) ?? 15;

@@ -5,7 +5,8 @@
 import { readRun } from "../bench/answers.js";
 import { withoutSeq } from "../bench/state_line.js";
 import { KeptFiles } from "./kept_files.js";
-import { runLines } from "./walks.js";
+import { MOST_ON } from "../debug/breakpoints.js";
+import { LONGEST_RUN, runLines } from "../worker/key_queue.js";
 import { Watcher } from "./watching.js";
 
 /**
@@ -20,8 +21,6 @@ import { Watcher } from "./watching.js";
 
 const MOST_STATES = 200000;
 const MOST_CHOICES = 16;
-const MOST_BREAKS = 32;
-const LONGEST_RUN = 100000;
 /** Forms whose properties remember nothing of time, nor of what was pressed. */
 const FORMS = new Set(["never", "always", "at", "reach", "reach at", "code", "calls", "returns"]);
 
@@ -96,7 +95,7 @@ export class AllStates {
     const hangsOnKeys = campaign.properties.some(({ condition }) => (
       condition !== null && condition.places.some((place) => inputs.includes(place.split(".")[0]))));
     const isMoved = (campaign.begin > 0 || campaign.from !== null) && campaign.canReset;
-    return breaks.length > 0 && breaks.length <= MOST_BREAKS && choices.length <= MOST_CHOICES && !hangsOnKeys && !isMoved;
+    return breaks.length > 0 && breaks.length <= MOST_ON && choices.length <= MOST_CHOICES && !hangsOnKeys && !isMoved;
   }
 
   /** @param {Start} start */

@@ -1,12 +1,15 @@
 // A text of properties: what may be changed on the board, what makes a state new, and what must hold. Its lines are in the manual
 // ("Looking for what breaks it").
 
+import { LONGEST_RUN } from "../worker/key_queue.js";
 import { hasScannedDisplay } from "../worker/seen_text.js";
 import { conditionOf } from "../debug/conditions.js";
 import { durationOf, wholeDuration } from "../debug/durations.js";
 import { keysOf, namesOfInputs, pinOf } from "./inputs.js";
 import { afterPress, always, alwaysOn, at, every, model, never, neverFor, once, onlyAfter, reach, reachAt } from "./properties.js";
+import { NO_DISPLAY, noLabel } from "../words/debug.js";
 import * as say from "../words/explore.js";
+import { noKey } from "../words/testing.js";
 
 /**
  * @typedef {import("./inputs.js").Input} Input
@@ -36,7 +39,6 @@ function fail(words) {
   throw new Unreadable(words);
 }
 
-const LONGEST_WAIT = 100000;
 const MOST_NOTES = 16;
 /** So many keys are down together at most, where nothing is said. */
 const TOGETHER = 2;
@@ -80,7 +82,7 @@ class Reader {
     const name = word.replace(/^@/, "");
     const found = this.names.map.names.get(name);
     return word.startsWith("@") && found && found.isLabel ? found.value
-      : fail(word.startsWith("@") ? say.noLabel(name) : say.labelForm(word));
+      : fail(word.startsWith("@") ? noLabel(name) : say.labelForm(word));
   }
 
   /** @param {string} name */
@@ -89,7 +91,7 @@ class Reader {
     const found = [...keysOf(face), pinOf(face)].find((each) => each.name === name && (each.isKey || face.test));
     if (found) return found;
     const there = namesOfInputs(face);
-    return fail(say.noKey(name, there.join(" ")));
+    return fail(noKey(name, there.join(" ")));
   }
 
   /** @param {Input} input */
@@ -144,7 +146,8 @@ const SETTINGS = {
   },
   wait: (reader, words) => {
     [reader.shortest, reader.longest] = twoTimes(words, say.WAIT_FORM);
-    if (reader.longest > LONGEST_WAIT || reader.shortest > reader.longest) fail(say.WAIT_FORM);
+    // A wait is one run.
+    if (reader.longest > LONGEST_RUN || reader.shortest > reader.longest) fail(say.WAIT_FORM);
   },
   held: (reader, words) => {
     const form = say.HELD_FORM;
@@ -241,7 +244,7 @@ const PROPERTIES = {
     if (reader.command) fail(say.MODEL_ALREADY);
     if (rest === "") fail(say.MODEL_FORM);
     if (!reader.names.face.groups.some(({ kind }) => kind === "display")) {
-      fail(say.NO_DISPLAY);
+      fail(NO_DISPLAY);
     }
     if (hasScannedDisplay(reader.names.face)) {
       fail(say.LIT_BY_TURNS);

@@ -1,11 +1,12 @@
 // What was run so far: of each address whether an instruction was begun there, whether it jumped, and whether it went on.
 
+import { ADDRESSES } from "../bench/rom_bytes.js";
+
 /** @typedef {import("./subject.js").Instruction} Instruction */
 
 const BEGUN = 1;
 const JUMPED = 2;
 const WENT_ON = 4;
-const ADDRESSES = 4096;
 
 export class Coverage {
   /** @param {string} [told] of another one */

@@ -1,8 +1,9 @@
 // What comes of looking for what breaks properties: a row for each of them, with what was found; and what was run of the program.
 
-import { Cell, Switch, below, block, element, onClick } from "../ui/dom.js";
+import { Cell, Switch, below, block, buttonOf, element } from "../ui/dom.js";
 import { coverageOf, markOf, wordsOfFigures, wordsOfProperty } from "../words/explored.js";
 import * as say from "../words/explore.js";
+import { wordsOfLine } from "../words/stops.js";
 
 /**
  * @typedef {import("./report.js").Report} Report
@@ -17,17 +18,6 @@ import * as say from "../words/explore.js";
 /** So many lines that were never run are shown. */
 const MOST_LINES = 60;
 
-/**
- * @param {string} text
- * @param {() => void} act
- * @param {Record<string, unknown>} [properties]
- */
-function buttonOf(text, act, properties = {}) {
-  const made = element("button", { type: "button", ...properties }, text);
-  onClick(made, act);
-  return made;
-}
-
 /** The row of a property. What was found is put in once, so that nothing that is used there goes away under the hand. */
 class Row {
   /**
@@ -40,7 +30,7 @@ class Row {
     this.calls = calls;
     const mark = element("b", {});
     const words = element("span", { className: "time" });
-    const name = line > 0 ? buttonOf(text, () => calls.goTo(line), { className: "name", title: `line ${line}` })
+    const name = line > 0 ? buttonOf(text, () => calls.goTo(line), { className: "name", title: wordsOfLine(line) })
       : element("span", {}, text);
     this.node = element("li", {}, element("p", {}, mark, " ", name, " ", words));
     this.mark = new Cell(mark);

@@ -2,8 +2,9 @@
 
 import { readMarks } from "../bench/answers.js";
 import { hex } from "../bench/numbers.js";
+import { runLines } from "../worker/key_queue.js";
 import { Answers, valuesOf } from "../worker/tracing.js";
-import { linesOf, runLines } from "./walks.js";
+import { linesOf } from "./walks.js";
 import * as say from "../words/explore.js";
 
 /**

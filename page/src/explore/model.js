@@ -4,7 +4,8 @@
 
 import { readMarks } from "../bench/answers.js";
 import { conditionOf } from "../debug/conditions.js";
-import { lineOf, runLines, upToRandom } from "./walks.js";
+import { lineOf, upToRandom } from "./walks.js";
+import { runLines } from "../worker/key_queue.js";
 
 /**
  * @typedef {import("./campaign.js").Campaign} Campaign

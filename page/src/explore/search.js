@@ -7,9 +7,11 @@ import { Coverage } from "./coverage.js";
 import { KeptFiles } from "./kept_files.js";
 import { Looks } from "./looks.js";
 import { Told } from "./places.js";
-import { chooseStep, downAfter, downAtFirst, lineOf, linesOf, randomFrom, runLines } from "./walks.js";
+import { chooseStep, downAfter, downAtFirst, lineOf, linesOf, randomFrom } from "./walks.js";
 import { sinceAfter, sinceAtFirst, upToRandom } from "./walks.js";
 import { Watcher } from "./watching.js";
+import { MOST_ON } from "../debug/breakpoints.js";
+import { LONGEST_RUN, runLines } from "../worker/key_queue.js";
 
 /**
  * @typedef {import("./campaign.js").Campaign} Campaign
@@ -40,9 +42,6 @@ const WATCHED = 32;
 const CANDIDATES = 3;
 /** Half of all walks begin at one of the states that were kept last. */
 const LAST_STATES = 6;
-const LONGEST_RUN = 100000;
-/** So many breakpoints the bench takes. */
-const MOST_STOPS = 32;
 
 export class Search {
   /**
@@ -221,7 +220,7 @@ export class Search {
    */
   get stops() {
     const { properties } = this.campaign;
-    return [...new Set(this.ofLabels.map((at) => properties[at]).filter(stopsAtLabel).map(({ address }) => address))].slice(0, MOST_STOPS);
+    return [...new Set(this.ofLabels.map((at) => properties[at]).filter(stopsAtLabel).map(({ address }) => address))].slice(0, MOST_ON);
   }
 
   /**

@@ -1,5 +1,6 @@
 // A find made short: steps are left out, waits are made shorter, as long as the same property is broken.
 
+import { LONGEST_RUN } from "../worker/key_queue.js";
 import { Watcher } from "./watching.js";
 import { downAfter, downAtFirst, heldAfter, isSound } from "./walks.js";
 
@@ -10,7 +11,6 @@ import { downAfter, downAtFirst, heldAfter, isSound } from "./walks.js";
  * @typedef {import("./walks.js").WalkStep} WalkStep
  */
 
-const LONGEST_IDLE = 100000;
 /** A step takes as long as so many cycles, beside those of its wait. */
 const COST_OF_STEP = 500;
 /** So many cycles more are tried. */
@@ -105,8 +105,8 @@ export class Shortening {
     for (const [at, step] of this.steps.entries()) {
       waited += step.wait;
       if (isOut(at)) continue;
-      // With nothing down, time may pass for longer.
-      if (waited > (down.length > 0 ? campaign.longest : LONGEST_IDLE)) return null;
+      // With nothing down, time may pass for longer; a wait is one run.
+      if (waited > (down.length > 0 ? campaign.longest : LONGEST_RUN)) return null;
       kept.push({ ...step, wait: waited });
       down = downAfter(down, step);
       waited = 0;

@@ -5,7 +5,7 @@ import { matchAnswers, readInputs } from "../bench/inputs.js";
 import { Face } from "../board/face.js";
 import { SourceMap } from "../machine/source_map.js";
 import { sentText } from "../text/text_fault.js";
-import { romCodes } from "../worker/rom_codes.js";
+import { hasWays, romCodes } from "../worker/rom_codes.js";
 import * as say from "../words/explore.js";
 
 /**
@@ -31,11 +31,6 @@ export class TextRefused extends Error {
     this.number = number;
     this.line = line;
   }
-}
-
-/** @param {number} code */
-function hasWays(code) {
-  return code >> 4 === 0x1 || code >> 4 === 0x7;
 }
 
 /**

@@ -1,5 +1,7 @@
 // Walks: waits, and what is changed after each of them.
 
+import { runLines } from "../worker/key_queue.js";
+
 /**
  * @typedef {import("./campaign.js").Campaign} Campaign
  *
@@ -162,16 +164,6 @@ export function heldAfter(campaign, steps) {
 export function lineOf({ inputs }, { kind, input }) {
   if (kind === "none") return "";
   return kind === "reset" ? "reset\n" : `${kind === "down" ? inputs[input].down : inputs[input].up}\n`;
-}
-
-/**
- * A run of any length, in runs that the bench takes.
- * @param {number} cycles
- */
-export function runLines(cycles) {
-  let lines = "";
-  for (let left = cycles; left > 0; left -= 100000) lines += `run ${Math.min(left, 100000)}\n`;
-  return lines;
 }
 
 /**

@@ -1,7 +1,7 @@
 // A walk that is looked at instruction by instruction: what its properties look at is traced, what it begins is counted, and each property
 // is told what happens, in the order of time. Looked at so is each walk that brought something new, and one of some others.
 
-import { isCall, isReturn } from "../worker/rom_codes.js";
+import { cyclesOf, isCall, isReturn } from "../worker/rom_codes.js";
 import { readTraced } from "../worker/tracing.js";
 import { Places, Told } from "./places.js";
 import { downAfter, lineOf } from "./walks.js";
@@ -28,15 +28,6 @@ import { downAfter, lineOf } from "./walks.js";
  * @typedef {{ values: string[], changes: Change[], counts: Counted[], ran: string,
  *   list: { cycles: number, address: number }[] | null }} StepTold
  */
-
-/**
- * How many cycles an instruction takes, by its code: two have those with an address or a byte behind them, and FIN.
- * @param {number} code
- */
-export function cyclesOfCode(code) {
-  const kind = code >> 4;
-  return [0x1, 0x4, 0x5, 0x7].includes(kind) || ((kind === 0x2 || kind === 0x3) && code % 2 === 0) ? 2 : 1;
-}
 
 export class Watcher {
   /**
@@ -210,7 +201,7 @@ class Walk {
     if (this.broken) return;
     this.values = from === 0 && values.length === this.values.length ? values
       : [...this.values.slice(0, from), ...values, ...this.values.slice(from + values.length)];
-    const time = began + Math.min(end, cycles + cyclesOfCode(codes[address]));
+    const time = began + Math.min(end, cycles + cyclesOf(codes[address]));
     this.tell("values", time);
     if (tellsCalls) this.tellCall(address, time);
   }
@@ -238,7 +229,7 @@ class Walk {
       if (this.broken) return;
       if (labels.has(address)) this.tell("label", began + cycles, address);
       for (; next < changes.length && changes[next].cycles <= cycles; next++) this.tellChange(changes[next], began, end, false);
-      this.tellCall(address, began + Math.min(end, cycles + cyclesOfCode(codes[address])));
+      this.tellCall(address, began + Math.min(end, cycles + cyclesOf(codes[address])));
     }
     for (; next < changes.length; next++) this.tellChange(changes[next], began, end, false);
   }

@@ -16,7 +16,7 @@
  * @typedef {{ name: ActName, of: string }} Act
  */
 
-/** What can be shown: texts, which have tabs, and panels. */
+/** What can be shown: texts, which have tabs in this order, and panels. */
 export const TEXTS = ["program", "board", "tests", "properties", "wiring", "waves"];
 export const PANELS = ["front", "processor", "listing", "memory", "ports"];
 

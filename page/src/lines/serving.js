@@ -3,7 +3,9 @@
 import { refusalOf } from "../bench/answers.js";
 import { Cancelled } from "../bench/faults.js";
 import { putNames } from "../bench/names_in_lines.js";
+import { lineEnded } from "../words/debug.js";
 import * as say from "../words/page.js";
+import { stoppedAt } from "../words/stops.js";
 
 /**
  * @typedef {import("../worker/worker_session.js").Answered} Answered
@@ -68,7 +70,7 @@ export class Serving {
     const { id, cut, cycles, tally } = told.typed;
     calls.counted(tally);
     if (id !== 0 && !calls.isRunning()) {
-      calls.tell(say.lineEnded(calls.reasonOf({ why: "break", id, cycles, returns: false }), cut));
+      calls.tell(lineEnded(calls.reasonOf({ why: "break", id, cycles, returns: false }), cut));
     }
     return told.first;
   }
@@ -118,6 +120,6 @@ export class Serving {
     const isRunning = calls.isRunning();
     if (isReset) calls.forgetGoal();
     if (isReset) calls.tell(isRunning ? say.RESET_RUNNING : say.wasReset(counter));
-    else if (counter !== before && !isRunning) calls.tell(say.stoppedAt(counter));
+    else if (counter !== before && !isRunning) calls.tell(stoppedAt(counter));
   }
 }

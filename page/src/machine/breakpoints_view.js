@@ -2,7 +2,7 @@
 // logged.
 
 import { wordsOfCycles } from "../time/cycles.js";
-import { wordsOfAddress } from "../words/stops.js";
+import { wordsOfAddress, wordsOfLine } from "../words/stops.js";
 import { Cell, Switch, block, button, element, onClick } from "../ui/dom.js";
 import { countOf, counted, hex } from "../bench/numbers.js";
 import { markOf } from "./breakpoint_marks.js";
@@ -36,7 +36,7 @@ const MOST_HITS = 999999999;
  */
 export function whereBreakpointIs({ line, address }, map) {
   if (map && address >= 0) return wordsOfAddress(hex(address, 3), map);
-  return line > 0 ? `line ${line}` : hex(address, 3);
+  return line > 0 ? wordsOfLine(line) : hex(address, 3);
 }
 
 /**
@@ -118,13 +118,13 @@ export class BreakpointsView {
    * @returns {Row}
    */
   makeRow(id, keeper) {
-    const isOn = element("input", { "type": "checkbox", "aria-label": "on", "autocomplete": "off" });
+    const isOn = element("input", { "type": "checkbox", "aria-label": say.ON, "autocomplete": "off" });
     const [mark, where, hits, fault] = [element("i", { "aria-hidden": "true" }), element("button", { type: "button", className: "place" }),
       element("span", { className: "hits" }), element("p", { className: "fault", role: "alert" })].map((node) => new Cell(node));
     const words = say.STOPS_WHERE;
-    const condition = makeField("where", say.SUCH_AS_CONDITION, 12, words);
+    const condition = makeField(say.WHERE, say.SUCH_AS_CONDITION, 12, words);
     const from = makeField(say.FROM_HIT, "1", 3, say.STOPS_FROM_HIT);
-    const note = makeField("log", say.SUCH_AS_NOTE, 12, say.LOGGED);
+    const note = makeField(say.LOG, say.SUCH_AS_NOTE, 12, say.LOGGED);
     const remove = element("button", { "type": "button", "aria-label": say.REMOVE_BREAKPOINT, "title": say.REMOVES_IT }, "\u00D7");
     const root = element("li", {}, element("div", { className: "bar" }, isOn, mark.node, where.node, hits.node, remove),
       element("div", { className: "words" }, condition.label, from.label, note.label), fault.node);
@@ -172,7 +172,7 @@ export class BreakpointsView {
     const lines = notes.slice(-MOST_NOTES).map(({ id, cycles, words }) => {
       const found = keeper.list.get(id);
       const where = found ? whereBreakpointIs(found, keeper.map) : "";
-      return element("p", { title: `at ${wordsOfCycles(cycles)}` }, element("b", {}, where), ` ${words}`);
+      return element("p", { title: say.loggedAt(wordsOfCycles(cycles)) }, element("b", {}, where), ` ${words}`);
     });
     const more = (noted - notes.length).toLocaleString("en");
     if (noted > notes.length) lines.unshift(element("p", { className: "hint" }, say.moreNotes(more)));

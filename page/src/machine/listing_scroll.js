@@ -1,6 +1,7 @@
 // The scrolling of the listing: a box as high as all 4,096 bytes together, in which only the rows that are seen exist. The scroll bar, the
 // wheel and a finger move it as the browser does; keys go from row to row and from page to page.
 
+import { ADDRESSES } from "../bench/rom_bytes.js";
 import { element } from "../ui/dom.js";
 
 /**
@@ -9,7 +10,6 @@ import { element } from "../ui/dom.js";
  *   wentTo: (end: "first" | "last") => void }} ScrollCalls
  */
 
-const BYTES = 4096;
 /** The height of a row where none has been laid out, in pixels. */
 const USUAL_HEIGHT = 20;
 
@@ -38,7 +38,7 @@ export class ListingScroll {
     if (clientHeight === 0) return;
     const row = this.rows.firstElementChild;
     this.rowHeight = (row instanceof HTMLElement && row.offsetHeight) || USUAL_HEIGHT;
-    this.length.style.setProperty("height", `${BYTES * this.rowHeight}px`);
+    this.length.style.setProperty("height", `${ADDRESSES * this.rowHeight}px`);
     this.calls.resized(Math.max(1, Math.floor(clientHeight / this.rowHeight)));
   }
 

@@ -2,6 +2,7 @@
 // that it is in step with the program only where one of its lines begins at an address that is known to begin an instruction.
 
 import { upTo } from "../bench/numbers.js";
+import { ADDRESSES, MOST_LISTED } from "../bench/rom_bytes.js";
 
 /**
  * @typedef {import("../bench/answers.js").Listed} Listed
@@ -10,12 +11,9 @@ import { upTo } from "../bench/numbers.js";
  * @typedef {{ from: number, anchor: number | null }} Goal
  */
 
-const BYTES = 4096;
 /** A sweep falls into step within some instructions, so that it begins so many bytes early; where it does not, it begins a byte later. */
 const BYTES_BEFORE = 12;
 const TRIES = 4;
-/** `list` gives so many lines at most. */
-const MOST_LISTED = 256;
 
 /**
  * Where lists begin, the best one first; the last one begins at the anchor itself.
@@ -24,7 +22,7 @@ const MOST_LISTED = 256;
  */
 export function beginningsOf({ from, anchor }, rows) {
   // At the end of the ROM the last lines fill the stretch, each of one or two bytes.
-  const base = Math.min(from, BYTES - 2 * rows) - BYTES_BEFORE;
+  const base = Math.min(from, ADDRESSES - 2 * rows) - BYTES_BEFORE;
   const starts = upTo(TRIES).map((later) => Math.max(0, base + later));
   if (anchor !== null) starts.push(anchor);
   return [...new Set(starts)];

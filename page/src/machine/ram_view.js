@@ -2,6 +2,7 @@
 
 import { Cell, block, element, oneStop, pressedSwitch, setStop } from "../ui/dom.js";
 import { hex, upTo } from "../bench/numbers.js";
+import { CHARACTERS, STATUS } from "../bench/places.js";
 import * as say from "../words/machine.js";
 
 /**
@@ -14,9 +15,6 @@ import * as say from "../words/machine.js";
  * @typedef {{ bank: number, chip: number, register: number }} Register where a register is
  * @typedef {{ characters: Cell[], status: Cell[], names: HTMLElement, shown: string }} ShownRegister
  */
-
-const CHARACTERS = 16;
-const STATUS = 4;
 
 /** @param {Register} register */
 function wordsOf({ bank, chip, register }) {
@@ -34,7 +32,7 @@ function namesIn(register, names) {
   /** @type {(place: string, label: string) => string[]} */
   const told = (place, label) => (names.get(place) || []).map((name) => `${label} ${name}`);
   return [
-    ...upTo(CHARACTERS).flatMap((each) => told(`ram.${bank}.0x${hex(at * 16 + each, 2)}`, hex(each, 1))),
+    ...upTo(CHARACTERS).flatMap((each) => told(`ram.${bank}.0x${hex(at * CHARACTERS + each, 2)}`, hex(each, 1))),
     ...upTo(STATUS).flatMap((each) => told(`st.${bank}.${at}.${each}`, `status ${each}`)),
   ];
 }

@@ -2,6 +2,7 @@
 
 import { readMap } from "../bench/answers.js";
 import { hex } from "../bench/numbers.js";
+import { ADDRESSES } from "../bench/rom_bytes.js";
 import * as say from "../words/machine.js";
 
 /**
@@ -9,7 +10,6 @@ import * as say from "../words/machine.js";
  * @typedef {{ name: string, value: number, isLabel: boolean }} Name
  */
 
-const ADDRESSES = 4096;
 const LABEL = /^[ \t]*([A-Za-z_][A-Za-z0-9_]*)[ \t]*:/;
 const DATA = /^([ \t]*[A-Za-z_][A-Za-z0-9_]*[ \t]*:)?[ \t]*DB[ \t]/i;
 

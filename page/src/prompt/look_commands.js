@@ -1,9 +1,11 @@
 // Commands that show what stands in the session, and change nothing.
 
 import { valueOfExpression } from "../adapter/values.js";
+import { LAST_ADDRESS } from "../bench/numbers.js";
 import { commandOf, helpOf } from "./command_table.js";
 import * as looks from "./looks.js";
 import { addressIn, countIn, instructionIn, refuse } from "./words_of_line.js";
+import { MADE_OF_ROM } from "../words/adapter.js";
 import * as say from "../words/prompt.js";
 
 /**
@@ -103,7 +105,7 @@ export class LookCommands {
     const many = countIn(count, MOST_SHOWN);
     if (/^ram\./i.test(where)) return calls.print(looks.characterLines(session, where, many));
     const address = where === "" ? session.address : addressIn(where, session);
-    if (address === undefined || address > 4095) return refuse(say.noPlaceOfMemory(where));
+    if (address === undefined || address > LAST_ADDRESS) return refuse(say.noPlaceOfMemory(where));
     return calls.print(looks.codeLines(session, address, many));
   }
 
@@ -135,7 +137,7 @@ export class LookCommands {
       watches: () => breakpoints.watches,
       display: () => this.displays.map((what, at) => `${at + 1}: ${what}`).join("\n") || say.NOTHING_DISPLAYED,
       names: () => looks.nameLines(session),
-      source: () => say.linesOf(launched.program || say.MADE_OF_ROM, looks.linesOfSource(session)),
+      source: () => say.linesOf(launched.program || MADE_OF_ROM, looks.linesOfSource(session)),
       session: () => (launched.kept ? say.SESSION_FILE : say.IN_MEMORY),
     };
     const found = INFOS.filter((kind) => rest !== "" && kind.startsWith(rest));

@@ -4,6 +4,7 @@ import { callsOpen } from "./looks.js";
 import { backOver, pressed } from "./moves.js";
 import { countIn, cyclesIn, instructionIn, refuse } from "./words_of_line.js";
 import * as say from "../words/prompt.js";
+import { standsAt } from "../words/stops.js";
 
 /**
  * @typedef {import("./prompt.js").Act} Act
@@ -112,6 +113,6 @@ export class MoveCommands {
       prompt.tellStop(left === "" ? words : say.notPressed(words, left));
       return;
     }
-    prompt.tellStop(say.standsAt(session.counterWords));
+    prompt.tellStop(standsAt(session.counterWords));
   }
 }

@@ -19,7 +19,9 @@ import { INFOS, LookCommands } from "./look_commands.js";
 import { hereLine } from "./looks.js";
 import { MoveCommands } from "./move_commands.js";
 import { refuse } from "./words_of_line.js";
+import { boardHasNo } from "../words/adapter.js";
 import * as say from "../words/prompt.js";
+import { standsAt } from "../words/stops.js";
 
 /**
  * @typedef {import("../adapter/launching.js").Launched} Launched
@@ -86,7 +88,7 @@ export class Prompt {
   async begin() {
     this.breakpoints.takeOwn();
     await this.session.applyBreakpoints();
-    this.tellStop(say.standsAt(this.session.counterWords));
+    this.tellStop(standsAt(this.session.counterWords));
   }
 
   /** Others have a turn. Where nobody can stop what has no end, it ends after a while. */
@@ -172,7 +174,7 @@ export class Prompt {
     const lamp = this.face.lampNumbers.get(text.replace(/ /g, "_"));
     const place = placeOf(lamp === undefined ? text : `lamp ${lamp}`);
     if (!place) return refuse(say.noPlace(text, PLACES_TOLD));
-    return this.session.values([place.name])[0] === "" ? refuse(say.boardHasNo(place.name)) : place.name;
+    return this.session.values([place.name])[0] === "" ? refuse(boardHasNo(place.name)) : place.name;
   }
 
   // --- completion ---

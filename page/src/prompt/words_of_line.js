@@ -1,8 +1,9 @@
 // What stands behind a command: places in the program, counts, times.
 
-import { hex, numberOf } from "../bench/numbers.js";
+import { LAST_ADDRESS, hex, numberOf } from "../bench/numbers.js";
 import { wholeDuration } from "../debug/durations.js";
 import { instructionOfAddress, instructionOfLine } from "../debug/breakpoints.js";
+import { ADDRESS_RANGE } from "../words/adapter.js";
 import * as say from "../words/prompt.js";
 
 /**
@@ -51,7 +52,7 @@ export function instructionIn(text, session) {
   }
   const address = addressIn(words, session);
   if (address === undefined) refuse(say.notInProgram(words, say.FORMS_IN_PROGRAM));
-  if (address > 4095) refuse(say.ADDRESS_RANGE);
+  if (address > LAST_ADDRESS) refuse(ADDRESS_RANGE);
   return { line: instructionOfAddress(address, session.map).line, address };
 }
 

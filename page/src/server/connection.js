@@ -1,8 +1,7 @@
 // Requests, answers and notifications over a stream, in the order of the protocol: first `initialize`, last `shutdown` and `exit`.
 
-import { MessageReader, framed } from "./framing.js";
-import { CANCELLED, INTERNAL_ERROR, INVALID_REQUEST, METHOD_NOT_FOUND, NOT_INITIALIZED, PARSE_ERROR } from "./protocol.js";
-import { ProtocolError, fieldOf } from "./protocol.js";
+import { MessageReader, fieldOf, framed } from "./framing.js";
+import { CANCELLED, INTERNAL_ERROR, INVALID_REQUEST, METHOD_NOT_FOUND, NOT_INITIALIZED, PARSE_ERROR, ProtocolError } from "./protocol.js";
 import * as say from "../words/server.js";
 
 /**

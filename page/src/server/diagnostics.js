@@ -1,7 +1,7 @@
 // Faults of a text as editors take them, and what cures them.
 
 import { MOST_FAULTS } from "../text/program_faults.js";
-import { LONGEST_KEPT } from "../text/text_fault.js";
+import { LONGEST_KEPT, TEXT_TOO_LONG } from "../text/text_fault.js";
 import { rangeOf } from "./protocol.js";
 import * as say from "../words/server.js";
 
@@ -15,7 +15,6 @@ const ERROR = 1;
 const WARNING = 2;
 const INFORMATION = 3;
 const SOURCE = "mcs4";
-const TEXT_TOO_LONG = 13;
 
 /**
  * A fault without a number does not hinder anything in the board's text: what is not understood of its face.

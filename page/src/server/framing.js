@@ -1,4 +1,4 @@
-// Messages as they go over a stream: a head that says how many bytes follow, and these.
+// Messages as they go over a stream: a head that says how many bytes follow, and these; and what stands in one.
 
 import * as say from "../words/server.js";
 
@@ -94,4 +94,13 @@ export function framed(message) {
   bytes.set(head);
   bytes.set(body, head.length);
   return bytes;
+}
+
+/**
+ * What an object of a message has by a name; undefined where it is none.
+ * @param {any} value
+ * @param {string} name
+ */
+export function fieldOf(value, name) {
+  return typeof value === "object" && value !== null && !Array.isArray(value) ? value[name] : undefined;
 }

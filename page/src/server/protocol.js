@@ -1,5 +1,6 @@
 // What the protocol of language servers says of messages: their form, and the numbers of their errors.
 
+import { fieldOf } from "./framing.js";
 import * as say from "../words/server.js";
 
 /**
@@ -40,15 +41,6 @@ export class ProtocolError extends Error {
  */
 export function rangeOf(line, from, to) {
   return { start: { line: line - 1, character: from }, end: { line: line - 1, character: to } };
-}
-
-/**
- * What an object of a message has by a name; undefined where it is none.
- * @param {any} value
- * @param {string} name
- */
-export function fieldOf(value, name) {
-  return typeof value === "object" && value !== null && !Array.isArray(value) ? value[name] : undefined;
 }
 
 /**

@@ -2,8 +2,9 @@
 // jumps, the cycles of each, how long each call takes until it comes back, and how long a lamp takes after a key. tools/lib/cover.awk and
 // profile.awk count the same.
 
+import { ADDRESSES } from "../bench/rom_bytes.js";
 import { readTraced } from "../worker/tracing.js";
-import { isCall, isReturn } from "../worker/rom_codes.js";
+import { cyclesOf, isCall, isReturn } from "../worker/rom_codes.js";
 
 /**
  * @typedef {import("../worker/tracing.js").Answers} Answers
@@ -14,26 +15,8 @@ import { isCall, isReturn } from "../worker/rom_codes.js";
  * @typedef {{ at: number, entered: number }} Entered a routine, and when it was entered
  */
 
-const ADDRESSES = 4096;
 /** The 4004 keeps three return addresses. */
 export const MOST_LEVELS = 3;
-
-/**
- * JUN, JMS, JCN, ISZ and FIM have two words.
- * @param {number} code
- */
-export function wordsOf(code) {
-  const high = code >> 4;
-  return high === 1 || high === 4 || high === 5 || high === 7 || (high === 2 && code % 2 === 0) ? 2 : 1;
-}
-
-/**
- * FIN has one word, and takes two cycles, too.
- * @param {number} code
- */
-export function cyclesOf(code) {
-  return wordsOf(code) === 2 || (code >> 4 === 3 && code % 2 === 0) ? 2 : 1;
-}
 
 export class Account {
   /** @param {Uint8Array} codes what stands in ROM */

@@ -1,5 +1,6 @@
 // Which lines of a program were run, by the counts of an account: each with its count and, for a conditional jump, its ways.
 
+import { hasWays } from "../worker/rom_codes.js";
 import * as say from "../words/testing.js";
 
 /**
@@ -9,14 +10,6 @@ import * as say from "../words/testing.js";
  * @typedef {{ from: number, to: number }} Stretch lines below each other that were never run
  * @typedef {{ lines: Covered[], instructions: number, run: number, ways: number, waysRun: number, never: Stretch[] }} Coverage
  */
-
-/**
- * JCN and ISZ.
- * @param {number} code
- */
-function isJump(code) {
-  return code >> 4 === 1 || code >> 4 === 7;
-}
 
 /**
  * The lines that are instructions; one of bytes (DB) counts where it was run.
@@ -30,8 +23,8 @@ function coveredLines({ codes, runs, taken }, map) {
   for (let line = 1; line <= map.count; line++) {
     const address = map.addressOf(line);
     if (address === undefined || !(map.beginsInstruction(address) || runs[address] > 0)) continue;
-    const jumps = map.sizes[line] === 2 && isJump(codes[address]);
-    lines.push({ line, count: runs[address], isJump: jumps, taken: jumps ? taken[address] : 0 });
+    const isJump = map.sizes[line] === 2 && hasWays(codes[address]);
+    lines.push({ line, count: runs[address], isJump, taken: isJump ? taken[address] : 0 });
   }
   return lines;
 }
@@ -43,7 +36,7 @@ function coveredLines({ codes, runs, taken }, map) {
  */
 export function coverageOf(account, map) {
   const lines = coveredLines(account, map);
-  const jumps = lines.filter(({ isJump: jumpsHere }) => jumpsHere);
+  const jumps = lines.filter(({ isJump }) => isJump);
   /** @type {Stretch[]} */
   const never = [];
   let isOpen = false;

@@ -2,6 +2,7 @@
 
 import { Unreadable, largestOf, placesOf, valueOf } from "../debug/condition_terms.js";
 import { numberOf } from "../bench/numbers.js";
+import { holds } from "../words/debug.js";
 import * as say from "../words/testing.js";
 
 /**
@@ -37,7 +38,7 @@ export function readSetting(words, names, fail) {
     const changesRom = romAddress(place, names, fail) >= 0;
     if (!changesRom) placesOf(place, 1, names, say.AND_ROM);
     const most = changesRom ? LARGEST_BYTE : largestOf(place);
-    if (!(value <= most)) fail(say.holds(place, most, word));
+    if (!(value <= most)) fail(holds(place, most, word));
     return { command: place === "test" ? `test ${value}` : `poke ${place} ${value}`, changesRom };
   } catch (fault) {
     if (fault instanceof Unreadable) fail(fault.message);

@@ -4,7 +4,7 @@ import { counted, hex } from "../bench/numbers.js";
 import { itemsOf, valueIn } from "../bench/state_line.js";
 import { LONGEST_RUN } from "../worker/key_queue.js";
 import { Answers, readTraced, valuesOf } from "../worker/tracing.js";
-import { cyclesOf } from "./account.js";
+import { cyclesOf } from "../worker/rom_codes.js";
 import { lastInstructions } from "./last_instructions.js";
 import { wordsOfPassed } from "./last_passed.js";
 import { Paper } from "./paper.js";

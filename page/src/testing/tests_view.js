@@ -1,8 +1,9 @@
 // The results of tests on the page: a row for each, with what is wrong; what was run of the program; and where its cycles went.
 
-import { Cell, below, block, element, onClick } from "../ui/dom.js";
+import { Cell, below, block, buttonOf, element } from "../ui/dom.js";
 import { hex } from "../bench/numbers.js";
 import { wordsOfCounts, wordsOfTime } from "../words/results.js";
+import { wordsOfLine } from "../words/stops.js";
 import * as say from "../words/testing.js";
 
 /**
@@ -14,17 +15,6 @@ import * as say from "../words/testing.js";
  * What it calls: a line of the text of tests is to be seen; an address of the program; the session of a failure is to be opened.
  * @typedef {{ goTo: (line: number) => void, goToAddress: (address: number) => void, open: (outcome: Outcome) => void }} ResultCalls
  */
-
-/**
- * @param {string} text
- * @param {() => void} act
- * @param {Record<string, unknown>} [properties]
- */
-function buttonOf(text, act, properties = {}) {
-  const made = element("button", { type: "button", ...properties }, text);
-  onClick(made, act);
-  return made;
-}
 
 /** @param {number} cycles */
 function milliseconds(cycles) {
@@ -60,7 +50,7 @@ export class TestsView {
   row(outcome) {
     const { name, line, failure } = outcome;
     const mark = element("b", { className: failure ? "not-ok" : "ok" }, failure ? say.NOT_OK : "ok");
-    const head = element("p", {}, mark, " ", buttonOf(name, () => this.calls.goTo(line), { className: "name", title: `line ${line}` }),
+    const head = element("p", {}, mark, " ", buttonOf(name, () => this.calls.goTo(line), { className: "name", title: wordsOfLine(line) }),
       element("span", { className: "time" }, ` ${wordsOfTime(outcome)}`));
     return element("li", {}, head, ...(failure ? this.failed(outcome, failure) : []));
   }
@@ -70,7 +60,7 @@ export class TestsView {
    * @param {Failure} failure
    */
   failed(outcome, { line, text, words, lamps, registers, trace, file }) {
-    const told = element("p", { className: "wrong" }, buttonOf(`line ${line}`, () => this.calls.goTo(line)), ` ${text}: ${words}`);
+    const told = element("p", { className: "wrong" }, buttonOf(wordsOfLine(line), () => this.calls.goTo(line)), ` ${text}: ${words}`);
     if (!file) return [told];
     const state = `${lamps && `lamps ${lamps}\n`}${registers}\n`;
     const last = element("pre", { tabIndex: 0 }, `${state}${trace.join("\n")}`);

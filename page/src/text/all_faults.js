@@ -4,7 +4,7 @@
 import { faceFaults } from "../board/face.js";
 import { SourceMap } from "../machine/source_map.js";
 import { faultsOfBoard } from "./board_words.js";
-import { findProgramFaults, lacksOfRom } from "./program_faults.js";
+import { LACKS_ROM, findProgramFaults, lacksOfRom } from "./program_faults.js";
 import { alignedText, faultsOfLines, sentText } from "./text_fault.js";
 
 /**
@@ -22,7 +22,6 @@ import { alignedText, faultsOfLines, sentText } from "./text_fault.js";
 
 /** Refusals of texts have numbers up to here. */
 const LAST_OF_TEXTS = 42;
-const LACKS_ROM = 42;
 
 /**
  * A refusal of a text; null for any other one.

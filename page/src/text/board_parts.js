@@ -3,27 +3,18 @@
 
 import { BITS, MOST } from "../bench/board_form.js";
 import { partsWithLines } from "./board_reader.js";
+import { faultAt } from "./text_fault.js";
+import { noChain, noRom } from "../words/debug.js";
 import * as say from "../words/text.js";
 
 /**
  * @typedef {import("./board_reader.js").Entry} Entry
  * @typedef {import("./board_reader.js").Value} Value
  * @typedef {import("./text_fault.js").Fault} Fault
- * @typedef {{ line: number, from: number, to: number }} Span
  */
 
 /** @type {Record<string, string>} */
 const NUMBERS = { rom: "chip", ram: "bank" };
-
-/**
- * @param {number} number
- * @param {Span} span
- * @param {string} words
- * @returns {Fault}
- */
-function fault(number, { line, from, to }, words) {
-  return { number, line, from, to, words };
-}
 
 /** What the parts of a board are. */
 class Parts {
@@ -42,7 +33,7 @@ class Parts {
    */
   lackOf(name) {
     const [kind, first, second] = /** @type {string[]} */ (/^([a-z]+)(\d+)\.(\d+)/.exec(name)).slice(1);
-    if (kind === "rom") return this.ports.has(Number(first)) ? "" : say.noRom(first);
+    if (kind === "rom") return this.ports.has(Number(first)) ? "" : noRom(first);
     if (kind === "chain") return this.lackOfBit(Number(first), Number(second));
     const chips = this.banks.get(Number(first));
     if (chips === undefined) return say.noRamInBank(first);
@@ -54,7 +45,7 @@ class Parts {
    * @param {number} bit
    */
   lackOfBit(chain, bit) {
-    if (chain >= this.chains.length) return say.noChain(chain);
+    if (chain >= this.chains.length) return noChain(chain);
     const last = this.chains[chain] * BITS - 1;
     return bit <= last ? "" : say.bitsOfChain(chain, last);
   }
@@ -76,12 +67,12 @@ class Parts {
   faultsOfLine(value, what) {
     const name = String(value.inner);
     const lack = this.lackOf(name);
-    if (lack) return [fault(25, value, `${name}: ${lack}`)];
+    if (lack) return [faultAt(25, value, `${name}: ${lack}`)];
     const isInput = this.isInput(name);
-    if (what === "columns") return isInput ? [] : [fault(26, value, say.noInputLine(name))];
-    if (isInput) return [fault(26, value, say.isInputLine(name, what))];
+    if (what === "columns") return isInput ? [] : [faultAt(26, value, say.noInputLine(name))];
+    if (isInput) return [faultAt(26, value, say.isInputLine(name, what))];
     const isBit = name.startsWith("chain") && what !== "line";
-    return isBit ? [fault(26, value, say.isBitOfChain(name, what))] : [];
+    return isBit ? [faultAt(26, value, say.isBitOfChain(name, what))] : [];
   }
 
   /**
@@ -98,7 +89,7 @@ class Parts {
     if (!chain || !first || !rows) return faults;
     const last = Number(first.value.inner) + Number(rows.value.inner) - 1;
     const lack = this.lackOfBit(Number(chain.value.inner), last);
-    if (lack) faults.push(fault(25, lack.includes("bits") ? rows.value : chain.value, lack));
+    if (lack) faults.push(faultAt(25, lack.includes("bits") ? rows.value : chain.value, lack));
     return faults;
   }
 }
@@ -117,14 +108,14 @@ function faultsOfCounts(entries) {
     const { table, keys } = entry;
     const count = (counts.get(table) || 0) + 1;
     counts.set(table, count);
-    if (table === "[keys]" && count > 1) return [fault(20, entry, say.KEYS_ALREADY)];
-    if (count > (MOST[table] || count)) return [fault(27, entry, say.mostOf(MOST[table], table))];
+    if (table === "[keys]" && count > 1) return [faultAt(20, entry, say.KEYS_ALREADY)];
+    if (count > (MOST[table] || count)) return [faultAt(27, entry, say.mostOf(MOST[table], table))];
     const key = keys.find(({ name }) => name === NUMBERS[table]);
     if (!key) return [];
     const name = `${key.name} ${key.value.inner}`;
     const before = seen.get(name);
     seen.set(name, entry.line);
-    return before ? [fault(24, key.value, say.alreadyThere(name, before))] : [];
+    return before ? [faultAt(24, key.value, say.alreadyThere(name, before))] : [];
   });
 }
 

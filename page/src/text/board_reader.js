@@ -1,6 +1,7 @@
 // A board's text, read as far as it is TOML of the form that boards have, with the place of each key and value; what is not is told. The
 // bench alone says whether a text is right: this finds the words for what it refuses.
 
+import { NOT_TOML } from "../bench/board_fault.js";
 import { RANGES } from "../bench/board_form.js";
 import { tomlWords } from "./toml_words.js";
 import * as say from "../words/text.js";
@@ -25,7 +26,6 @@ import * as say from "../words/text.js";
  * tables, all keys at the top, and what is not TOML
  */
 
-const NOT_TOML = 20;
 const INTEGER = /^[+-]?(0|[1-9](_?\d)*)$|^0x[0-9A-Fa-f](_?[0-9A-Fa-f])*$|^0o[0-7]+$|^0b[01]+$/;
 
 class NotToml extends Error {

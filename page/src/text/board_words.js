@@ -4,6 +4,7 @@ import { KEYS, LINE_NAMES, MOST_COLUMNS, RANGES } from "../bench/board_form.js";
 import { meant, mostAlike } from "./alike.js";
 import { faultsOfParts } from "./board_parts.js";
 import { readBoardText } from "./board_reader.js";
+import { faultAt } from "./text_fault.js";
 import * as say from "../words/text.js";
 
 /**
@@ -13,17 +14,6 @@ import * as say from "../words/text.js";
  * @typedef {import("./board_reader.js").Value} Value
  * @typedef {import("./text_fault.js").Fault} Fault
  */
-
-
-/**
- * @param {number} number
- * @param {{ line: number, from: number, to: number }} range
- * @param {string} words
- * @returns {Fault}
- */
-export function faultAt(number, { line, from, to }, words) {
-  return { number, line, from, to, words };
-}
 
 /**
  * @param {Fault} fault

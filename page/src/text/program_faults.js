@@ -26,7 +26,7 @@ import * as say from "../words/text.js";
 export const MOST_FAULTS = 20;
 const NAME_TWICE = 31;
 const TOO_MANY_NAMES = 37;
-const LACKS_ROM = 42;
+export const LACKS_ROM = 42;
 /** They hang on the addresses of bytes. */
 const OF_ADDRESSES = [34, 35, 36];
 

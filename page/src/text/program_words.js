@@ -1,6 +1,7 @@
 // What is wrong in a line of a program that the bench has refused: the word at fault, and what was expected.
 
 import { meant, mostAlike } from "./alike.js";
+import { LAST_ADDRESS } from "../bench/numbers.js";
 import { DIRECTIVES, LONGEST_NAME, NAME, NUMBER, PAIR, REGISTER, partsOf } from "./assembly.js";
 import * as say from "../words/text.js";
 
@@ -26,7 +27,7 @@ const OPERANDS = {
   c: { what: say.A_CONDITION, most: 15 },
   d: { what: say.A_VALUE, most: 15 },
   b: { what: say.A_BYTE, most: 255 },
-  t: { what: say.AN_ADDRESS, most: 4095 },
+  t: { what: say.AN_ADDRESS, most: LAST_ADDRESS },
 };
 /**
  * What other assemblers write as a number: how it is written here, and words about that; null for anything else.

@@ -1,6 +1,7 @@
 // A text as it is sent, and its lines that cannot be sent. It is sent line for line, without comments and indentation, so these take no
 // room there, and any character may stand in a comment. Everywhere else one that is not of ASCII is at fault.
 
+import { LONGEST_LINE } from "../bench/inputs.js";
 import * as say from "../words/text.js";
 
 /**
@@ -17,11 +18,20 @@ import * as say from "../words/text.js";
 export const LONGEST_TEXT = 16384;
 /** What a text has at most with its comments and indentation, in characters. */
 export const LONGEST_KEPT = 65536;
-const LONGEST_LINE = 255;
 /** Refusals: of a line, of a text, of a character. */
 const LINE_TOO_LONG = 12;
-const TEXT_TOO_LONG = 13;
+export const TEXT_TOO_LONG = 13;
 const NOT_ASCII = 14;
+
+/**
+ * @param {number} number of the refusal
+ * @param {{ line: number, from: number, to: number }} place
+ * @param {string} words
+ * @returns {Fault}
+ */
+export function faultAt(number, { line, from, to }, words) {
+  return { number, line, from, to, words };
+}
 
 /**
  * Where the comment of a line begins; its length where it has none. In a board's text the mark may stand in a string.

@@ -114,6 +114,18 @@ export function onClick(node, act) {
   });
 }
 
+/**
+ * A button of a text, with what a click does.
+ * @param {string} text
+ * @param {() => void} act
+ * @param {Record<string, unknown>} [properties]
+ */
+export function buttonOf(text, act, properties = {}) {
+  const made = element("button", { type: "button", ...properties }, text);
+  onClick(made, act);
+  return made;
+}
+
 /** Whether a dialog is open: then the keyboard is its own. */
 export function isDialogOpen() {
   return document.querySelector("dialog[open]") !== null;

@@ -1,6 +1,7 @@
 // A recording, as the page reads it: what each line was at a moment, where it has changed, and which instruction was there. One that is
 // made while time runs becomes longer at its end, and forgets its beginning.
 
+import { ADDRESSES } from "../bench/rom_bytes.js";
 import { Growing, countUpTo } from "./growing.js";
 import { Track, emptyTrack } from "./track.js";
 import { valueText } from "./wave_words.js";
@@ -20,7 +21,7 @@ import { valueText } from "./wave_words.js";
  * @param {{ address: number }[]} labels by rising address
  */
 function labelsBelow(labels) {
-  const below = new Int16Array(4096);
+  const below = new Int16Array(ADDRESSES);
   let [next, now] = [0, -1];
   for (let address = 0; address < below.length; address++) {
     while (next < labels.length && labels[next].address <= address) now = next++;

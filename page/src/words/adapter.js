@@ -1,12 +1,7 @@
 // What people read of the debug adapter, in an editor.
 
 // --- adapter/adapter_connection.js ---
-/** @type {(bytes: number) => string} */
-export const messageTooLong = (bytes) => `a message of ${bytes} bytes was not read`;
-export const NOT_JSON = "a message is not JSON";
 export const MESSAGE_FORM = "a message has a number seq, the type \"request\" and a command";
-export const INITIALIZE_FIRST = "initialize comes first";
-export const INITIALIZE_ONCE = "initialize comes once";
 /** @type {(command: string) => string} */
 export const noCommand = (command) => `there is no ${command} here`;
 
@@ -49,9 +44,6 @@ R4, P2, ram.0.0x12, rom1, lamps, display, a name, a condition (r9 = 9 and lamp o
 export const tooLong = (most) => `more than ${most} characters are not taken`;
 /** @type {(why: string) => string} */
 export const seeHelp = (why) => `${why}; help shows what a line can be`;
-/** @type {(name: string, there: string) => string} */
-export const noKey = (name, there) => (
-  `the board has no key ${name}; ${there ? `it has: ${there}` : "its text names no keys (`# row 0: NAME ..`)"}`);
 /** @type {(word: string) => string} */
 export const keyForm = (word) => `it is written as ${word} KEY`;
 /** @type {(count: number) => string} */
@@ -83,8 +75,6 @@ export const noCharacter = (name) => `${name} is no character of RAM: only these
 export const CONFIGURED_FIRST = "configurationDone comes first";
 export const ONE_THREAD = "there is one thread, 1";
 export const NO_TARGET = "there is no such target";
-/** @type {(where: string) => string} */
-export const standsAt = (where) => `Stands at ${where}.`;
 
 // --- adapter/kept_session.js ---
 /** @type {(answer: string) => string} */
@@ -117,14 +107,10 @@ export const loadPuts = (difference) => (
 
 // --- adapter/machine.js ---
 export const TIME_RUNS_ALREADY = "time runs already: pause comes first";
-/** @type {(where: string) => string} */
-export const stoppedAt = (where) => `Stopped at ${where}.`;
 /** @type {(count: number) => string} */
 export const notesBefore = (count) => `(${count} notes before these)`;
 
 // --- adapter/protocol.js ---
-/** @type {(name: string) => string} */
-export const isText = (name) => `${name} is a text`;
 /** @type {(name: string) => string} */
 export const isWhole = (name) => `${name} is a whole number`;
 /** @type {(name: string) => string} */
@@ -147,6 +133,11 @@ export const PORTS = "Ports";
 export const LAMPS = "Lamps";
 export const KEYS = "Keys";
 export const NAMES = "Names";
+/** @type {(isOn: boolean) => string} */
+export const lampIs = (isOn) => (isOn ? "on" : "off");
+/** Of a key; it is also what it is set to. */
+export const DOWN = "down";
+export const UP = "up";
 /** @type {(name: string) => string} */
 export const noneHere = (name) => `there is no ${name} here`;
 /** @type {(name: string) => string} */

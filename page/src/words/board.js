@@ -38,6 +38,7 @@ export const rowAndColumn = (row, column) => `row ${row}, column ${column}`;
 export const lampOfRow = (number, count) => `lamp ${number} of ${count}`;
 /** @type {(column: string, row: string) => string} */
 export const both = (column, row) => `${column} and ${row}`;
+export const LAMPS = "lamps";
 
 // --- board/sound.js ---
 export const NO_SOUND = "This browser has no sound (Web Audio). In a terminal, mcs4 wave --wav makes a sound file.";
@@ -67,6 +68,18 @@ export const TEST_IS_OWN = "TEST is only its input";
 export const putsTest = (kind, name, level) => `the ${kind} ${name} puts TEST to ${level} while it is pressed`;
 /** @type {(line: string, isInput: boolean) => string} */
 export const lineOfPort = (line, isInput) => `line ${line}, ${isInput ? "an input" : "an output"},`;
+/** @type {(isInput: boolean, line: number) => string} */
+export const portPin = (isInput, line) => `${isInput ? "in" : "out"} ${line}`;
+/** @type {(bit: number) => string} */
+export const bitPin = (bit) => `bit ${bit}`;
+export const CLOCK_PIN = "clock";
+export const DATA_PIN = "data";
+/** @type {(row: number) => string} */
+export const rowPin = (row) => `row ${row}`;
+/** @type {(column: number) => string} */
+export const columnPin = (column) => `column ${column}`;
+/** @type {(lamp: number) => string} */
+export const lampPin = (lamp) => `lamp ${lamp}`;
 /** @type {(chip: number) => string} */
 export const romTitle = (chip) => `ROM ${chip} · 4001`;
 /** @type {(bank: number, chip: number) => string} */

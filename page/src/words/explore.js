@@ -13,13 +13,8 @@ export const testFails = (line, text, words) => `line ${line} of its tests fails
 // --- explore/campaign.js ---
 export const FORMS = "press, test, reset, together, wait, held, apart, from, begin, note, pace, never, always, at, after press, every, "
   + "reach, model, or are written as `C only after press K, press K ..` or `@LABEL at most once for each press`";
-/** @type {(name: string) => string} */
-export const noLabel = (name) => `the program has no label ${name}`;
 /** @type {(word: string) => string} */
 export const labelForm = (word) => `a label is written as @LABEL, not ${word}`;
-/** @type {(name: string, there: string) => string} */
-export const noKey = (name, there) => (
-  `the board has no key ${name}; ${there ? `it has: ${there}` : "its text names no keys (`# row 0: NAME ..`)"}`);
 export const WAIT_FORM = "it is written as `wait TIME to TIME`, from 1 cycle to 100,000 (1.08 s), as in: wait 1 ms to 20 ms";
 export const PRESS_FORM = "it is written as `press KEY ..`: the keys that may go down";
 export const TEST_FORM = "`test` stands alone: TEST may change";
@@ -46,7 +41,6 @@ export const EVERY_FORM = "it is written as `every TIME @LABEL`, as in: every 20
 export const noInstructionIn = (line) => `no instruction stands in line ${line} of the program`;
 export const MODEL_ALREADY = "there is a model in a line before";
 export const MODEL_FORM = "it is written as `model COMMAND`: the command gets keys, and prints what the display has to show";
-export const NO_DISPLAY = "the board's text names no display (`# display 0: 4 digits`)";
 export const LIT_BY_TURNS = "the display's digits are lit by turns, and a model needs one that shows its number at once";
 export const ONLY_AFTER_FORM = "it is written as `CONDITION only after press KEY, press KEY ..`";
 /** @type {(word: string, forms: string) => string} */

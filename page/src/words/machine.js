@@ -17,6 +17,10 @@ export const isOff = (words) => `${words}: it is off`;
 export const stopsLater = (words) => `${words}: it stops once the source is assembled`;
 
 // --- machine/breakpoints_view.js ---
+export const ON = "on";
+/** @type {(time: string) => string} */
+export const loggedAt = (time) => `at ${time}`;
+export const WHERE = "where";
 /** @type {(fault: string) => string} */
 export const stopsNothing = (fault) => `It stops nothing: ${fault}.`;
 export const STOPS_WHERE = "stops where this is true, in the words of tests: r9 = 9, lamp 3 on, display 42";
@@ -24,6 +28,7 @@ export const SUCH_AS_CONDITION = "such as r9 = 9";
 export const FROM_HIT = "from hit";
 export const STOPS_FROM_HIT = "stops from this hit on";
 export const SUCH_AS_NOTE = "such as R4 is {r4}";
+export const LOG = "log";
 export const LOGGED = "is logged instead of a stop; {r9}, {lamps} give values";
 export const REMOVE_BREAKPOINT = "remove this breakpoint";
 export const REMOVES_IT = "removes it";

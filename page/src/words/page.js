@@ -11,14 +11,10 @@ export const notKept = (fault) => `not kept: ${fault}`;
 
 // --- lines/serving.js ---
 export const SENDING_LINES = "Sending the lines.";
-/** @type {(why: string, line: string) => string} */
-export const lineEnded = (why, line) => `${why} The line ${line} ended there.`;
 export const LINES_TOO_LONG = "Not all lines were done: at most 16,777,216 bytes are read at once.";
 export const RESET_RUNNING = "Time runs. The board was reset.";
 /** @type {(counter: string) => string} */
 export const wasReset = (counter) => `The board was reset; it is at ${counter}.`;
-/** @type {(counter: string) => string} */
-export const stoppedAt = (counter) => `Stopped at ${counter}.`;
 
 // --- ui/ask_view.js ---
 export const YES = "Yes";

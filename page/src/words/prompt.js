@@ -60,7 +60,6 @@ export const sourceHas = (count) => `the source has ${count} lines`;
 export const NOTHING_DISPLAYED = "nothing is displayed";
 /** @type {(program: string, count: number) => string} */
 export const linesOf = (program, count) => `${program}, ${count} lines`;
-export const MADE_OF_ROM = "made of what stands in ROM";
 export const SESSION_FILE = "a session file, which has at each stop what was done";
 export const IN_MEMORY = "in memory: nothing is kept";
 /** @type {(kinds: string) => string} */
@@ -85,8 +84,6 @@ export const CONTINUE_FORM = "continue stands alone; run TIME lets a time pass";
 export const NOTHING_STOPS = "nothing would stop it: set a breakpoint, or let a time pass by run 100 ms";
 /** @type {(words: string, left: string) => string} */
 export const notPressed = (words, left) => `${words} Not pressed: ${left}.`;
-/** @type {(where: string) => string} */
-export const standsAt = (where) => `Stands at ${where}.`;
 
 // --- prompt/moves.js ---
 /** @type {(where: string) => string} */
@@ -103,8 +100,6 @@ export const SESSION_REMEMBERS = "the session remembers";
 export const placeForm = (command) => `it is written as ${command} PLACE, as ${command} r4`;
 /** @type {(text: string, places: string) => string} */
 export const noPlace = (text, places) => `${text} is no place: there are ${places}`;
-/** @type {(place: string) => string} */
-export const boardHasNo = (place) => `the board has no ${place}`;
 
 // --- prompt/words_of_line.js ---
 export const FORMS_IN_PROGRAM = "a line of the source as 12, a label as show or show + 2, an address as 0x00F";
@@ -112,7 +107,6 @@ export const FORMS_IN_PROGRAM = "a line of the source as 12, a label as show or 
 export const noInstructionIn = (line) => `no instruction stands in line ${line} of the source, or behind it`;
 /** @type {(text: string, forms: string) => string} */
 export const notInProgram = (text, forms) => `${text} is no place in the program: it is ${forms}`;
-export const ADDRESS_RANGE = "addresses are 0x000 to 0xFFF";
 /** @type {(most: string, text: string) => string} */
 export const countIs = (most, text) => `a count is 1 to ${most}, not ${text}`;
 /** @type {(text: string) => string} */

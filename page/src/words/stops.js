@@ -20,6 +20,9 @@ export const REASONS = {
   recorded: "where the waves after the trigger are recorded",
 };
 
+/** @type {(line: number) => string} a line of a text, by its number */
+export const wordsOfLine = (line) => `line ${line}`;
+
 /**
  * An address with its name and its line: `00D (show + 3, line 12)`.
  * @param {string} address as it is written
@@ -28,7 +31,7 @@ export const REASONS = {
 export function wordsOfAddress(address, map) {
   const number = parseInt(address, 16);
   const line = map ? map.lineOf(number) : 0;
-  const words = map && line > 0 ? [map.nameOf(number), `line ${line}`].filter(Boolean).join(", ") : "";
+  const words = map && line > 0 ? [map.nameOf(number), wordsOfLine(line)].filter(Boolean).join(", ") : "";
   return words ? `${address} (${words})` : address;
 }
 
@@ -136,6 +139,11 @@ export function wordsOfWhen(breakpoint) {
   return (condition.trim() ? `, where ${condition.trim()}` : "") + (from > 1 ? `, at hit ${hits.toLocaleString("en")}` : "");
 }
 
+/** @type {(where: string) => string} */
+export const standsAt = (where) => `Stands at ${where}.`;
+/** @type {(where: string) => string} */
+export const stoppedAt = (where) => `Stopped at ${where}.`;
+
 /**
  * Time was stopped by a hand before its goal.
  * @param {Goal | null} goal
@@ -143,7 +151,7 @@ export function wordsOfWhen(breakpoint) {
  * @param {string} where
  */
 export function wordsOfHalt(goal, cycles, where) {
-  return goal ? `Stopped at ${where}, after ${wordsOfCycles(cycles)}; ${wordsOfGoal(goal)} was not reached.` : `Stopped at ${where}.`;
+  return goal ? `Stopped at ${where}, after ${wordsOfCycles(cycles)}; ${wordsOfGoal(goal)} was not reached.` : stoppedAt(where);
 }
 
 /**

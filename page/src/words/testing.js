@@ -26,8 +26,6 @@ export const NOT_PASSED = "not passed in this test";
 export const noRomAt = (word) => `the board has no ROM at ${word}`;
 export const SET_FORM = "it is written as `set PLACE VALUE`, as in: set test 0, set ram.0.0x12 7";
 export const AND_ROM = " and rom.A";
-/** @type {(place: string, most: number, word: string) => string} */
-export const holds = (place, most, word) => `${place} holds 0 to ${most}, not ${word}`;
 
 // --- testing/test_run.js ---
 /** @type {(state: string, test: string) => string} */

@@ -25,14 +25,10 @@ export const KEY_MATRIX = "the key matrix";
 export const A_LAMP = "a lamp";
 
 // --- text/board_parts.js ---
-/** @type {(chip: string) => string} */
-export const noRom = (chip) => `the board has no ROM ${chip}`;
 /** @type {(bank: string) => string} */
 export const noRamInBank = (bank) => `the board has no RAM in bank ${bank}`;
 /** @type {(bank: string, chips: number) => string} */
 export const bankHas = (bank, chips) => `bank ${bank} has ${chips === 1 ? "chip 0 alone" : `chips 0 to ${chips - 1}`}`;
-/** @type {(chain: number) => string} */
-export const noChain = (chain) => `the board has no chain ${chain}`;
 /** @type {(chain: number, last: number) => string} */
 export const bitsOfChain = (chain, last) => `chain ${chain} has bits 0 to ${last}`;
 /** @type {(name: string) => string} */

@@ -3,6 +3,7 @@
 
 import { Cancelled } from "../bench/faults.js";
 import { hex, upTo } from "../bench/numbers.js";
+import { CHARACTERS, STATUS } from "../bench/places.js";
 import { changesIn } from "./past_changes.js";
 import { FIRST_CYCLES, LOOKED_CYCLES, LOOKED_UNITS } from "./pieces.js";
 import { valuesOf } from "./tracing.js";
@@ -23,11 +24,8 @@ import { cyclesOf, piecesOf, shortUnits, unitsBetween } from "./units.js";
  * @typedef {{ cycles: number, cells: Heated[] }} Heat over so many cycles, fewer than wanted where the past does not reach so far
  */
 
-/** As many places as `trace` takes. */
-const MOST_PLACES = 16;
 const REGISTERS = 4;
-const STATUS = 4;
-/** The characters of a chip are as many groups, and its status characters are one. */
+/** The characters of a register are as many places as `trace` takes: those of a chip are as many groups, and its status is one. */
 export const GROUPS_OF_CHIP = REGISTERS + 1;
 
 /**
@@ -37,7 +35,7 @@ export const GROUPS_OF_CHIP = REGISTERS + 1;
 export function charactersOf({ banks }) {
   return banks.flatMap(({ bank, chips }) => upTo(chips).flatMap((chip) => [
     ...upTo(REGISTERS).map((register) => (
-      upTo(MOST_PLACES).map((at) => `ram.${bank}.0x${hex(chip * 64 + register * MOST_PLACES + at, 2)}`))),
+      upTo(CHARACTERS).map((at) => `ram.${bank}.0x${hex((chip * REGISTERS + register) * CHARACTERS + at, 2)}`))),
     upTo(REGISTERS).flatMap((register) => upTo(STATUS).map((at) => `st.${bank}.${chip * REGISTERS + register}.${at}`)),
   ]));
 }

@@ -8,12 +8,13 @@ export const UP_CYCLES = 2000;
 export const LONGEST_RUN = 100000;
 
 /**
- * The lines of a run of so many cycles.
+ * A run of any length, in runs that the bench takes.
  * @param {number} cycles
  */
 export function runLines(cycles) {
-  const rest = cycles % LONGEST_RUN;
-  return `run ${LONGEST_RUN}\n`.repeat(Math.floor(cycles / LONGEST_RUN)) + (rest > 0 ? `run ${rest}\n` : "");
+  let lines = "";
+  for (let left = cycles; left > 0; left -= LONGEST_RUN) lines += `run ${Math.min(left, LONGEST_RUN)}\n`;
+  return lines;
 }
 
 /**

@@ -2,6 +2,7 @@
 // but where it is to stop at the end of a recording with a trigger. What was recorded is taken part by part.
 
 import { readBoard, readRun } from "../bench/answers.js";
+import { ADDRESSES } from "../bench/rom_bytes.js";
 import { linesOfBoard } from "../waves/wave_lines.js";
 import { askedLines, partedAnswers } from "./asking.js";
 import { Answers, readTraced, valuesOf } from "./tracing.js";
@@ -50,7 +51,7 @@ export class LiveRecorder {
     this.held = true;
     /** Whether time is to stop, since all is recorded. */
     this.stops = false;
-    this.listed = new Uint8Array(4096);
+    this.listed = new Uint8Array(ADDRESSES);
     this.places = "";
   }
 

@@ -5,7 +5,7 @@ import { readBoard, readMap, refusalOf } from "../bench/answers.js";
 import { matchAnswers, readInputs } from "../bench/inputs.js";
 import { upTo } from "../bench/numbers.js";
 import { ADDRESSES, NONE, PAGES, PAGE_BYTES, bytesOf, listsOf } from "../bench/rom_bytes.js";
-import { LONGEST_TEXT } from "../text/text_fault.js";
+import { LONGEST_TEXT, TEXT_TOO_LONG } from "../text/text_fault.js";
 
 /**
  * @typedef {import("../bench/answers.js").Refusal} Refusal
@@ -19,7 +19,6 @@ import { LONGEST_TEXT } from "../text/text_fault.js";
  * @typedef {{ map: string[], refusal: Refusal | null, difference: Difference | null }} Checked
  */
 
-const TEXT_TOO_LONG = 13;
 /** Lines that wire a board of all ROMs. */
 export const ALL_ROMS = `wire\n${PAGES.map((chip) => `[[rom]]\nchip = ${chip}\nport = "0000"\n`).join("")}.\n`;
 

@@ -5,7 +5,7 @@ import { readListing } from "../bench/answers.js";
 import { linesOfExample } from "./examples.js";
 import { BenchRefusal, NO_MEMORY } from "../bench/faults.js";
 import { LAST_ADDRESS, hex } from "../bench/numbers.js";
-import { PAGES, listsOf } from "../bench/rom_bytes.js";
+import { MOST_LISTED, PAGES, listsOf } from "../bench/rom_bytes.js";
 
 /**
  * @typedef {import("./examples.js").Example} Example
@@ -13,8 +13,6 @@ import { PAGES, listsOf } from "../bench/rom_bytes.js";
  * @typedef {import("./engine.js").Engine} Engine
  */
 
-/** How many lines one `list` gives at most. */
-const LONGEST_LISTING = 256;
 /** No tests and no properties. */
 const NONE_BESIDE = { testText: "", propertiesText: "" };
 const ALL_ROM = listsOf(PAGES);
@@ -62,7 +60,7 @@ function listAll(engine, file) {
   const lines = [];
   let address = 0;
   while (address <= LAST_ADDRESS) {
-    const listed = readListing(engine.ask(file, `list ${address} ${LONGEST_LISTING}\n`).answers);
+    const listed = readListing(engine.ask(file, `list ${address} ${MOST_LISTED}\n`).answers);
     if (listed.length === 0) throw new BenchRefusal(NO_MEMORY);
     lines.push(...listed);
     const last = listed[listed.length - 1];

@@ -1,6 +1,7 @@
 // What is taken of the bench's answers for a recording: the moments at which each line changes, and those at which each instruction begins.
 
 import { valueIn } from "../bench/state_line.js";
+import { MOST_PLACES } from "../debug/conditions.js";
 import { Growing } from "../waves/growing.js";
 import { Track, emptyTrack } from "../waves/track.js";
 import { readTraced, valuesOf } from "./tracing.js";
@@ -19,9 +20,6 @@ import { readTraced, valuesOf } from "./tracing.js";
  * @typedef {{ from: number, cycles: number, isStuck: boolean, isOwed: boolean, tracks: TrackData[], moments: Uint32Array,
  *   counters: Uint16Array }} Taken
  */
-
-/** So many places one question takes. */
-const MOST_PLACES = 16;
 
 const BLANK = 32;
 const ZERO = 48;
