@@ -218,6 +218,21 @@ test("walks keep to how many keys are down, for how long, and how far apart", ()
   assert.ok(!isSound(campaign, [{ wait: 10, kind: "up", input: 0 }]));
 });
 
+test("keys that are down together at first go up in time, one after the other", () => {
+  const { campaign } = campaignOf("press A B C\ntogether 3\nwait 10 to 60\nheld at most 20\n");
+  const inputs = campaign.inputs.map((input) => ({ ...input, isDown: true }));
+  const random = randomFrom(3);
+  const steps = [];
+  let [down, since] = [downAtFirst({ ...campaign, inputs }), sinceAtFirst({ ...campaign, inputs })];
+  while (down.length > 0) {
+    const step = chooseStep({ ...campaign, inputs }, down, since, random);
+    [down, since] = [downAfter(down, step), sinceAfter(since, step)];
+    steps.push(step);
+  }
+  assert.ok(isSound({ ...campaign, inputs }, steps));
+  assert.ok(steps.every(({ wait }) => wait >= 1));
+});
+
 test("conditions in the words of a person are told in those of a test", () => {
   assert.deepEqual(partsOf("lamp on on and not r7 = 3 and at look and acc != 2 and ram0.0 out > 4"), [
     { words: "lamp on on", isNot: false, place: "" }, { words: "r7 3", isNot: true, place: "" },

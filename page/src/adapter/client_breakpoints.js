@@ -2,7 +2,7 @@
 // list that the debugger has.
 
 import { readBoard, watchedPlaces } from "../bench/answers.js";
-import { hex } from "../bench/numbers.js";
+import { LAST_ADDRESS, hex } from "../bench/numbers.js";
 import { BreakpointList, MOST_BREAKPOINTS, MOST_ON, instructionOfAddress, instructionOfLine } from "../debug/breakpoints.js";
 import { placeOf } from "../bench/places.js";
 import { listOf, needNumber, needText, textOrNone, wordsOf } from "./protocol.js";
@@ -102,7 +102,7 @@ export class ClientBreakpoints {
     const { map } = this.session;
     return this.set("addresses", listOf(args, "breakpoints").map((given) => {
       const wanted = addressOf(needText(given, "instructionReference")) + needNumber(given, "offset", 0);
-      const isThere = wanted >= 0 && wanted <= 4095;
+      const isThere = wanted >= 0 && wanted <= LAST_ADDRESS;
       const { line, address } = isThere ? instructionOfAddress(wanted, map) : { line: 0, address: -1 };
       return this.make({ ...partsOf(given), line, address, ...(isThere ? {} : { words: say.ADDRESSES_ARE }) });
     }));

@@ -69,7 +69,9 @@ export function chooseStep(campaign, down, since, random) {
   const first = left.indexOf(Math.min(...left));
   // What goes down now is up in time as well: a wait, and then a key at a time.
   if (left[first] >= wait + campaign.shortest * down.length) return chooseChange(campaign, down, since, wait, random);
-  return { wait: Math.min(wait, left[first]), kind: "up", input: down[first] };
+  // Those that went down together go up one after the other, a cycle apart at least, and no wait is without a cycle.
+  const inTurn = [...left].sort((one, other) => one - other).map((cycles, turn) => cycles - turn);
+  return { wait: Math.max(1, Math.min(wait, ...inTurn)), kind: "up", input: down[first] };
 }
 
 /**
