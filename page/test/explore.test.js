@@ -233,6 +233,47 @@ test("keys that are down together at first go up in time, one after the other", 
   assert.ok(steps.every(({ wait }) => wait >= 1));
 });
 
+// After A it counts for 99,940 cycles, and then B lights the lamp `on`.
+const LATE = `        FIM P1, 0
+        FIM P2, 0x10
+        SRC P1
+        LDM 2
+        WRR
+        IAC
+        WRR
+first:  SRC P2
+        RDR
+        RAR
+        JCN 10, first
+        FIM P4, 0
+        FIM P5, 0x05
+one:    ISZ R8, one
+        ISZ R9, one
+        ISZ R10, one
+        ISZ R11, one
+        FIM P5, 0x09
+two:    ISZ R8, two
+        ISZ R9, two
+        ISZ R11, two
+second: SRC P2
+        RDR
+        RAR
+        RAR
+        JCN 10, second
+        SRC P1
+        LDM 1
+        WMP
+stay:   JUN stay
+`;
+
+test("a find is made short where keys are held for a short time, and waits are as long as a run can be", async () => {
+  const late = subjectOf(engine, BOARD, LATE);
+  const { campaign } = readCampaign("press A B\ntogether 1\nheld at most 1000\nwait 100 to 100000\nnever lamp on on\n", late);
+  const run = new CampaignRun(late, campaign, 3, () => true, 4 * PATIENCE);
+  while (run.found[0] === null) await run.goOn(20);
+  assert.deepEqual(run.found[0].test.split("\n").slice(1, 6), ["  run 100", "  press A", "  run 100", "  release A", "  run 100000"]);
+});
+
 test("conditions in the words of a person are told in those of a test", () => {
   assert.deepEqual(partsOf("lamp on on and not r7 = 3 and at look and acc != 2 and ram0.0 out > 4"), [
     { words: "lamp on on", isNot: false, place: "" }, { words: "r7 3", isNot: true, place: "" },

@@ -2,7 +2,7 @@
 
 import { LONGEST_RUN } from "../worker/key_queue.js";
 import { Watcher } from "./watching.js";
-import { downAfter, downAtFirst, heldAfter, isSound } from "./walks.js";
+import { downAfter, downAtFirst, isSound, longestAfter } from "./walks.js";
 
 /**
  * @typedef {import("./campaign.js").Campaign} Campaign
@@ -59,8 +59,7 @@ export class Shortening {
   async take(steps) {
     if (this.left <= 0 || !isSound(this.campaign, steps)) return false;
     await this.breathe();
-    const { held, longest } = this.campaign;
-    const wait = Math.min(longest, held - heldAfter(this.campaign, steps));
+    const wait = Math.min(this.campaign.longest, longestAfter(this.campaign, steps));
     const last = wait > 0 ? [{ wait, kind: /** @type {const} */ ("none"), input: -1 }] : [];
     this.left -= [...steps, ...last].reduce((sum, step) => sum + step.wait + COST_OF_STEP, 0);
     const { broken } = this.watcher.watch(this.start, [...steps, ...last], [0]);
@@ -138,8 +137,9 @@ export class Shortening {
       return isIdle ? [at] : [];
     });
     for (const at of idle.reverse()) {
-      for (let more = 0; more < PHASES; more++) {
-        if (await this.take([{ ...steps[at], wait: steps[at].wait + more }, ...steps.slice(at + 1)])) return true;
+      // A wait is one run.
+      for (let { wait } = steps[at]; wait < Math.min(steps[at].wait + PHASES, LONGEST_RUN + 1); wait++) {
+        if (await this.take([{ ...steps[at], wait }, ...steps.slice(at + 1)])) return true;
       }
     }
     return false;

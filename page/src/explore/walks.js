@@ -132,7 +132,7 @@ export function isSound(campaign, steps) {
   for (const step of steps) {
     if (step.kind === "down" && (down.includes(step.input) || since[step.input] + step.wait < campaign.apart)) return false;
     if (step.kind === "up" && !down.includes(step.input)) return false;
-    if (mostHeld(down, since) + step.wait > campaign.held) return false;
+    if (step.wait > longestFrom(campaign, down, since)) return false;
     since = sinceAfter(since, step);
     down = downAfter(down, step);
     if (down.filter((at) => campaign.inputs[at].isKey).length > campaign.together) return false;
@@ -141,12 +141,13 @@ export function isSound(campaign, steps) {
 }
 
 /**
- * For how long an input is down, at most, of those that are.
+ * How long it can be until something changes: nothing that is down is held for too long.
+ * @param {Campaign} campaign
  * @param {number[]} down
  * @param {number[]} since
  */
-function mostHeld(down, since) {
-  return Math.max(0, ...down.map((at) => since[at]));
+function longestFrom({ held }, down, since) {
+  return Math.min(...down.map((at) => held - since[at]));
 }
 
 /**
@@ -154,8 +155,8 @@ function mostHeld(down, since) {
  * @param {Campaign} campaign
  * @param {WalkStep[]} steps
  */
-export function heldAfter(campaign, steps) {
-  return mostHeld(steps.reduce(downAfter, downAtFirst(campaign)), steps.reduce(sinceAfter, sinceAtFirst(campaign)));
+export function longestAfter(campaign, steps) {
+  return longestFrom(campaign, steps.reduce(downAfter, downAtFirst(campaign)), steps.reduce(sinceAfter, sinceAtFirst(campaign)));
 }
 
 /**
