@@ -7,6 +7,7 @@ import { BreakpointList, MOST_BREAKPOINTS, MOST_ON, instructionOfAddress, instru
 import { placeOf } from "../bench/places.js";
 import { listOf, needNumber, needText, textOrNone, wordsOf } from "./protocol.js";
 import * as say from "../words/adapter.js";
+import { noLabel } from "../words/debug.js";
 
 /**
  * @typedef {import("../debug/debug_session.js").DebugSession} DebugSession
@@ -88,7 +89,7 @@ export class ClientBreakpoints {
     return this.set("labels", listOf(args, "breakpoints").map((given) => {
       const name = needText(given, "name").trim();
       const found = map.names.get(name);
-      const words = found && found.isLabel ? "" : say.noLabel(name);
+      const words = found && found.isLabel ? "" : noLabel(name);
       const address = found && found.isLabel ? found.value : -1;
       return this.make({ ...partsOf(given), line: address < 0 ? 0 : map.lineOf(address), address, ...(words ? { words } : {}) });
     }));

@@ -6,6 +6,7 @@ import { keysOf } from "../board/board_keys.js";
 import { Standing, wordsOfCharacter } from "../debug/standing.js";
 import { setPlace } from "./setting.js";
 import * as say from "../words/adapter.js";
+import { sourceOfBank } from "../words/debug.js";
 
 /**
  * @typedef {import("../debug/debug_session.js").DebugSession} DebugSession
@@ -111,7 +112,7 @@ function ports({ standing, face }) {
 function sourceOf(source) {
   const [bank, byte] = source.split(".");
   if (byte === undefined) return variable("SRC", say.selectsRom(told(bank), parseInt(bank[0], 16)));
-  return variable(say.sourceOfBank(bank), `${told(byte)}: ${wordsOfCharacter(parseInt(byte, 16))}`);
+  return variable(sourceOfBank(bank), `${told(byte)}: ${wordsOfCharacter(parseInt(byte, 16))}`);
 }
 
 /** @param {Seen} seen */

@@ -17,7 +17,7 @@ export class BenchTrap extends Error {}
 /** A call was cancelled before it was done. */
 export class Cancelled extends Error {
   constructor() {
-    super(say.CANCELLED);
+    super(say.IT_WAS_CANCELLED);
   }
 }
 

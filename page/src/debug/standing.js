@@ -130,7 +130,7 @@ export class Standing {
     registers.registers.forEach((value, at) => all.set(`R${at}`, value));
     for (const source of ports.sources) {
       const [bank, byte] = source.split(".");
-      all.set(byte === undefined ? "SRC" : say.sourceOf(bank), byte === undefined ? bank : byte);
+      all.set(byte === undefined ? "SRC" : say.sourceOfBank(bank), byte === undefined ? bank : byte);
     }
     for (const [bank, ram] of this.ram) {
       for (const [name, { characters, status }] of ram.registers) {

@@ -242,5 +242,5 @@ export class Drawing {
 
 /** @param {string} name */
 function nameOfPin(name) {
-  return name.includes(" ") ? nameOfTarget(name) : `line ${name}`;
+  return name.includes(" ") ? nameOfTarget(name) : say.lineOfBoard(name);
 }

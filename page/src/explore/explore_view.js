@@ -1,6 +1,7 @@
 // What comes of looking for what breaks properties: a row for each of them, with what was found; and what was run of the program.
 
 import { Cell, Switch, below, block, buttonOf, element } from "../ui/dom.js";
+import { andMore } from "../words/debug.js";
 import { coverageOf, markOf, wordsOfFigures, wordsOfProperty } from "../words/explored.js";
 import * as say from "../words/explore.js";
 import { wordsOfLine } from "../words/stops.js";
@@ -123,7 +124,7 @@ export class ExploreView {
     const key = lines.join(" ");
     if (key === this.leftLines) return;
     this.leftLines = key;
-    const more = lines.length > MOST_LINES ? say.andMore(lines.length - MOST_LINES) : "";
+    const more = lines.length > MOST_LINES ? andMore(lines.length - MOST_LINES) : "";
     const buttons = lines.slice(0, MOST_LINES).flatMap((line) => [
       " ", buttonOf(String(line), () => this.calls.goToSource(line), { className: "name", ariaLabel: say.lineOfSource(line) })]);
     this.left.replaceChildren(...(lines.length === 0 ? [] : [say.NEVER_RUN, ...buttons, more]));

@@ -2,6 +2,7 @@
 
 import { counted } from "../bench/numbers.js";
 import { Coverage } from "./coverage.js";
+import { andMore } from "../words/debug.js";
 import * as say from "../words/explore.js";
 
 /**
@@ -118,7 +119,7 @@ const MOST_LINES = 40;
 /** @param {number[]} lines */
 function listed(lines) {
   const more = lines.length - MOST_LINES;
-  return `${lines.length === 1 ? "line" : "lines"} ${lines.slice(0, MOST_LINES).join(" ")}${more > 0 ? say.andMore(more) : ""}`;
+  return `${say.linesAre(lines.length, lines.slice(0, MOST_LINES).join(" "))}${more > 0 ? andMore(more) : ""}`;
 }
 
 /**

@@ -1,6 +1,7 @@
 // A line of a listing with the names of the program that stands in ROM.
 
 import { hex } from "../bench/numbers.js";
+import { wordsOfLine } from "../words/stops.js";
 
 /**
  * @typedef {import("../bench/answers.js").Listed} Listed
@@ -34,7 +35,7 @@ export function namedLine({ address, line }, map) {
   if (number === 0) return named;
   const source = map.sources[number - 1];
   named.instruction = withTarget(named.instruction, source, map);
-  named.source = `line ${number}: ${source.trim().replace(/\s+/g, " ")}`;
+  named.source = `${wordsOfLine(number)}: ${source.trim().replace(/\s+/g, " ")}`;
   return named;
 }
 

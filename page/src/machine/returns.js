@@ -2,6 +2,7 @@
 
 import { LAST_ADDRESS } from "../bench/numbers.js";
 import * as say from "../words/machine.js";
+import { wordsOfLine } from "../words/stops.js";
 
 /**
  * @typedef {import("./source_map.js").SourceMap} SourceMap
@@ -42,7 +43,7 @@ export function areLive(addresses, bytes, map) {
 export function noteOfCounter(address, map) {
   const line = map ? map.lineOf(address) : 0;
   if (!map || line === 0) return { isLive: true, words: "", title: "" };
-  return { isLive: true, words: joined([map.nameOf(address), `line ${line}`]), title: map.sources[line - 1].trim() };
+  return { isLive: true, words: joined([map.nameOf(address), wordsOfLine(line)]), title: map.sources[line - 1].trim() };
 }
 
 /**

@@ -2,6 +2,7 @@
 
 import { MessageReader, fieldOf, framed } from "./framing.js";
 import { CANCELLED, INTERNAL_ERROR, INVALID_REQUEST, METHOD_NOT_FOUND, NOT_INITIALIZED, PARSE_ERROR, ProtocolError } from "./protocol.js";
+import { IT_WAS_CANCELLED } from "../words/bench.js";
 import * as say from "../words/server.js";
 
 /**
@@ -108,7 +109,7 @@ export class Connection {
     }
     if (method === "$/cancelRequest") {
       const id = fieldOf(params, "id");
-      if (this.waiting.delete(id)) this.refuse(id, new ProtocolError(CANCELLED, say.CANCELLED));
+      if (this.waiting.delete(id)) this.refuse(id, new ProtocolError(CANCELLED, IT_WAS_CANCELLED));
       return;
     }
     const act = Object.prototype.hasOwnProperty.call(this.served.notifications, method) && this.served.notifications[method];

@@ -2,6 +2,7 @@
 
 import { element, onClick } from "../ui/dom.js";
 import { underlined } from "./line_layers.js";
+import { wordsOfLine } from "../words/stops.js";
 
 /**
  * @typedef {import("./line_editor.js").LineEditor} LineEditor
@@ -57,7 +58,7 @@ export class FaultView {
 
   /** @param {Fault} fault */
   entry(fault) {
-    const button = element("button", { type: "button" }, element("b", {}, `line ${fault.line}: `), fault.words);
+    const button = element("button", { type: "button" }, element("b", {}, `${wordsOfLine(fault.line)}: `), fault.words);
     onClick(button, () => this.goTo(fault));
     return element("li", {}, button);
   }

@@ -26,8 +26,6 @@ export const BASE_64 = "data is written in base 64";
 
 // --- adapter/client_breakpoints.js ---
 export const HITS_WORDS = "a hit count is a number, as in 5: it stops from that hit on";
-/** @type {(name: string) => string} */
-export const noLabel = (name) => `the program has no label ${name}`;
 /** @type {(most: number) => string} */
 export const mostOn = (most) => `${most} breakpoints are on at most`;
 /** @type {(place: string) => string} */
@@ -125,8 +123,6 @@ export const chipsOf = (chips, isSelected) => `${chips} chips${isSelected ? ", s
 export const chipRegister = (chip, register) => `chip ${chip}, register ${register}`;
 /** @type {(byte: string, chip: number) => string} */
 export const selectsRom = (byte, chip) => `${byte}: ROM ${chip}`;
-/** @type {(bank: string) => string} */
-export const sourceOfBank = (bank) => `SRC of bank ${bank}`;
 export const REGISTERS = "Registers";
 export const PAIRS = "Pairs";
 export const PORTS = "Ports";

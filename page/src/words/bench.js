@@ -1,7 +1,7 @@
 // What people read of the bench's faults: calls that failed, images of ROM. (Its refusals are words of tools/lib/refusals.txt.)
 
 // --- bench/faults.js ---
-export const CANCELLED = "it was cancelled";
+export const IT_WAS_CANCELLED = "it was cancelled";
 export const WORKER_STOPPED = "the bench's worker has stopped";
 
 // --- bench/names_in_lines.js ---

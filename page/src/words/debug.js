@@ -127,7 +127,7 @@ export const noteAsks = (part, isPlace) => (
 /** @type {(chip: number, register: number, character: number) => string} */
 export const characterAt = (chip, register, character) => `chip ${chip}, register ${register}, character ${character}`;
 /** @type {(bank: string) => string} */
-export const sourceOf = (bank) => `SRC of bank ${bank}`;
+export const sourceOfBank = (bank) => `SRC of bank ${bank}`;
 
 // --- debug/usual_faults.js ---
 /** Each kind, as a switch that stops at it is called. */

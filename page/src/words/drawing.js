@@ -112,6 +112,8 @@ export const allLampsOf = (count) => `all ${count} lamps of its display`;
 export const CANNOT_READ = "The board's text is written in a way that the picture cannot change; change it in Board.";
 /** @type {(why: string) => string} */
 export const benchRefuses = (why) => `The bench refuses the board's text: ${why}. Board shows where.`;
+/** @type {(name: string) => string} */
+export const lineOfBoard = (name) => `line ${name}`;
 /** @type {(pin: string, pins: string) => string} */
 export const wireBegins = (pin, pins) => `A wire begins at ${pin}: it can end at ${pins}.`;
 export const NO_WIRE = "No wire was drawn.";

@@ -64,8 +64,6 @@ export const OPEN_AS_SESSION = "Open it as a session";
 export const AS_IT_IS_THERE = "a new session, with the board as it is there";
 export const ADD_TO_TESTS = "Add it to the tests";
 export const AT_END = "at the end of Tests";
-/** @type {(count: number) => string} */
-export const andMore = (count) => ` and ${count} more`;
 /** @type {(line: number) => string} */
 export const lineOfSource = (line) => `Line ${line} of the source`;
 export const NEVER_RUN = "Never run: lines";
@@ -86,6 +84,8 @@ export const NO_FOURTH_CALL = "no more than three calls open";
 export const NO_LONE_RETURN = "no BBL without a call";
 
 // --- explore/report.js ---
+/** @type {(count: number, lines: string) => string} */
+export const linesAre = (count, lines) => `${count === 1 ? "line" : "lines"} ${lines}`;
 /** @type {(part: number, whole: number) => string} */
 export const partOf = (part, whole) => `${part} of ${whole}`;
 /** @type {(seeds: number[], steps: string, seconds: string, rate: string, states: string, isStopped: boolean) => string} */

@@ -23,7 +23,6 @@ export const INITIALIZE_FIRST = "initialize comes first";
 export const INITIALIZE_ONCE = "initialize comes once";
 /** @type {(method: string) => string} */
 export const noMethod = (method) => `there is no ${method} here`;
-export const CANCELLED = "it was cancelled";
 
 // --- server/diagnostics.js ---
 export const MAY_BE_MORE = "There may be more faults.";

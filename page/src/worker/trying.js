@@ -1,6 +1,7 @@
 // What the bench says of texts from elsewhere, on an empty session: its board, and what it refuses.
 
 import { faultsOfLines, sentText } from "../text/text_fault.js";
+import { wordsOfLine } from "../words/stops.js";
 
 /**
  * @typedef {import("./engine.js").Engine} Engine
@@ -24,7 +25,7 @@ export function tryTexts(engine, { boardText, programText }) {
     // A line in it that ends a text would make lines of what follows.
     const [fault] = faultsOfLines(text, mark);
     const lines = `${word}\n${sentText(text, mark)}.\n`;
-    const answer = fault ? `line ${fault.line}: ${fault.words}` : engine.serve(file, lines, file).answers[0];
+    const answer = fault ? `${wordsOfLine(fault.line)}: ${fault.words}` : engine.serve(file, lines, file).answers[0];
     if (!/^ok /.test(answer)) refused.push({ word, answer });
   };
   tryOne("wire", boardText, "#");
