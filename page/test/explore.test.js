@@ -40,14 +40,16 @@ first = 0
 rows = 1
 columns = ["rom1.0", "rom1.1", "rom1.2", "rom1.3"]
 `;
-const PROGRAM = `        FIM P1, 0
+// The row of the keys is driven.
+const DRIVE = `        FIM P1, 0
         FIM P2, 0x10
         SRC P1
         LDM 2
         WRR
         IAC
         WRR
-look:   SRC P2
+`;
+const PROGRAM = `${DRIVE}look:   SRC P2
         RDR
         XCH R6
         SRC P1
@@ -219,29 +221,22 @@ test("walks keep to how many keys are down, for how long, and how far apart", ()
 });
 
 test("keys that are down together at first go up in time, one after the other", () => {
-  const { campaign } = campaignOf("press A B C\ntogether 3\nwait 10 to 60\nheld at most 20\n");
-  const inputs = campaign.inputs.map((input) => ({ ...input, isDown: true }));
+  const { campaign: read } = campaignOf("press A B C\ntogether 3\nwait 10 to 60\nheld at most 20\n");
+  const campaign = { ...read, inputs: read.inputs.map((input) => ({ ...input, isDown: true })) };
   const random = randomFrom(3);
   const steps = [];
-  let [down, since] = [downAtFirst({ ...campaign, inputs }), sinceAtFirst({ ...campaign, inputs })];
+  let [down, since] = [downAtFirst(campaign), sinceAtFirst(campaign)];
   while (down.length > 0) {
-    const step = chooseStep({ ...campaign, inputs }, down, since, random);
+    const step = chooseStep(campaign, down, since, random);
     [down, since] = [downAfter(down, step), sinceAfter(since, step)];
     steps.push(step);
   }
-  assert.ok(isSound({ ...campaign, inputs }, steps));
+  assert.ok(isSound(campaign, steps));
   assert.ok(steps.every(({ wait }) => wait >= 1));
 });
 
 // After A it counts for 99,940 cycles, and then B lights the lamp `on`.
-const LATE = `        FIM P1, 0
-        FIM P2, 0x10
-        SRC P1
-        LDM 2
-        WRR
-        IAC
-        WRR
-first:  SRC P2
+const LATE = `${DRIVE}first:  SRC P2
         RDR
         RAR
         JCN 10, first

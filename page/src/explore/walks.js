@@ -141,7 +141,7 @@ export function isSound(campaign, steps) {
 }
 
 /**
- * How long it can be until something changes: nothing that is down is held for too long.
+ * How long it can be until something changes, so that nothing that is down is held for too long; without end where nothing is down.
  * @param {Campaign} campaign
  * @param {number[]} down
  * @param {number[]} since
