@@ -7,11 +7,11 @@
 import { mkdirSync, readFileSync, writeFileSync } from "node:fs";
 import { dirname } from "node:path";
 import { fileURLToPath } from "node:url";
-import { KEYS } from "../page/src/bench/board_form.js";
-import { KINDS } from "../page/src/board/face_words.js";
-import { instructionsOf } from "../page/src/help/manual.js";
-import { DIRECTIVES } from "../page/src/text/assembly.js";
-import { dataOfPage } from "../tools/lib/page_parts.mjs";
+import { KEYS } from "../js/core/bench/board_form.js";
+import { KINDS } from "../js/core/board/face_words.js";
+import { instructionsOf } from "../js/core/help/manual.js";
+import { DIRECTIVES } from "../js/core/text/assembly.js";
+import { dataOfPage } from "../js/node/page_parts.mjs";
 
 const OWN = dirname(fileURLToPath(import.meta.url));
 const INSTRUCTIONS = [...instructionsOf(dataOfPage().manual).keys()].sort();

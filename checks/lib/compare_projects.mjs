@@ -2,7 +2,7 @@
 // It prints a line of each difference, and then how many texts were right, how many wrong, and how many kinds of faults these had.
 import { execFileSync } from "node:child_process";
 import { fileURLToPath } from "node:url";
-import { filesNamed, readProjectToml } from "../../page/src/project/project_toml.js";
+import { filesNamed, readProjectToml } from "../../js/core/project/project_toml.js";
 
 const READER = fileURLToPath(new URL("../../tools/lib/project_toml.awk", import.meta.url));
 const GOOD = 'board = "board.toml"\nprogram = "p.asm"\ntests = ["a.test", "b/c.test"] # two\nproperties = []\nspeed = "full"\n';

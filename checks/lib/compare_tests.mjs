@@ -5,9 +5,9 @@ import { spawnSync } from "node:child_process";
 import { readFileSync } from "node:fs";
 import { dirname, join } from "node:path";
 import { fileURLToPath } from "node:url";
-import { wordsOfCoverage } from "../../page/src/testing/coverage.js";
-import { runTests } from "../../page/src/testing/testing.js";
-import { Engine } from "../../page/src/worker/engine.js";
+import { wordsOfCoverage } from "../../js/core/testing/coverage.js";
+import { runTests } from "../../js/core/testing/testing.js";
+import { Engine } from "../../js/core/engine/engine.js";
 
 const top = join(dirname(fileURLToPath(import.meta.url)), "../..");
 const [page] = process.argv.slice(2);

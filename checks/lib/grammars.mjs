@@ -2,10 +2,10 @@
 // text, a letter for each of its characters: what the page, or a grammar that is read here as its editor reads it, makes of it. c comment,
 // l label, k name that is defined by =, i instruction, d directive, r register, n number, v name, t table, p key, s text, . nothing.
 import { readFileSync } from "node:fs";
-import { instructionsOf } from "../../page/src/help/manual.js";
-import { BoardLanguage } from "../../page/src/server/board_language.js";
-import { partsOf, tokensOf } from "../../page/src/text/assembly.js";
-import { dataOfPage } from "../../tools/lib/page_parts.mjs";
+import { instructionsOf } from "../../js/core/help/manual.js";
+import { BoardLanguage } from "../../js/core/server/board_language.js";
+import { partsOf, tokensOf } from "../../js/core/text/assembly.js";
+import { dataOfPage } from "../../js/node/page_parts.mjs";
 
 const EDITORS = new URL("../../editors/", import.meta.url);
 const [how, name] = process.argv.slice(2);

@@ -43,7 +43,7 @@ indexedDB.open("fethsaim", 1).onsuccess = (opened) => {
 }"""
 KEPT_WHEN_HIDDEN = "const kept = window.keptWhenHidden; return [kept.length, new Set(kept).size]"
 
-# The text of an editor, and another one in its place; the editor is one of lines (page/src/text/line_editor.js), which its element knows.
+# The text of an editor, and another one in its place; the editor is one of lines (js/page/text/line_editor.js), which its element knows.
 TEXT_OF_EDITOR = "return document.querySelector(`${arguments[0]} .cm-editor`).lineEditor.getValue()"
 PUT_INTO_EDITOR = "document.querySelector(`${arguments[0]} .cm-editor`).lineEditor.setValue(arguments[1])"
 

@@ -12,7 +12,7 @@ PULSES_BOARD = ROM + "".join(f'[[lamp]]\nline = "rom0.{line}"\n' for line in ran
 # Lamp 0 is lit for 3 cycles in a turn, lamp 1 for the rest of them, lamp 2 always, lamp 3 never.
 PULSES = "FIM P0, 0\nSRC P0\nloop: LDM 5\nWRR\nNOP\nLDM 6\nWRR\nFIM P1, 0\nwait: ISZ R2, wait\nJUN loop\n"
 # Shifts 42 out all the time, segment by segment.
-REFRESHED_BOARD, REFRESHED = ((TOP / f"page/test/two_digits.{kind}").read_text() for kind in ("toml", "asm"))
+REFRESHED_BOARD, REFRESHED = ((TOP / f"js/test/two_digits.{kind}").read_text() for kind in ("toml", "asm"))
 TOLD = "return document.getElementById('shine-told').textContent"
 # From here on: in each frame, how bright each lamp is, and what the display shows.
 WATCH = """

@@ -1,5 +1,5 @@
 # The face of a board: what the comments of its text say of names, colours and places. Its words stand in face.txt, whose folder the
-# environment names (`lib`), with what they mean; page/src/board/face.js reads the same by it; checks/faces has texts that both are tried with.
+# environment names (`lib`), with what they mean; js/core/board/face.js reads the same by it; checks/faces has texts that both are tried with.
 #
 # read_face(file) fills key_row[name], key_column[name], key_name[row, column], lamp_name[n], lamp_number[name]; the displays, whose count
 # is display_count; lamp_colour[n]; the places on the grid, whose count is grid_count; the groups, whose count is group_count; face_title,

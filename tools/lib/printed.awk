@@ -1,5 +1,5 @@
-# What a program sends to the board's printer, as lines of paper: by the answers to `trace`, before each run. page/src/worker/printing.js and
-# page/src/board/strip.js have the same. Needs face.awk, ahead.awk, and who has run_counted(n). Nothing is asked unless `some_print` is set.
+# What a program sends to the board's printer, as lines of paper: by the answers to `trace`, before each run. js/core/engine/printing.js and
+# js/core/board/strip.js have the same. Needs face.awk, ahead.awk, and who has run_counted(n). Nothing is asked unless `some_print` is set.
 
 BEGIN {
     paper_width = 24

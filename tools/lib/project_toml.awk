@@ -1,5 +1,5 @@
-# Reads a project file, `mcs4.toml`, from standard input, as page/src/project/project_toml.js does; the words of a text of TOML are those of
-# page/src/text/toml_words.js, its statements those of board_reader.js there. It tells a line `NUMBER<tab>KEY<tab>VALUE` for each value, or the
+# Reads a project file, `mcs4.toml`, from standard input, as js/core/project/project_toml.js does; the words of a text of TOML are those of
+# js/core/text/toml_words.js, its statements those of board_reader.js there. It tells a line `NUMBER<tab>KEY<tab>VALUE` for each value, or the
 # first fault alone, `fault<tab>NUMBER<tab>WORDS`.
 
 BEGIN {

@@ -1,5 +1,5 @@
 # The text of a board (`word` is `wire`) or of a program (`asm`, `map`) as it is sent to the bench: line for line, without comments and
-# indentation, as the page sends it (page/src/text/text_fault.js). Blanks may belong to a string of TOML that goes over several lines; such
+# indentation, as the page sends it (js/core/text/text_fault.js). Blanks may belong to a string of TOML that goes over several lines; such
 # a text, and each one where `whole` is 1, keeps them and its comments, in which a blank stands for what is no printing character of ASCII.
 # Such a character elsewhere stays, and the bench refuses it. The last line has an end.
 

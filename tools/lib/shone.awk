@@ -1,5 +1,5 @@
 # How bright lamps are to an eye, by an answer to `trace n lamps`: the part of the time for which each is lit, and what each digit of the
-# displays shows longest. page/src/worker/shining.js has the same. Needs face.awk.
+# displays shows longest. js/core/engine/shining.js has the same. Needs face.awk.
 #
 # take_shone(line) takes the lines of the answer, the head first, and is 1 once the last one is taken. Then shone_part[n] is the part for
 # lamp n, shone_count how many lamps there are, and shone_text() what the displays show.

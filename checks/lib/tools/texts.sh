@@ -24,7 +24,7 @@ verdict "$(outcome tools/test "$folder/marked.toml" "$folder/marked.asm" "$folde
 ok 1 - t
 status 0" "texts with a byte order mark"
 verdict "$(outcome tools/listing "$folder/marked.asm" | sed 1q)" "                 ; z$(printf '\303\244')hle" "a listing with letters beyond ASCII"
-# The same text by the page: page/src/text/text_fault.js.
+# The same text by the page: js/core/text/text_fault.js.
 printf 'a = """x\n  # no comment\n""" # one\n  b = 1 # another\n' > "$folder/strings.toml"
 printf '\tNOP ; .\n\t. ; a dot alone\n  . \nx: ;\n ; y\n\n  LDM 1' > "$folder/dots.asm"
 printf '\t[[lamp]] # "x\nline = "a#b" # c\nx = '\''#"'\'' # "d"\ny = "\\"#" # e\nz = "no end # f\n' > "$folder/marks.toml"
@@ -41,7 +41,7 @@ script
         esac
         iconv -c -f UTF-8 -t UTF-8 < "$file" > "$folder/utf8" || :
         verdict "$(sed "1s/^$(printf "$bytes_of_mark")//" "$folder/utf8" | LC_ALL=C awk -v word="$2" -f tools/lib/sent.awk)" \
-            "$(node "$folder/sent.mjs" "$top/page/src/text/text_fault.js" "$folder/utf8" "$1")" "$file as the page sends it"
+            "$(node "$folder/sent.mjs" "$top/js/core/text/text_fault.js" "$folder/utf8" "$1")" "$file as the page sends it"
     done
 fi
 # Comments and indentation do not count: a text of 20,000 bytes, and a line of 300. The script keeps them where the bench takes them.

@@ -1,0 +1,266 @@
+// The breakpoints that the client sets, of lines, labels and addresses, with those that the session had before; put together they are the
+// list that the debugger has.
+
+import { readBoard, watchedPlaces } from "../bench/answers.js";
+import { LAST_ADDRESS, hex } from "../bench/numbers.js";
+import { BreakpointList, MOST_BREAKPOINTS, MOST_ON, instructionOfAddress, instructionOfLine } from "../debug/breakpoints.js";
+import { placeOf } from "../bench/places.js";
+import { listOf, needNumber, needText, textOrNone, wordsOf } from "./protocol.js";
+import * as say from "../../words/adapter.js";
+import { noLabel } from "../../words/debug.js";
+
+/**
+ * @typedef {import("../debug/debug_session.js").DebugSession} DebugSession
+ *
+ * One that is wanted: where it is, what it needs to stop, and why it cannot be, "" where it can.
+ * @typedef {{ id: number, line: number, address: number, condition: string, from: number, note: string, words: string }} Wanted
+ *
+ * As the protocol tells it, with lines counted from 1.
+ * @typedef {{ id: number, verified: boolean, line?: number, message?: string, address: number }} Told
+ * @typedef {"lines" | "labels" | "addresses"} Kind
+ */
+
+/** @type {Omit<Wanted, "id">} */
+const PLAIN = { line: 0, address: -1, condition: "", from: 1, note: "", words: "" };
+const HITS = /^(?:>=|=|==|>)?\s*(\d{1,9})$/;
+const MOST_DATA = 8;
+
+/**
+ * From which hit on it stops, by what the client calls a hit condition.
+ * @param {string} text
+ */
+function fromOf(text) {
+  const told = text.trim();
+  if (told === "") return { from: 1, words: "" };
+  const found = HITS.exec(told);
+  const from = found ? Number(found[1]) + (told.startsWith(">") && !told.startsWith(">=") ? 1 : 0) : 0;
+  return from >= 1 ? { from, words: "" } : { from: 1, words: say.HITS_WORDS };
+}
+
+/**
+ * What may stand at any breakpoint.
+ * @param {any} given
+ */
+function partsOf(given) {
+  const { from, words } = fromOf(textOrNone(given, "hitCondition"));
+  return { condition: textOrNone(given, "condition"), note: textOrNone(given, "logMessage"), from, words };
+}
+
+export class ClientBreakpoints {
+  /** @param {DebugSession} session */
+  constructor(session) {
+    this.session = session;
+    this.made = 0;
+    /** @type {Record<Kind, Wanted[]>} */
+    this.wanted = { lines: [], labels: [], addresses: [] };
+    /** The addresses of those that the session had. */
+    this.own = session.debugger.session.breaks;
+    /** The characters that the session watched, and those that the client watches, as `B 0xSS`. */
+    this.ownWatches = watchesOf(session);
+    /** @type {string[]} */
+    this.data = [];
+    /** @type {Map<number, Wanted>} those of the list, by its ids */
+    this.byId = new Map();
+  }
+
+  /** @param {Partial<Wanted>} some */
+  make(some) {
+    this.made += 1;
+    return { ...PLAIN, ...some, id: this.made };
+  }
+
+  // --- what the client wants ---
+
+  /**
+   * @param {any} args
+   * @param {(line: number) => number} lineOf a line as it is counted here
+   */
+  setLines(args, lineOf) {
+    const { map } = this.session;
+    return this.set("lines", listOf(args, "breakpoints").map((given) => {
+      const { line, address, words } = instructionOfLine(lineOf(needNumber(given, "line")), map);
+      return this.make({ ...partsOf(given), line, address, ...(address < 0 ? { words } : {}) });
+    }));
+  }
+
+  /** @param {any} args */
+  setLabels(args) {
+    const { map } = this.session;
+    return this.set("labels", listOf(args, "breakpoints").map((given) => {
+      const name = needText(given, "name").trim();
+      const found = map.names.get(name);
+      const words = found && found.isLabel ? "" : noLabel(name);
+      const address = found && found.isLabel ? found.value : -1;
+      return this.make({ ...partsOf(given), line: address < 0 ? 0 : map.lineOf(address), address, ...(words ? { words } : {}) });
+    }));
+  }
+
+  /**
+   * @param {any} args
+   * @param {(reference: string) => number} addressOf
+   */
+  setAddresses(args, addressOf) {
+    const { map } = this.session;
+    return this.set("addresses", listOf(args, "breakpoints").map((given) => {
+      const wanted = addressOf(needText(given, "instructionReference")) + needNumber(given, "offset", 0);
+      const isThere = wanted >= 0 && wanted <= LAST_ADDRESS;
+      const { line, address } = isThere ? instructionOfAddress(wanted, map) : { line: 0, address: -1 };
+      return this.make({ ...partsOf(given), line, address, ...(isThere ? {} : { words: say.ADDRESSES_ARE }) });
+    }));
+  }
+
+  /**
+   * @param {Kind} kind
+   * @param {Wanted[]} wanted
+   */
+  async set(kind, wanted) {
+    this.wanted[kind] = wanted;
+    const faults = await this.apply();
+    return wanted.map((each) => this.told(each, faults.get(each) || ""));
+  }
+
+  /**
+   * @param {Wanted} wanted
+   * @param {string} fault
+   * @returns {Told}
+   */
+  told({ id, line, address, words }, fault) {
+    const message = words || fault;
+    return { id, verified: message === "", ...(line > 0 ? { line } : {}), ...(message ? { message } : {}), address };
+  }
+
+  // --- the debugger's list ---
+
+  /** All of them, each address once: a breakpoint of the client stands before one that the session had. */
+  all() {
+    /** @type {Map<number, Wanted>} */
+    const all = new Map();
+    const { lines, labels, addresses } = this.wanted;
+    for (const each of [...lines, ...labels, ...addresses]) {
+      if (each.words === "" && each.address >= 0 && !all.has(each.address)) all.set(each.address, each);
+    }
+    for (const address of this.own) if (!all.has(address)) all.set(address, { ...PLAIN, id: 0, address });
+    return all;
+  }
+
+  /** They are those that stop from here on. Gives why some cannot be. */
+  async apply() {
+    const { session } = this;
+    /** @type {Map<Wanted, string>} */
+    const faults = new Map();
+    const all = [...this.all().values()];
+    const isTooMany = (/** @type {number} */ at) => at >= MOST_ON;
+    all.forEach((each, at) => isTooMany(at) && faults.set(each, say.mostOn(MOST_ON)));
+    const hits = new Map([...this.byId].map(([id, { address }]) => [address, (session.breakpoints.get(id) || { hits: 0 }).hits]));
+    session.breakpoints = new BreakpointList();
+    this.byId.clear();
+    for (const each of all.slice(0, Math.min(MOST_ON, MOST_BREAKPOINTS))) {
+      const { address, condition, from, note } = each;
+      const made = session.breakpoints.add({ address, condition, from, note });
+      made.hits = hits.get(address) || 0;
+      this.byId.set(made.id, each);
+    }
+    const { faults: unreadable } = await session.applyBreakpoints();
+    for (const [id, words] of unreadable) faults.set(/** @type {Wanted} */ (this.byId.get(id)), words);
+    return faults;
+  }
+
+  /**
+   * The client's breakpoint that is one of the debugger's, and which kind it is of; 0 for one that the session had.
+   * @param {number} id
+   */
+  ofStop(id) {
+    const found = this.byId.get(id);
+    if (!found || found.id === 0) return { id: 0, reason: "breakpoint" };
+    const { labels, addresses } = this.wanted;
+    if (labels.includes(found)) return { id: found.id, reason: "function breakpoint" };
+    return { id: found.id, reason: addresses.includes(found) ? "instruction breakpoint" : "breakpoint" };
+  }
+
+  /** The program has moved: each of them is where its line is now. Gives those that have another place. */
+  async moveWithProgram() {
+    const { map } = this.session;
+    const moved = this.wanted.lines.filter((each) => {
+      const { line, address, words } = instructionOfLine(Math.max(1, each.line), map);
+      const isOther = line !== each.line || address !== each.address;
+      Object.assign(each, { line, address, words: address < 0 ? words : each.words });
+      return isOther;
+    });
+    await this.apply();
+    return moved.map((each) => this.told(each, ""));
+  }
+
+  // --- characters that are watched ---
+
+  /** @param {any} args */
+  async setData(args) {
+    const asked = listOf(args, "breakpoints").map((given) => needText(given, "dataId"));
+    const places = asked.map((dataId) => watchOf(dataId));
+    const wanted = [...new Set(places.filter((place) => place !== ""))].slice(0, MOST_DATA - this.ownWatches.length);
+    const gone = this.data.filter((place) => !wanted.includes(place) && !this.ownWatches.includes(place));
+    const come = wanted.filter((place) => !this.data.includes(place) && !this.ownWatches.includes(place));
+    const lines = [...gone.map((place) => `unwatch ${place}\n`), ...come.map((place) => `watch ${place}\n`)].join("");
+    if (lines) await this.session.debugger.session.serve(lines, async () => true);
+    this.data = wanted;
+    const now = watchesOf(this.session);
+    return places.map((place, at) => {
+      const verified = now.includes(place);
+      return { verified, ...(verified ? {} : { message: say.notWatched(asked[at]) }) };
+    });
+  }
+
+  /** Those that the session has beside the client's are its own. */
+  takeOwn() {
+    const { lines, labels, addresses } = this.wanted;
+    const ofClient = new Set([...lines, ...labels, ...addresses].map(({ address }) => address));
+    this.own = this.session.debugger.session.breaks.filter((address) => !ofClient.has(address));
+    this.ownWatches = watchesOf(this.session).filter((place) => !this.data.includes(place));
+  }
+
+  /** The session has the breakpoints and watches that it had before, and no other. */
+  async leave() {
+    this.wanted = { lines: [], labels: [], addresses: [] };
+    try {
+      await this.apply();
+      await this.setData({});
+    } catch (thrown) {
+      return wordsOf(thrown);
+    }
+    return "";
+  }
+}
+
+/**
+ * The characters that a session watches.
+ * @param {DebugSession} session
+ */
+function watchesOf(session) {
+  return watchedPlaces(session.debugger.session.ask("watches\n")[0]).map(watchOf);
+}
+
+/**
+ * How `watch` calls a character of RAM; "" for any other place.
+ * @param {string} name
+ */
+export function watchOf(name) {
+  const place = placeOf(name);
+  const found = place && /^ram\.([0-7])\.0x([0-9A-F]{2})$/.exec(place.name);
+  return found ? `${found[1]} 0x${found[2]}` : "";
+}
+
+/**
+ * What the client calls a character that can be watched, and how; null where a variable is none.
+ * @param {string} name
+ * @param {DebugSession} session
+ */
+export function dataOf(name, session) {
+  const place = placeOf(name);
+  const board = readBoard(session.debugger.session.lookQuestions.board);
+  const isThere = place !== null && watchOf(name) !== "" && place.probesOn(board).length > 0;
+  return isThere && place ? { dataId: place.name, description: say.changes(place.name) } : null;
+}
+
+/** @param {number} address */
+export function referenceOf(address) {
+  return `0x${hex(address, 3)}`;
+}

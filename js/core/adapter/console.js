@@ -1,0 +1,189 @@
+// Lines in the console: those of the bench, with names for addresses; keys by their names; moves that have no button; and expressions.
+
+import { FORMS } from "../bench/answer_table.js";
+import { readRun, refusalOf } from "../bench/answers.js";
+import { readInputs } from "../bench/inputs.js";
+import { putNames } from "../bench/names_in_lines.js";
+import { LAST_ADDRESS, numberOf } from "../bench/numbers.js";
+import { keysOf } from "../testing/test_text.js";
+import { AdapterError, fail, wordsOf } from "./protocol.js";
+import { valueOfExpression } from "./values.js";
+import * as say from "../../words/adapter.js";
+import { noKey } from "../../words/testing.js";
+
+/**
+ * @typedef {import("./machine.js").Machine} Machine
+ * @typedef {import("./values.js").Known} Known
+ * @typedef {import("../bench/words.js").Words} Words
+ *
+ * What came of a line: words, whether the machine is another one now, and a move that begins once they are told.
+ * @typedef {{ words: string, changes: boolean, move: (() => void) | null }} Done
+ */
+
+/** What a line begins with. */
+export const FIRST_WORDS = ["press", "release", "keys", "until", "change", "back", "forward", "help", "display", ...FORMS.keys()];
+/** So many characters of lines, and so many lines, are taken at once. */
+const LONGEST = 65536;
+const MOST_INPUTS = 1000;
+/** Lines that only ask. */
+const ASKS = new Set(["lamps", "regs", "ram", "list", "board", "breaks", "watches", "ports", "seq", "state", "count", "trace", "map"]);
+const RUNS = new Set(["run", "step"]);
+const BREAKS = new Set(["break", "unbreak", "watch", "unwatch"]);
+
+/** @type {(words: string) => Done} */
+const told = (words) => ({ words, changes: false, move: null });
+
+export class Console {
+  /**
+   * @param {Machine} machine
+   * @param {Known} known
+   * @param {Words} words of refusals
+   * @param {{ breaksChanged: () => void, romChanged: () => void }} calls
+   */
+  constructor(machine, known, words, calls) {
+    this.calls = calls;
+    this.machine = machine;
+    this.known = known;
+    this.words = words;
+    this.keys = keysOf(known.face);
+  }
+
+  get session() {
+    return this.known.session;
+  }
+
+  /**
+   * @param {string} text
+   * @returns {Promise<Done>}
+   */
+  async take(text) {
+    const line = text.trim();
+    if (line.length > LONGEST) fail(say.tooLong(LONGEST));
+    const [word, ...rest] = line.split("\n")[0].split(/[ \t]+/);
+    if (line === "" || line === "help" || line === "?") return told(say.HELP);
+    const isNumbers = rest.length === 2 && rest.every((each) => !Number.isNaN(numberOf(each)));
+    if ((word === "press" || word === "release") && !isNumbers) return this.moveKeys(word, rest);
+    if (word === "keys" && rest.length > 0) return this.typeKeys(rest);
+    if (word === "until" || word === "change" || word === "back" || word === "forward") return this.moveTo(word, rest);
+    return FORMS.has(word) ? this.serve(line) : this.valueOf(line);
+  }
+
+  /** @param {string} line */
+  valueOf(line) {
+    try {
+      return told(valueOfExpression(line, this.known));
+    } catch (thrown) {
+      return fail(say.seeHelp(wordsOf(thrown)));
+    }
+  }
+
+  // --- keys ---
+
+  /** @param {string} name */
+  keyOf(name) {
+    const there = [...this.keys.keys()].join(" ");
+    const key = this.keys.get(name);
+    return key || fail(noKey(name, there));
+  }
+
+  /**
+   * Where time stands a key stays as it is put; while it runs, it is pressed for a short time.
+   * @param {"press" | "release"} word
+   * @param {string[]} names
+   */
+  async moveKeys(word, names) {
+    if (names.length === 0) fail(say.keyForm(word));
+    const keys = names.map((name) => this.keyOf(name));
+    if (this.machine.isMoving && word === "press") return this.queue(keys);
+    const lines = keys.map((key) => `${key[word]}\n`).join("");
+    return this.served(lines);
+  }
+
+  /** @param {string[]} words */
+  typeKeys(words) {
+    const keys = words.flatMap((word) => (this.keys.has(word) ? [word] : [...word])).map((name) => this.keyOf(name));
+    return this.queue(keys);
+  }
+
+  /** @param {{ name: string, press: string }[]} keys */
+  queue(keys) {
+    const { queue } = this.session.debugger.session;
+    for (const { press } of keys) {
+      const key = press.startsWith("press ") ? press.slice("press ".length) : press;
+      queue.press(key);
+      queue.release(key);
+    }
+    return told(this.machine.isMoving ? "" : say.keysWait(keys.length));
+  }
+
+  // --- moves ---
+
+  /**
+   * @param {string} word
+   * @param {string[]} rest
+   * @returns {Done}
+   */
+  moveTo(word, rest) {
+    if (this.machine.isMoving) fail(say.TIME_RUNS);
+    const where = rest.join(" ");
+    /** @type {(act: () => void) => Done} */
+    const move = (act) => ({ words: "", changes: false, move: act });
+    if (word === "forward") return move(() => this.machine.forward());
+    if (word === "back") return move(() => this.machine.back(where === "" ? { kind: "instruction" } : { kind: "change", place: where }));
+    if (where === "") fail(say.placeForm(word === "until" ? say.UNTIL_FORM : say.CHANGE_FORM));
+    if (word === "change") return move(() => this.machine.go({ kind: "change", place: where }));
+    const address = addressOf(where, this.known);
+    return move(() => this.machine.go({ kind: "here", address }));
+  }
+
+  // --- lines of the bench ---
+
+  /**
+   * @param {string} line
+   * @returns {Promise<Done>}
+   */
+  async serve(line) {
+    const { lines, words } = putNames(`${line}\n`, this.session.map);
+    if (words) fail(words);
+    const kinds = readInputs(lines).map(({ kind }) => kind);
+    if (kinds.length > MOST_INPUTS) fail(say.tooManyLines(MOST_INPUTS));
+    if (this.machine.isMoving && kinds.some((kind) => RUNS.has(kind))) fail(say.TIME_RUNS);
+    if (kinds.every((kind) => ASKS.has(kind))) return told(this.session.debugger.session.ask(lines).join("\n"));
+    const done = await this.served(lines);
+    if (kinds.some((kind) => BREAKS.has(kind))) this.calls.breaksChanged();
+    return done;
+  }
+
+  /**
+   * @param {string} lines
+   * @returns {Promise<Done>}
+   */
+  async served(lines) {
+    const { entries, touchesRom, tally, words: stopWords } = await this.session.serve(lines);
+    if (touchesRom) this.calls.romChanged();
+    const answers = entries.flatMap((entry) => entry.answers);
+    const words = answers.map((answer) => {
+      const refusal = refusalOf(answer);
+      return refusal ? `${answer}: ${this.words.ofRefusal(refusal.number)}` : answer;
+    });
+    const refused = answers.every((answer) => refusalOf(answer));
+    if (refused && answers.length > 0) throw new AdapterError(words.join("\n"));
+    this.machine.tellTally(tally, tally.noted);
+    if (answers.some((answer) => readRun(answer))) this.machine.tellShown();
+    return { words: [...words, ...(stopWords ? [stopWords] : [])].join("\n"), changes: true, move: null };
+  }
+}
+
+/**
+ * The address that a label or a number says.
+ * @param {string} text
+ * @param {Known} known
+ * @returns {number}
+ */
+export function addressOf(text, { session }) {
+  const word = text.trim().replace(/^@/, "");
+  const number = /^[0-9A-Fa-f]{3}$/.test(word) && Number.isNaN(numberOf(word)) ? parseInt(word, 16) : numberOf(word);
+  const named = Number.isNaN(number) ? session.map.valueOf(word) : number;
+  if (named === undefined) return fail(say.noAddress(word));
+  return named <= LAST_ADDRESS ? named : fail(say.ADDRESS_RANGE);
+}

@@ -1,0 +1,504 @@
+// The debug adapter: an editor launches a program on a board in it, or a session file, stops it at breakpoints, goes on and back, and looks
+// at what stands in the machine. The debugger is that of the page (debug/debug_session.js).
+//
+//     const adapter = new DebugAdapter(new AdapterConnection(write), engine, dataOfPage, host);   (launching.js says what a host gives)
+//     connection.take(bytes) ..; await adapter.leave() where the client has gone
+
+import { LAST_ADDRESS, hex } from "../bench/numbers.js";
+import { Face } from "../board/face.js";
+import { instructionOfLine } from "../debug/breakpoints.js";
+import { KINDS } from "../../words/debug.js";
+import { standsAt } from "../../words/stops.js";
+import { instructionsOf } from "../help/manual.js";
+import { fieldOf } from "../server/framing.js";
+import { Words } from "../bench/words.js";
+import { Followed } from "./adapter_connection.js";
+import { Answering } from "./answering.js";
+import { ClientBreakpoints, dataOf, referenceOf } from "./client_breakpoints.js";
+import { Console, addressOf } from "./console.js";
+import { differenceWords, launch } from "./launching.js";
+import { Machine } from "./machine.js";
+import { NOT_STOPPED, fail, listOf, needNumber, needText, textOrNone } from "./protocol.js";
+import { Scopes } from "./scopes.js";
+import { ShownBoard, changeKey } from "./shown_board.js";
+import * as say from "../../words/adapter.js";
+
+/**
+ * @typedef {import("./adapter_connection.js").Act} Act
+ * @typedef {import("./adapter_connection.js").AdapterConnection} AdapterConnection
+ * @typedef {import("./launching.js").Host} Host
+ * @typedef {import("./launching.js").Launched} Launched
+ * @typedef {import("./machine.js").Ended} Ended
+ * @typedef {import("../debug/usual_faults.js").Kind} Kind
+ *
+ * What is there once a session is launched.
+ * @typedef {{ launched: Launched, machine: Machine, breakpoints: ClientBreakpoints, console: Console, answering: Answering }} Open
+ */
+
+const THREAD = 1;
+const CAPABILITIES = {
+  supportsConfigurationDoneRequest: true,
+  supportsFunctionBreakpoints: true,
+  supportsConditionalBreakpoints: true,
+  supportsHitConditionalBreakpoints: true,
+  supportsLogPoints: true,
+  supportsDataBreakpoints: true,
+  supportsInstructionBreakpoints: true,
+  supportsBreakpointLocationsRequest: true,
+  supportsEvaluateForHovers: true,
+  supportsStepBack: true,
+  supportsSetVariable: true,
+  supportsSetExpression: true,
+  supportsRestartRequest: true,
+  supportsGotoTargetsRequest: true,
+  supportsCompletionsRequest: true,
+  supportsDisassembleRequest: true,
+  supportsReadMemoryRequest: true,
+  supportsWriteMemoryRequest: true,
+  supportsSteppingGranularity: true,
+  supportsLoadedSourcesRequest: true,
+  supportsTerminateRequest: true,
+  supportsExceptionInfoRequest: true,
+  exceptionBreakpointFilters: Object.entries(KINDS).map(([filter, label]) => ({ filter, label, default: false })),
+};
+
+export class DebugAdapter {
+  /**
+   * @param {AdapterConnection} connection
+   * @param {import("../engine/engine.js").Engine} engine
+   * @param {{ refusals: Record<string, string>, manual: import("../help/manual.js").ManualSection[] }} data of the page
+   * @param {Host & { end: (status: number) => void }} host
+   */
+  constructor(connection, engine, { refusals, manual }, host) {
+    this.connection = connection;
+    this.engine = engine;
+    this.host = host;
+    this.words = new Words(refusals);
+    this.instructions = instructionsOf(manual);
+    /** How the client counts lines, and whether it can be told that values are others. */
+    this.firstLine = 1;
+    this.takesInvalidated = false;
+    /** @type {Open | null} */
+    this.open = null;
+    this.isConfigured = false;
+    /** @type {Promise<string> | null} once it is left */
+    this.leaving = null;
+    /** @type {Ended | null} the last stop */
+    this.ended = null;
+    /** @type {ShownBoard | null} where the client draws the board */
+    this.shownBoard = null;
+    connection.requests = { ...this.lifeRequests(), ...this.breakpointRequests(), ...this.moveRequests(), ...this.askRequests() };
+  }
+
+  /** @returns {Open} */
+  get there() {
+    return this.open || fail(say.NOTHING_LAUNCHED);
+  }
+
+  // --- from launch to disconnect ---
+
+  /** @returns {Record<string, Act>} */
+  lifeRequests() {
+    return {
+      initialize: (args) => {
+        this.firstLine = fieldOf(args, "linesStartAt1") === false ? 0 : 1;
+        this.takesInvalidated = fieldOf(args, "supportsInvalidatedEvent") === true;
+        if (textOrNone(args, "pathFormat") === "uri") fail(say.PATHS_ONLY);
+        return CAPABILITIES;
+      },
+      launch: (args) => this.launch(args),
+      attach: () => fail(say.NOTHING_TO_ATTACH),
+      configurationDone: () => {
+        const { launched } = this.there;
+        if (this.isConfigured) fail(say.CONFIGURED_ONCE);
+        this.isConfigured = true;
+        return new Followed(undefined, () => (launched.stopsOnEntry ? this.stopped(this.standing("entry")) : this.there.machine.go(null)));
+      },
+      restart: (args) => this.restart(args),
+      terminate: () => new Followed(undefined, () => {
+        this.leave().then(() => this.connection.tell("terminated"));
+      }),
+      disconnect: async () => {
+        const words = await this.leave();
+        if (words) this.output(`${words}\n`, "stderr");
+        return new Followed(undefined, () => this.host.end(words ? 1 : 0));
+      },
+    };
+  }
+
+  /** @param {any} args */
+  async launch(args) {
+    if (this.open) fail(say.LAUNCH_ONCE);
+    await this.begin(await launch(this.engine, args, this.host, this.words));
+    return new Followed(undefined, () => this.connection.tell("initialized"));
+  }
+
+  /** @param {Launched} launched */
+  async begin(launched) {
+    const { session } = launched;
+    const machine = new Machine(session, launched.kept, {
+      stopped: (ended) => this.stopped(ended),
+      output: (words, category) => this.output(words, category),
+      pause: this.host.pause,
+      looked: () => this.tellBoard(),
+    }, launched.isRealTime);
+    const breakpoints = new ClientBreakpoints(session);
+    await breakpoints.apply();
+    const face = new Face(session.boardText);
+    const known = { session, face, instructions: this.instructions, shown: () => machine.shown.now() };
+    const lines = new Console(machine, known, this.words, {
+      breaksChanged: () => breakpoints.takeOwn(), romChanged: () => this.tellRom(launched),
+    });
+    const answering = new Answering(launched, new Scopes(session, face), known, this.firstLine);
+    this.open = { launched, machine, breakpoints, console: lines, answering };
+    if (this.shownBoard) this.shownBoard = new ShownBoard(machine);
+    this.tellBoard();
+  }
+
+  /** @param {Launched} launched */
+  tellRom({ session }) {
+    const words = differenceWords(session);
+    if (words) this.output(`${say.sourceDiffers(words)}\n`, "console");
+  }
+
+  /**
+   * Begins anew: a session file by a power cycle, else with the texts as they are now.
+   * @param {any} args
+   */
+  async restart(args) {
+    const { machine, launched, breakpoints } = this.there;
+    await this.halt();
+    if (launched.kept) {
+      await launched.session.debugger.session.serve("reset\n", async () => true);
+      await machine.stand();
+    } else {
+      const given = fieldOf(args, "arguments");
+      const { wanted, made } = breakpoints;
+      await this.begin(await launch(this.engine, given === undefined ? this.given(launched) : given, this.host, this.words));
+      Object.assign(this.there.breakpoints, { wanted, made });
+      for (const moved of await this.there.breakpoints.moveWithProgram()) this.tellBreakpoint(moved);
+    }
+    return new Followed(undefined, () => this.stopped(this.standing("entry")));
+  }
+
+  /** @param {Launched} launched */
+  given({ program, board }) {
+    return { program, board };
+  }
+
+  /** Time that runs is stopped. */
+  async halt() {
+    if (!this.open) return;
+    const { machine } = this.open;
+    machine.pause();
+    await machine.move;
+  }
+
+  /** The session is left as it is, with the breakpoints that it had. Gives what was not kept, in words. */
+  leave() {
+    if (!this.leaving) this.leaving = this.leaveOnce();
+    return this.leaving;
+  }
+
+  async leaveOnce() {
+    const { open } = this;
+    if (!open) return "";
+    await this.halt();
+    this.open = null;
+    const { kept, session } = open.launched;
+    if (!kept) return "";
+    const words = await open.breakpoints.leave();
+    try {
+      await kept.write(session.debugger.session);
+      return words;
+    } catch (thrown) {
+      return thrown instanceof Error ? thrown.message : String(thrown);
+    } finally {
+      await kept.end();
+    }
+  }
+
+  // --- breakpoints ---
+
+  /** @returns {Record<string, Act>} */
+  breakpointRequests() {
+    return {
+      setBreakpoints: (args) => this.setBreakpoints(args),
+      setFunctionBreakpoints: (args) => this.set((breakpoints) => breakpoints.setLabels(args)),
+      setInstructionBreakpoints: (args) => (
+        this.set((breakpoints) => breakpoints.setAddresses(args, (reference) => this.addressIn(reference)))),
+      dataBreakpointInfo: (args) => this.dataInfo(args),
+      setDataBreakpoints: (args) => {
+        const { machine, breakpoints } = this.there;
+        return machine.quietly(async () => ({ breakpoints: await breakpoints.setData(args) }));
+      },
+      setExceptionBreakpoints: (args) => {
+        const { session } = this.there.launched;
+        const filters = listOf(args, "filters").filter((each) => Object.prototype.hasOwnProperty.call(KINDS, each));
+        session.debugger.usual.stops = new Set(/** @type {Kind[]} */ (filters));
+        return {};
+      },
+      breakpointLocations: (args) => this.locations(args),
+    };
+  }
+
+  /** @param {any} args */
+  setBreakpoints(args) {
+    const source = fieldOf(args, "source");
+    const { answering, launched } = this.there;
+    if (answering.isProgram(source) && launched.isDebugged) {
+      return this.set((breakpoints) => breakpoints.setLines(args, (line) => line + 1 - this.firstLine));
+    }
+    const message = launched.isDebugged ? say.notInProgram(answering.programName)
+      : say.NO_DEBUG;
+    return { breakpoints: listOf(args, "breakpoints").map((given) => ({ verified: false, line: needNumber(given, "line"), message })) };
+  }
+
+  /** @param {(breakpoints: ClientBreakpoints) => Promise<import("./client_breakpoints.js").Told[]>} act */
+  async set(act) {
+    const { machine, breakpoints } = this.there;
+    const told = await machine.quietly(() => act(breakpoints));
+    return { breakpoints: told.map((each) => this.breakpointOf(each)) };
+  }
+
+  /** @param {import("./client_breakpoints.js").Told} told */
+  breakpointOf({ address, line, ...told }) {
+    const inSource = line === undefined ? {} : { line: line - 1 + this.firstLine, source: this.there.answering.source };
+    return { ...told, ...inSource, ...(address >= 0 ? { instructionReference: referenceOf(address) } : {}) };
+  }
+
+  /** @param {import("./client_breakpoints.js").Told} told */
+  tellBreakpoint(told) {
+    this.connection.tell("breakpoint", { reason: "changed", breakpoint: this.breakpointOf(told) });
+  }
+
+  /** @param {any} args */
+  dataInfo(args) {
+    const { answering, launched } = this.there;
+    const name = needText(args, "name");
+    const reference = needNumber(args, "variablesReference", 0);
+    const found = reference > 0 ? answering.placeOfVariable(reference, name) : name;
+    const data = dataOf(found, launched.session);
+    if (!data) return { dataId: null, description: say.noCharacter(name) };
+    return { ...data, accessTypes: ["write"] };
+  }
+
+  /** @param {any} args */
+  locations(args) {
+    const { session } = this.there.launched;
+    if (!this.there.answering.isProgram(fieldOf(args, "source"))) return { breakpoints: [] };
+    const from = needNumber(args, "line");
+    const to = Math.min(needNumber(args, "endLine", from), from + 65536);
+    const lines = [];
+    for (let line = from; line <= to; line++) {
+      const own = line + 1 - this.firstLine;
+      if (instructionOfLine(own, session.map).line === own && session.map.addressOf(own) !== undefined) lines.push({ line });
+    }
+    return { breakpoints: lines };
+  }
+
+  // --- moves ---
+
+  /** @returns {Record<string, Act>} */
+  moveRequests() {
+    const move = (/** @type {(machine: Machine) => void} */ act) => (/** @type {any} */ args) => this.follow(args, act);
+    return {
+      continue: (args) => new Followed({ allThreadsContinued: true }, this.follow(args, (machine) => machine.go(null)).after),
+      next: move((machine) => machine.go({ kind: "over" })),
+      stepIn: move((machine) => machine.into()),
+      stepOut: move((machine) => machine.go({ kind: "out" })),
+      stepBack: move((machine) => machine.back({ kind: "instruction" })),
+      reverseContinue: move((machine) => machine.back({ kind: "arrival", place: "" })),
+      pause: () => {
+        const { machine } = this.there;
+        return new Followed(undefined, () => machine.pause());
+      },
+      gotoTargets: (args) => this.gotoTargets(args),
+      goto: (args) => this.goto(args),
+    };
+  }
+
+  /**
+   * A move begins once its response is sent.
+   * @param {any} args
+   * @param {(machine: Machine) => void} act
+   */
+  follow(args, act) {
+    this.needStopped();
+    this.needThread(args);
+    const { machine } = this.there;
+    return new Followed(undefined, () => act(machine));
+  }
+
+  needStopped() {
+    if (!this.isConfigured) fail(say.CONFIGURED_FIRST);
+    if (this.there.machine.isMoving) fail(NOT_STOPPED);
+  }
+
+  /** @param {any} args */
+  needThread(args) {
+    if (needNumber(args, "threadId", THREAD) !== THREAD) fail(say.ONE_THREAD);
+  }
+
+  /** @param {any} args */
+  gotoTargets(args) {
+    const { session } = this.there.launched;
+    if (!this.there.answering.isProgram(fieldOf(args, "source"))) return { targets: [] };
+    const found = instructionOfLine(needNumber(args, "line") + 1 - this.firstLine, session.map);
+    if (found.address < 0) return { targets: [] };
+    const label = session.map.nameOf(found.address) || hex(found.address, 3);
+    const instructionPointerReference = referenceOf(found.address);
+    return { targets: [{ id: found.address, label, line: found.line - 1 + this.firstLine, instructionPointerReference }] };
+  }
+
+  /** @param {any} args */
+  async goto(args) {
+    this.needStopped();
+    this.needThread(args);
+    const { machine, launched } = this.there;
+    const address = needNumber(args, "targetId");
+    if (!(address >= 0 && address <= LAST_ADDRESS)) fail(say.NO_TARGET);
+    await launched.session.debugger.session.serve(`poke pc ${address}\n`, async () => true);
+    await machine.stand();
+    return new Followed(undefined, () => this.stopped(this.standing("goto")));
+  }
+
+  // --- what is asked ---
+
+  /** @returns {Record<string, Act>} */
+  askRequests() {
+    const standing = (/** @type {(answering: Answering, args: any) => unknown} */ act) => (/** @type {any} */ args) => {
+      const { machine, answering } = this.there;
+      if (machine.isMoving) fail(NOT_STOPPED);
+      return act(answering, args);
+    };
+    return {
+      threads: () => ({ threads: [{ id: THREAD, name: "4004" }] }),
+      stackTrace: standing((answering, args) => answering.stackTrace(args)),
+      scopes: standing((answering) => answering.scopesOfFrame()),
+      variables: standing((answering, args) => answering.variables(args)),
+      setVariable: standing(async (answering, args) => this.changed(await answering.setVariable(args))),
+      setExpression: standing(async (answering, args) => this.changed(await answering.setExpression(args))),
+      disassemble: standing((answering, args) => answering.disassemble(args, (reference) => this.addressIn(reference))),
+      readMemory: standing((answering, args) => answering.readMemory(args)),
+      writeMemory: standing(async (answering, args) => this.changed(await answering.writeMemory(args))),
+      completions: (args) => this.there.answering.completions(args),
+      loadedSources: () => ({ sources: [this.there.answering.source] }),
+      source: (args) => this.there.answering.sourceText(args),
+      exceptionInfo: () => {
+        const { reason, words } = this.ended || { reason: "", words: "" };
+        return { exceptionId: reason || "none", description: words, breakMode: "always" };
+      },
+      evaluate: (args) => this.evaluate(args),
+      pressKey: (args) => this.moveKey("press", args),
+      releaseKey: (args) => this.moveKey("release", args),
+      watchBoard: () => {
+        this.shownBoard = new ShownBoard(this.there.machine);
+        return this.shownBoard.take();
+      },
+      changeKey: (args) => this.changeKey(args),
+    };
+  }
+
+  /** @param {string} reference */
+  addressIn(reference) {
+    const { console: lines } = this.there;
+    return addressOf(reference, lines.known);
+  }
+
+  /**
+   * The machine was changed while time stands: it is kept.
+   * @template Result
+   * @param {Result} result
+   */
+  async changed(result) {
+    const { machine } = this.there;
+    await machine.stand();
+    return result;
+  }
+
+  /** @param {any} args */
+  async evaluate(args) {
+    const { machine, console: lines, answering } = this.there;
+    const expression = needText(args, "expression");
+    const context = textOrNone(args, "context");
+    if (context !== "repl") {
+      return machine.quietly(() => answering.evaluate(expression, context));
+    }
+    const { words, changes, move } = await machine.quietly(() => lines.take(expression));
+    if (move) this.needStopped();
+    const isStanding = !machine.isMoving && this.isConfigured;
+    if (changes && !machine.isMoving) await machine.stand();
+    return new Followed({ result: words, variablesReference: 0 }, () => {
+      if (move) move();
+      else if (changes && isStanding) this.tellChanged();
+    });
+  }
+
+  /** A line has changed the machine: it is looked at anew. */
+  tellChanged() {
+    if (this.takesInvalidated) this.connection.tell("invalidated", { areas: ["all"] });
+    else this.stopped(this.ended || { reason: "step", words: "", id: 0 });
+  }
+
+  /**
+   * A key goes down or up, as by a line in the console.
+   * @param {"press" | "release"} word
+   * @param {any} args
+   */
+  async moveKey(word, args) {
+    const { machine, console: lines } = this.there;
+    const key = needText(args, "key");
+    const { words } = await machine.quietly(() => lines.moveKeys(word, [key]));
+    if (!machine.isMoving) await machine.stand();
+    return { words };
+  }
+
+  /** @param {any} args a key by its place, as a view of the board moves it */
+  async changeKey(args) {
+    const { machine, console: lines } = this.there;
+    const key = needText(args, "place");
+    await machine.quietly(() => changeKey(machine, lines, key, fieldOf(args, "isDown") === true));
+    if (!machine.isMoving) await machine.stand();
+    return {};
+  }
+
+  // --- what is told ---
+
+  /** What is new of the board, where the client draws it. */
+  tellBoard() {
+    const { shownBoard } = this;
+    const news = shownBoard ? shownBoard.take() : {};
+    if (Object.keys(news).length > 0) this.connection.tell("boardShown", news);
+  }
+
+  /**
+   * Time stands here, for another reason than that it was stopped.
+   * @param {string} reason
+   * @returns {Ended}
+   */
+  standing(reason) {
+    return { reason, words: standsAt(this.there.launched.session.counterWords), id: 0 };
+  }
+
+  /** @param {Ended} ended */
+  stopped(ended) {
+    const { open } = this;
+    if (!open) return;
+    this.ended = ended;
+    this.tellBoard();
+    const found = ended.reason === "breakpoint" ? open.breakpoints.ofStop(ended.id) : { id: 0, reason: ended.reason };
+    this.connection.tell("stopped", {
+      reason: found.reason, description: ended.words, threadId: THREAD, allThreadsStopped: true,
+      ...(found.id > 0 ? { hitBreakpointIds: [found.id] } : {}),
+    });
+  }
+
+  /**
+   * @param {string} output
+   * @param {"console" | "stdout" | "stderr"} category
+   */
+  output(output, category) {
+    this.connection.tell("output", { category, output });
+  }
+}

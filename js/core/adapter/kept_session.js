@@ -1,0 +1,69 @@
+// What was done in a session in memory is written to its file, line by line, by a program that has the file open (`mcs4 open FILE`). Where
+// going back has left what the file has, a file with the session as it was takes its place, and the program goes on with that.
+
+import { refusalOf } from "../bench/answers.js";
+import { linesOf } from "../bench/inputs.js";
+import { AdapterError } from "./protocol.js";
+import * as say from "../../words/adapter.js";
+
+/**
+ * @typedef {import("../engine/worker_session.js").WorkerSession} WorkerSession
+ * @typedef {import("../engine/timeline.js").Segment} Segment
+ *
+ * A program with a session file open. `ask` gives so many answers to lines; `replace` puts a session with these bytes, on which lines
+ * were served, into the place of the file; where their answers are not right, or it cannot be, it throws and all is as it was.
+ * @typedef {{ bytes: Uint8Array, ask: (lines: string, count: number) => Promise<string[]>,
+ *   replace: (bytes: Uint8Array, lines: string, count: number, check: (answers: string[]) => void) => Promise<void>,
+ *   end: () => Promise<void> }} OpenFile
+ */
+
+export class KeptSession {
+  /**
+   * @param {OpenFile} file
+   * @param {WorkerSession} session that was begun with the bytes of the file
+   */
+  constructor(file, session) {
+    this.file = file;
+    /** @type {Segment | null} the one that the file has so many commands of; null where it is not known what it has */
+    this.segment = session.timeline.last;
+    this.count = 0;
+  }
+
+  /**
+   * The commands after those that the file has; null where they do not lead on from there.
+   * @param {WorkerSession} session
+   */
+  missing({ timeline, unrecorded }) {
+    const from = this.segment ? timeline.segments.indexOf(this.segment) : -1;
+    if (from < 0 || timeline.segments.slice(from + 1).some(({ follows }) => !follows)) return null;
+    const all = [...timeline.segments.slice(from).flatMap(({ entries }) => entries), ...unrecorded];
+    return all.slice(this.count).map(({ line }) => line);
+  }
+
+  /**
+   * The file has what the session is; it throws where that cannot be.
+   * @param {WorkerSession} session
+   */
+  async write(session) {
+    const { last } = session.timeline;
+    const missing = this.missing(session);
+    const state = session.ask("state\n")[0];
+    const all = [...last.entries, ...session.unrecorded].map(({ line }) => line);
+    this.segment = null;
+    /** @type {(answers: string[]) => void} */
+    const check = (answers) => {
+      const refused = answers.find((answer) => refusalOf(answer));
+      if (refused) throw new AdapterError(say.fileNotWritten(refused));
+      const isSame = answers[answers.length - 1] === state;
+      if (!isSame) throw new AdapterError(say.OTHER_STATE);
+    };
+    if (missing) check(await this.file.ask(`${linesOf(missing)}state\n`, missing.length + 1));
+    else await this.file.replace(last.file, `${linesOf(all)}state\n`, all.length + 1, check);
+    this.segment = last;
+    this.count = all.length;
+  }
+
+  end() {
+    return this.file.end();
+  }
+}

@@ -1,0 +1,218 @@
+// What `launch` begins: a session in memory with the texts of a board and a program, or with what a session file has.
+
+import { refusalOf } from "../bench/answers.js";
+import { hex } from "../bench/numbers.js";
+import { DebugSession } from "../debug/debug_session.js";
+import { PROJECT_FILE, readProjectToml } from "../project/project_toml.js";
+import { fieldOf } from "../server/framing.js";
+import { boardUriOf } from "../server/kinds.js";
+import { faultsOfLines, sentText } from "../text/text_fault.js";
+import { readProgram, differenceOf } from "../engine/program_check.js";
+import { sourceOfRom } from "../engine/sources.js";
+import { KeptSession } from "./kept_session.js";
+import { AdapterError, flagOf, textOrNone } from "./protocol.js";
+import * as say from "../../words/adapter.js";
+
+/**
+ * @typedef {import("../bench/answers.js").Refusal} Refusal
+ * @typedef {import("../engine/engine.js").Engine} Engine
+ * @typedef {import("../bench/words.js").Words} Words
+ * @typedef {import("./kept_session.js").OpenFile} OpenFile
+ *
+ * What the host gives: the whole name of a file, beside a folder where it is not whole; a text, null where none can be read; a program
+ * that opens a session file, or makes one by some lines; and a turn for others.
+ * @typedef {{ nameOf: (name: string, folder: string) => string, beside: (name: string, other: string) => string,
+ *   read: (name: string) => string | null, isThere: (name: string) => boolean, open: (name: string) => Promise<OpenFile>,
+ *   make: (name: string) => Promise<OpenFile>, pause: () => Promise<void> }} Host
+ *
+ * What was launched: `program` is the name of its file, "" where its text was made of what stands in ROM.
+ * `nameOf` gives the whole name of a file.
+ * @typedef {{ session: DebugSession, kept: KeptSession | null, program: string, board: string, stopsOnEntry: boolean, isDebugged: boolean,
+ *   isRealTime: boolean, nameOf: (name: string) => string }} Launched
+ *
+ * @typedef {{ board: string, program: string, session: string, load: boolean }} Wanted whole names, "" for none
+ */
+
+/** @param {string} name */
+const lastPart = (name) => name.replace(/^.*[\\/]/, "");
+
+/**
+ * @param {any} args
+ * @param {Host} host
+ * @returns {Wanted}
+ */
+export function readWanted(args, host) {
+  const folder = textOrNone(args, "cwd");
+  const names = ["project", "board", "program", "session"].map((each) => textOrNone(args, each));
+  const [project, ownBoard, ownProgram, session] = names.map((name) => (name === "" ? "" : host.nameOf(name, folder)));
+  const named = project === "" ? { board: "", program: "" } : filesOf(project, host);
+  const program = ownProgram || named.program;
+  if (program === "" && session === "") {
+    const words = say.LAUNCH_NEEDS;
+    throw new AdapterError(say.andBoard(words), true);
+  }
+  if (program !== "" && session === program) throw new AdapterError(say.ONE_FILE, true);
+  const found = program === "" ? "" : boardOf(program, host);
+  const board = ownBoard || named.board || (host.isThere(found) ? found : "");
+  return { board, program, session, load: flagOf(args, "load", false) };
+}
+
+/**
+ * The files that a project names.
+ * @param {string} name of its folder, or of its file
+ * @param {Host} host
+ */
+function filesOf(name, host) {
+  const file = lastPart(name) === PROJECT_FILE ? name : host.nameOf(PROJECT_FILE, name);
+  const text = host.read(file);
+  if (text === null) throw new AdapterError(say.noProjectFile(file), true);
+  const { names, faults: [fault] } = readProjectToml(text);
+  if (!names) throw new AdapterError(`${file}, line ${fault.line}: ${fault.words}`, true);
+  return { board: host.beside(names.board.path, file), program: host.beside(names.program.path, file) };
+}
+
+/**
+ * The board that a program is for, as the language server finds it.
+ * @param {string} program
+ * @param {Host} host
+ */
+function boardOf(program, host) {
+  const address = `file://${program.split("/").map(encodeURIComponent).join("/")}`;
+  /** @type {(uri: string) => string} */
+  const nameOf = (uri) => decodeURIComponent(uri.slice("file://".length));
+  return nameOf(boardUriOf(address, (uri) => host.read(nameOf(uri))));
+}
+
+/**
+ * The text of a file, with no character that cannot be sent.
+ * @param {string} name
+ * @param {";" | "#"} mark
+ * @param {Host} host
+ */
+function textIn(name, mark, host) {
+  const text = host.read(name);
+  if (text === null) throw new AdapterError(say.cannotRead(name), true);
+  const whole = text.replace(/^\uFEFF/, "").replace(/\r\n?/g, "\n");
+  const [fault] = faultsOfLines(whole, mark);
+  if (fault) throw new AdapterError(`${lastPart(name)}, line ${fault.line}: ${fault.words}`, true);
+  return whole;
+}
+
+/**
+ * @param {string} name
+ * @param {Refusal} refusal
+ * @param {Words} words
+ */
+function refused(name, { number, line }, words) {
+  const where = line > 0 ? `, line ${line}` : "";
+  const why = number > 0 ? `${words.ofRefusal(number)} (no ${number})` : say.DOT_ALONE;
+  return new AdapterError(`${lastPart(name)}${where}: ${why}`, true);
+}
+
+/**
+ * The session of texts alone.
+ * @param {Engine} engine
+ * @param {Wanted} wanted
+ * @param {Host} host
+ * @param {Words} words
+ */
+function ofTexts(engine, wanted, host, words) {
+  if (wanted.board === "") {
+    throw new AdapterError(say.noBoardBeside(wanted.program), true);
+  }
+  const [board, program] = [textIn(wanted.board, "#", host), textIn(wanted.program, ";", host)];
+  const session = new DebugSession(engine, { board, program });
+  for (const { word, refusal } of session.refused) throw refused(word === "wire" ? wanted.board : wanted.program, refusal, words);
+  return session;
+}
+
+/**
+ * The session of a file, and what writes it.
+ * @param {Engine} engine
+ * @param {Wanted} wanted
+ * @param {Host} host
+ * @param {Words} words
+ */
+async function ofFile(engine, wanted, host, words) {
+  const board = wanted.board === "" ? "" : textIn(wanted.board, "#", host);
+  const program = wanted.program === "" ? "" : textIn(wanted.program, ";", host);
+  const isNew = !host.isThere(wanted.session);
+  if (isNew && (board === "" || program === "")) {
+    throw new AdapterError(say.sessionNotThere(wanted.session), true);
+  }
+  // What cannot be made is refused before the file is.
+  if (isNew) ofTexts(engine, wanted, host, words);
+  const file = await (isNew ? host.make(wanted.session) : host.open(wanted.session));
+  try {
+    const session = new DebugSession(engine, { file: file.bytes, board, program: program || sourceOfRom(engine, file.bytes) });
+    const kept = new KeptSession(file, session.debugger.session);
+    if (isNew) await serveText(session, "wire", sentText(board, "#"), wanted.board, words);
+    if (isNew || wanted.load) await serveText(session, "asm", sentText(program, ";"), wanted.program, words);
+    else if (program !== "") needInRom(session, engine, wanted, words);
+    await kept.write(session.debugger.session);
+    return { session, kept };
+  } catch (thrown) {
+    await file.end();
+    throw thrown;
+  }
+}
+
+/**
+ * @param {DebugSession} session
+ * @param {"wire" | "asm"} word
+ * @param {string} text
+ * @param {string} name
+ * @param {Words} words
+ */
+async function serveText(session, word, text, name, words) {
+  const { first } = await session.debugger.session.serve(`${word}\n${text}.\n`, async () => true);
+  const refusal = refusalOf(first);
+  if (refusal) throw refused(name, refusal, words);
+}
+
+/**
+ * Where ROM has other bytes than the program; "" where it has the same.
+ * @param {DebugSession} session
+ */
+export function differenceWords(session) {
+  const { engine, file, lookQuestions } = session.debugger.session;
+  const { refusal, ...program } = readProgram(engine, sentText(session.program, ";"));
+  if (refusal) return say.PROGRAM_HAS_FAULTS;
+  const difference = differenceOf(engine, file, lookQuestions.board, { refusal, ...program });
+  return difference ? say.romDiffers(difference.hasRom, hex(difference.address, 3)) : "";
+}
+
+/**
+ * @param {DebugSession} session
+ * @param {Engine} engine
+ * @param {Wanted} wanted
+ * @param {Words} words
+ */
+function needInRom(session, engine, { program, session: file }, words) {
+  const { refusal } = readProgram(engine, sentText(session.program, ";"));
+  if (refusal) throw refused(program, refusal, words);
+  const fault = differenceWords(session);
+  if (fault === "") return;
+  const difference = say.notInRomOf(lastPart(program), lastPart(file), fault);
+  throw new AdapterError(say.loadPuts(difference), true);
+}
+
+/**
+ * @param {Engine} engine
+ * @param {any} args
+ * @param {Host} host
+ * @param {Words} words
+ * @returns {Promise<Launched>}
+ */
+export async function launch(engine, args, host, words) {
+  const wanted = readWanted(args, host);
+  const { session, kept } = wanted.session === "" ? { session: ofTexts(engine, wanted, host, words), kept: null }
+    : await ofFile(engine, wanted, host, words);
+  if (session.boardText === "") session.boardText = session.debugger.session.ask("board\n").slice(1).join("\n");
+  session.debugger.usual.map = session.map;
+  return {
+    session, kept, program: wanted.program, board: wanted.board, stopsOnEntry: flagOf(args, "stopOnEntry", true),
+    isDebugged: fieldOf(args, "noDebug") !== true, isRealTime: flagOf(args, "realTime", false),
+    nameOf: (name) => host.nameOf(name, textOrNone(args, "cwd")),
+  };
+}

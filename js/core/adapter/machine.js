@@ -1,0 +1,219 @@
+// The session that is debugged, while time runs in it and while it stands: one move at a time, what is done between its pieces, and what
+// is told once it stops.
+
+import { Cancelled } from "../bench/faults.js";
+import { CYCLE_TIME } from "../time/cycles.js";
+import { Shown } from "./shown.js";
+import { fail, wordsOf } from "./protocol.js";
+import * as say from "../../words/adapter.js";
+import { stoppedAt } from "../../words/stops.js";
+
+/**
+ * @typedef {import("../debug/debug_session.js").DebugSession} DebugSession
+ * @typedef {import("../debug/debug_session.js").Stopped} Stopped
+ * @typedef {import("../debug/debugger.js").Tally} Tally
+ * @typedef {import("../debug/goals.js").Goal} Goal
+ * @typedef {import("../engine/going_back.js").BackGoal} BackGoal
+ * @typedef {import("./kept_session.js").KeptSession} KeptSession
+ *
+ * How a move ended: its reason as the protocol has it, the words, and the breakpoint that stopped it, 0 for none.
+ * @typedef {{ reason: string, words: string, id: number }} Ended
+ *
+ * @typedef {{ stopped: (ended: Ended) => void, output: (words: string, category: "console" | "stdout" | "stderr") => void,
+ *   pause: () => Promise<void>, looked: () => void }} MachineCalls `pause` lets others have their turn; what is shown may be another now
+ */
+
+/** @type {Record<string, string>} what the protocol calls why a run stopped */
+const REASONS = {
+  goal: "step", break: "breakpoint", watch: "data breakpoint", pause: "pause", lacks: "step", arrival: "pause", beginning: "entry",
+};
+/** @type {Record<string, string>} why time stands where going back has led, by its goal, and by what was met on the way */
+const REACHED = { stop: "pause", arrival: "arrival" };
+/** @type {Record<string, string>} */
+const MET = { break: "break", change: "watch", beginning: "beginning" };
+/** What is shown is looked at so many milliseconds after it was last. */
+const LOOK_TIME = 100;
+/** In real time so many cycles are done at once: a sixtieth of a second. */
+const REAL_PIECE = 1543;
+
+export class Machine {
+  /**
+   * @param {DebugSession} session
+   * @param {KeptSession | null} kept what writes it to its file
+   * @param {MachineCalls} calls
+   * @param {boolean} [isRealTime] whether time runs as slowly as on a real 4004
+   */
+  constructor(session, kept, calls, isRealTime = false) {
+    this.isRealTime = isRealTime;
+    if (isRealTime) session.largestPiece = REAL_PIECE;
+    /** When the move began. */
+    this.begun = 0;
+    this.session = session;
+    this.kept = kept;
+    this.calls = calls;
+    this.shown = new Shown(session);
+    this.isMoving = false;
+    this.isToPause = false;
+    /** Whether what is done in the session now is done between two pieces of time that runs. */
+    this.isOpen = () => false;
+    /** @type {(() => Promise<void>)[]} what waits for that */
+    this.waiting = [];
+    this.noted = 0;
+    this.looked = 0;
+    /** @type {Promise<void>} of the move that is under way, or the last one */
+    this.move = Promise.resolve();
+  }
+
+  // --- moves ---
+
+  /** @param {Goal | null} goal null: on to a stop */
+  go(goal) {
+    const runs = () => goal === null || this.session.debugger.isMoving;
+    this.begin(() => this.session.go(goal, (done, tally) => this.between(tally, done)), runs);
+  }
+
+  into() {
+    this.begin(() => this.session.into(), () => false);
+  }
+
+  /** @param {BackGoal} goal */
+  back(goal) {
+    this.begin(async () => this.wentBack(await this.session.back(goal, () => this.between()), REACHED[goal.kind] || "goal"), () => false);
+  }
+
+  forward() {
+    this.begin(async () => this.wentBack(this.session.forward(), "goal"), () => false);
+  }
+
+  /**
+   * @param {{ isDone: boolean, words: string, end: string, id: number }} went
+   * @param {string} why time stands there, where nothing that is met on the way tells it
+   */
+  wentBack({ isDone, words, end, id }, why) {
+    if (!isDone) this.calls.output(`${words}\n`, "console");
+    return { why: MET[end] && why === "arrival" ? MET[end] : why, words, id, tally: null };
+  }
+
+  /**
+   * @param {() => Promise<Pick<Stopped, "why" | "words" | "id"> & { tally: Tally | null }>} act
+   * @param {() => boolean} isOpen
+   */
+  begin(act, isOpen) {
+    if (this.isMoving) fail(say.TIME_RUNS_ALREADY);
+    this.isMoving = true;
+    this.isToPause = false;
+    this.isOpen = isOpen;
+    this.noted = 0;
+    this.begun = performance.now();
+    this.move = this.run(act);
+  }
+
+  /** @param {Parameters<Machine["begin"]>[0]} act */
+  async run(act) {
+    /** @type {Ended} */
+    let ended;
+    try {
+      const { why, words, id, tally } = await act();
+      if (tally) this.tellTally(tally, tally.noted - this.noted);
+      ended = { reason: REASONS[why] || "exception", words, id };
+    } catch (thrown) {
+      const isPause = thrown instanceof Cancelled;
+      if (!isPause) this.calls.output(`${wordsOf(thrown)}\n`, "stderr");
+      const words = isPause ? stoppedAt(this.session.counterWords) : wordsOf(thrown);
+      ended = { reason: isPause ? "pause" : "exception", words, id: 0 };
+    }
+    this.isOpen = () => false;
+    await this.doWaiting();
+    await this.stand();
+    this.isMoving = false;
+    this.calls.stopped(ended);
+  }
+
+  /** Time stands: what was done is kept, and what is shown is told. */
+  async stand() {
+    this.tellShown();
+    if (this.kept) await this.keep(this.kept);
+  }
+
+  /** @param {KeptSession} kept */
+  async keep(kept) {
+    try {
+      await kept.write(this.session.debugger.session);
+    } catch (thrown) {
+      this.calls.output(`${wordsOf(thrown)}\n`, "stderr");
+    }
+  }
+
+  /**
+   * Between two pieces of work.
+   * @param {Tally} [tally] of the last piece
+   * @param {number} [done] cycles of time that runs
+   */
+  async between(tally, done = 0) {
+    if (tally) this.tellTally(tally, tally.noted);
+    if (performance.now() - this.looked >= LOOK_TIME && this.isOpen()) this.tellShown();
+    if (this.isRealTime && tally) await this.waitFor(done);
+    await this.calls.pause();
+    if (this.isOpen()) await this.doWaiting();
+    return !this.isToPause;
+  }
+
+  /**
+   * A real 4004 has done so many cycles, too.
+   * @param {number} cycles
+   */
+  async waitFor(cycles) {
+    this.calls.looked();
+    const left = cycles * CYCLE_TIME - (performance.now() - this.begun);
+    if (left > 0) await new Promise((settle) => { setTimeout(settle, left); });
+  }
+
+  pause() {
+    this.isToPause = true;
+  }
+
+  // --- what is done meanwhile ---
+
+  async doWaiting() {
+    for (const act of this.waiting.splice(0)) await act();
+  }
+
+  /**
+   * Does something in the session: at once where time stands, else between two pieces.
+   * @template Result
+   * @param {() => Result | Promise<Result>} act
+   * @returns {Promise<Result>}
+   */
+  async quietly(act) {
+    if (!this.isMoving) return act();
+    return new Promise((resolve, reject) => {
+      this.waiting.push(async () => {
+        try {
+          resolve(await act());
+        } catch (thrown) {
+          reject(thrown);
+        }
+      });
+    });
+  }
+
+  // --- what is told ---
+
+  tellShown() {
+    this.looked = performance.now();
+    const words = this.shown.take();
+    if (words) this.calls.output(`${words}\n`, "stdout");
+    this.calls.looked();
+  }
+
+  /**
+   * @param {Tally} tally
+   * @param {number} count of the notes that were not told yet
+   */
+  tellTally({ notes, usual }, count) {
+    this.noted += count;
+    if (count > notes.length) this.calls.output(`${say.notesBefore(count - notes.length)}\n`, "console");
+    for (const { words } of notes.slice(notes.length - Math.min(count, notes.length))) this.calls.output(`${words}\n`, "console");
+    for (const { words } of usual) this.calls.output(`${words}\n`, "console");
+  }
+}

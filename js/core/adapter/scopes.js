@@ -1,0 +1,206 @@
+// What stands in the machine, as scopes of variables: registers, pairs, RAM, ports, lamps, keys, names of the program.
+
+import { readBoard, readMarks } from "../bench/answers.js";
+import { hex, upTo } from "../bench/numbers.js";
+import { keysOf } from "../board/board_keys.js";
+import { Standing, wordsOfCharacter } from "../debug/standing.js";
+import { setPlace } from "./setting.js";
+import * as say from "../../words/adapter.js";
+import { sourceOfBank } from "../../words/debug.js";
+
+/**
+ * @typedef {import("../debug/debug_session.js").DebugSession} DebugSession
+ * @typedef {import("../board/face.js").Face} Face
+ *
+ * A value with its name, what evaluates to it, and a reference to what is inside it, 0 for nothing. `place`: what setting.js sets it by,
+ * "" where nothing does; `memory`: where it stands for who reads memory.
+ * @typedef {{ name: string, value: string, evaluateName?: string, place: string, inside: number, count?: number,
+ *   memory?: string }} Variable
+ *
+ * @typedef {{ standing: Standing, face: Face, session: DebugSession, board: import("../bench/answers.js").Board }} Seen
+ */
+
+const [REGISTERS, PAIRS, RAM, PORTS, LAMPS, KEYS, NAMES] = [1, 2, 3, 4, 5, 6, 7];
+/** A bank has the reference BANK + its number; a register of RAM REGISTER + 16 times its bank's + its own. */
+const [BANK, REGISTER] = [100, 200];
+
+/** @type {(digit: string) => string} */
+const told = (digit) => `0x${digit}`;
+
+/**
+ * @param {string} name
+ * @param {string} value
+ * @param {string} [place]
+ * @returns {Variable}
+ */
+function variable(name, value, place = "") {
+  return { name, value, place, inside: 0, ...(place ? { evaluateName: place } : {}) };
+}
+
+/** @param {Seen} seen */
+function registers({ standing: { registers: all } }) {
+  const { accumulator, carry, counter, bank, test, owed } = all;
+  return [
+    variable("acc", told(accumulator), "acc"), variable("cy", carry, "cy"),
+    { ...variable("pc", told(counter), "pc"), memory: told(counter) },
+    variable("dcl", told(bank), "dcl"), variable("test", test, "test"), variable("owed", owed),
+    ...all.registers.map((value, at) => variable(`R${at}`, told(value), `r${at}`)),
+  ];
+}
+
+/** @param {Seen} seen */
+function pairs({ standing }) {
+  return upTo(8).map((at) => variable(`P${at}`, told(standing.pair(at)), `p${at}`));
+}
+
+/** @param {Seen} seen */
+function banks({ standing }) {
+  return [...standing.ram].map(([bank, { registers: all }]) => (
+    { ...variable(`bank ${bank}`, say.chipsOf(all.size / 4, bank === standing.bank)),
+      inside: BANK + bank, count: all.size, memory: `ram.${bank}` }));
+}
+
+/**
+ * @param {Seen} seen
+ * @param {number} bank
+ */
+function registersOfBank({ standing }, bank) {
+  const ram = standing.ram.get(bank);
+  return [...(ram ? ram.registers : [])].map(([name, { characters: digits, status }]) => {
+    const [, chip, register] = name.split(".").map(Number);
+    return { ...variable(say.chipRegister(chip, register), `${digits} ${status}`),
+      inside: REGISTER + 16 * bank + 4 * chip + register, count: 20 };
+  });
+}
+
+/**
+ * The characters of a register, each with a name of the program's that has its number, and its status characters.
+ * @param {Seen} seen
+ * @param {number} bank
+ * @param {number} register
+ */
+function characters({ standing, session }, bank, register) {
+  const found = standing.ramRegister(bank, register);
+  if (!found) return [];
+  const constants = [...session.map.names.values()].filter(({ isLabel }) => !isLabel);
+  return [
+    ...[...found.characters].map((value, at) => {
+      const byte = register * 16 + at;
+      const named = constants.filter((each) => each.value === byte && byte > 15).map(({ name }) => name);
+      return variable(`0x${hex(byte, 2)}${named.length > 0 ? ` ${named.join(" ")}` : ""}`, told(value), `ram.${bank}.0x${hex(byte, 2)}`);
+    }),
+    ...[...found.status].map((value, at) => variable(`status ${at}`, told(value), `st.${bank}.${register}.${at}`)),
+  ];
+}
+
+/** @param {Seen} seen */
+function ports({ standing, face }) {
+  /** @type {(port: string) => string} */
+  const named = (port) => (face.ports.has(port) ? `${port} ${(face.ports.get(port) || { text: "" }).text}` : port);
+  const { roms, chains, sources } = standing.ports;
+  const rams = [...standing.ram].flatMap(([bank, ram]) => [...ram.ports].map(([name, out]) => ({ bank, name, out })));
+  return [
+    ...roms.map(({ chip, out, in: read }) => (
+      { ...variable(named(`rom${chip}`), `out ${told(out)}, in ${told(read)}`), evaluateName: `rom${chip}` })),
+    ...rams.map(({ name, out }) => ({ ...variable(named(`ram${name}`), `out ${told(out)}`), evaluateName: `ram${name}` })),
+    ...chains.map((bits, at) => variable(named(`chain${at}`), bits)),
+    ...sources.map((source) => sourceOf(source)),
+  ];
+}
+
+/** @param {string} source the byte that SRC has sent, of a bank with the bank and a dot before it */
+function sourceOf(source) {
+  const [bank, byte] = source.split(".");
+  if (byte === undefined) return variable("SRC", say.selectsRom(told(bank), parseInt(bank[0], 16)));
+  return variable(sourceOfBank(bank), `${told(byte)}: ${wordsOfCharacter(parseInt(byte, 16))}`);
+}
+
+/** @param {Seen} seen */
+function lamps({ session, face, board }) {
+  const marks = readMarks(session.debugger.session.ask("lamps\n")[0]).join("");
+  return board.lamps.map((line, at) => {
+    const name = (face.lamps.get(at) || { text: "" }).text.replace(/_/g, " ");
+    return { ...variable(name || `lamp ${at}`, say.lampIs(marks[at] === "*")), evaluateName: `lamp ${at}` };
+  });
+}
+
+/** @param {Seen} seen */
+function keys({ standing, face, board }) {
+  const down = new Set(standing.ports.keys);
+  return keysOf(board, face).filter(({ legend }) => legend !== "").map(({ key, legend }) => {
+    const isDown = key.startsWith("test ") ? standing.registers.test === key[5] : down.has(key.replace(" ", "."));
+    return { ...variable(legend, isDown ? say.DOWN : say.UP), place: `key ${key}` };
+  });
+}
+
+/** @param {Seen} seen */
+function names({ session: { map } }) {
+  return [...map.names.values()].map(({ name, value, isLabel }) => (
+    { ...variable(name, isLabel ? `0x${hex(value, 3)}, line ${map.lineOf(value)}` : `0x${hex(value, 2)}, ${value}`), evaluateName: name,
+      ...(isLabel ? { memory: `0x${hex(value, 3)}` } : {}) }));
+}
+
+/** @type {Record<number, { title: string, of: (seen: Seen) => Variable[], hint?: string }>} */
+const SCOPES = {
+  [REGISTERS]: { title: say.REGISTERS, of: registers, hint: "registers" },
+  [PAIRS]: { title: say.PAIRS, of: pairs, hint: "registers" },
+  [RAM]: { title: "RAM", of: banks },
+  [PORTS]: { title: say.PORTS, of: ports },
+  [LAMPS]: { title: say.LAMPS, of: lamps },
+  [KEYS]: { title: say.KEYS, of: keys },
+  [NAMES]: { title: say.NAMES, of: names },
+};
+
+export class Scopes {
+  /**
+   * @param {DebugSession} session
+   * @param {Face} face
+   */
+  constructor(session, face) {
+    this.session = session;
+    this.face = face;
+  }
+
+  /** @returns {Seen} */
+  get seen() {
+    const { session, face } = this;
+    const bench = session.debugger.session;
+    return { standing: new Standing(bench.look()), face, session, board: readBoard(bench.lookQuestions.board) };
+  }
+
+  /** Those that have something in them. */
+  all() {
+    const { seen } = this;
+    return Object.entries(SCOPES).map(([reference, { title, of, hint }]) => (
+      { name: title, variablesReference: Number(reference), namedVariables: of(seen).length, expensive: false,
+        ...(hint ? { presentationHint: hint } : {}) })).filter(({ namedVariables }) => namedVariables > 0);
+  }
+
+  /**
+   * What is inside a reference; null where there is none of this number.
+   * @param {number} reference
+   * @returns {Variable[] | null}
+   */
+  variables(reference) {
+    const { seen } = this;
+    if (Object.prototype.hasOwnProperty.call(SCOPES, reference)) return SCOPES[reference].of(seen);
+    if (reference >= BANK && reference < BANK + 8) return registersOfBank(seen, reference - BANK);
+    const at = reference - REGISTER;
+    return at >= 0 && at < 128 ? characters(seen, at >> 4, at & 15) : null;
+  }
+
+  /**
+   * Gives a variable another value; its new one, as it is shown.
+   * @param {number} reference
+   * @param {string} name
+   * @param {string} value
+   */
+  async set(reference, name, value) {
+    const found = (this.variables(reference) || []).find((each) => each.name === name);
+    if (!found) throw new Error(say.noneHere(name));
+    if (found.place === "") throw new Error(say.nothingSets(name));
+    await setPlace(this.session, found.place, value);
+    const now = (this.variables(reference) || []).find((each) => each.name === name);
+    return now ? now.value : value;
+  }
+}

@@ -1,0 +1,64 @@
+// The front of a board for an editor that draws it: the board with its text, once; lamps, keys and TEST as they change; and a finger on a
+// key. editor_view.js draws it.
+
+import { LookReader } from "../bench/look.js";
+import { lineOfChange } from "../engine/key_queue.js";
+import { fail } from "./protocol.js";
+import * as say from "../../words/adapter.js";
+
+/**
+ * @typedef {import("./console.js").Console} Console
+ * @typedef {import("./machine.js").Machine} Machine
+ *
+ * What is new: the answers to `board` and the board's text; a mark for each lamp, `*` where it is lit; the keys that are down, as
+ * `row.column`; the level of TEST; and whether time runs.
+ * @typedef {{ board?: string[], boardText?: string, lamps?: string, keys?: string[], test?: string, isRunning?: boolean }} ShownNews
+ */
+
+const KEY = /^(\d{1,3} \d{1,3}|test [01])$/;
+
+export class ShownBoard {
+  /** @param {Machine} machine */
+  constructor(machine) {
+    this.machine = machine;
+    this.reader = new LookReader();
+    this.board = "";
+    /** @type {boolean | null} whether time ran when it was told last */
+    this.isRunning = null;
+  }
+
+  /**
+   * What is new since it was told last; all of it at first.
+   * @returns {ShownNews}
+   */
+  take() {
+    const { session, isMoving } = this.machine;
+    const { session: bench } = session.debugger;
+    /** @type {ShownNews} */
+    const news = {};
+    const board = bench.lookQuestions.board.join("\n");
+    if (board !== this.board) {
+      this.board = board;
+      this.reader.forget();
+      Object.assign(news, { board: bench.lookQuestions.board, boardText: session.boardText });
+    }
+    Object.assign(news, this.reader.take(bench.ask("state\n")));
+    if (isMoving !== this.isRunning) news.isRunning = isMoving;
+    this.isRunning = isMoving;
+    return news;
+  }
+}
+
+/**
+ * A key goes down, or up: at once where time stands, else when its turn comes.
+ * @param {Machine} machine
+ * @param {Console} lines
+ * @param {string} key `0 2`, or `test 0`, the level of what is at TEST while it is down
+ * @param {boolean} isDown
+ */
+export async function changeKey(machine, lines, key, isDown) {
+  if (!KEY.test(key)) fail(say.KEY_PLACE);
+  const word = isDown ? "press" : "release";
+  if (machine.isMoving) machine.session.debugger.session.queue[word](key);
+  else await lines.served(`${lineOfChange({ word, key })}\n`);
+}

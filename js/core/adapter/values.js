@@ -1,0 +1,111 @@
+// What an expression is now: a place, a pair, a name of the program, a lamp, the display, a condition.
+
+import { readBoard } from "../bench/answers.js";
+import { hex } from "../bench/numbers.js";
+import { placeOf } from "../bench/places.js";
+import { conditionOf } from "../debug/conditions.js";
+import { Standing } from "../debug/standing.js";
+import { textOf, valuesAt } from "../debug/value_words.js";
+import { readWatched } from "../debug/watched.js";
+import { AdapterError } from "./protocol.js";
+import * as say from "../../words/adapter.js";
+
+/**
+ * @typedef {import("../debug/debug_session.js").DebugSession} DebugSession
+ * @typedef {import("../board/face.js").Face} Face
+ * @typedef {import("../help/manual.js").Instruction} Instruction
+ * @typedef {{ session: DebugSession, face: Face, instructions: Map<string, Instruction>, shown: () => string }} Known `shown` tells what
+ *   lamps and displays show
+ */
+
+/**
+ * The value of a place by its name; "" where it is none, or the board lacks it.
+ * @param {string} text
+ * @param {Known} known
+ */
+function placeValue(text, { session, face }) {
+  const word = text.replace(/^lamp /, "").trim();
+  const lamp = face.lampNumbers.get(word) ?? face.lampNumbers.get(word.replace(/ /g, "_"));
+  const name = lamp === undefined ? text : `lamp ${lamp}`;
+  const place = placeOf(name);
+  const value = place ? session.values([name])[0] : "";
+  if (value === "" || !place) return "";
+  if (place.name.startsWith("lamp ")) return say.lampIs(value === "*");
+  return /^(acc|dcl|r\d+|ram\.\d\..*|st\..*|rom\d+|ram\d\.\d)$/.test(place.name) ? `0x${value}` : value;
+}
+
+/**
+ * Of registers that `placeOf` does not have.
+ * @param {string} text
+ * @param {DebugSession} session
+ */
+function registerValue(text, session) {
+  const word = text.toLowerCase();
+  const { registers } = session;
+  if (word === "pc") return `0x${registers.counter}${registers.counter && lineWords(session)}`;
+  if (word === "test" || word === "owed") return registers[word];
+  const pair = /^p([0-7])$/.exec(word);
+  return pair ? `0x${registers.registers[2 * Number(pair[1])]}${registers.registers[2 * Number(pair[1]) + 1]}` : "";
+}
+
+/** @param {DebugSession} session */
+function lineWords(session) {
+  return session.line > 0 ? `, line ${session.line}` : "";
+}
+
+/**
+ * @param {string} text
+ * @param {DebugSession} session
+ */
+function nameValue(text, { map }) {
+  const name = map.names.get(text.replace(/^@/, ""));
+  if (!name) return "";
+  if (!name.isLabel) return `0x${hex(name.value, 2)}, ${name.value}`;
+  const line = map.lineOf(name.value);
+  return `0x${hex(name.value, 3)}${line > 0 ? `, line ${line}` : ""}`;
+}
+
+/**
+ * What else is watched in the page: `ram 0 0x12`, `st 0 1 2`, `rom1`.
+ * @param {string} text
+ * @param {DebugSession} session
+ */
+function watchedValue(text, session) {
+  const { watched } = readWatched(text);
+  return watched ? textOf(watched.pieces(new Standing(session.debugger.session.look()))) : "";
+}
+
+/**
+ * @param {string} text
+ * @param {Known} known
+ */
+export function valueOfExpression(text, known) {
+  const { session, face } = known;
+  const told = text.trim();
+  if (told === "") throw new AdapterError(say.NOTHING_TO_EVALUATE);
+  if (told === "display" || told === "lamps") return known.shown();
+  const value = registerValue(told, session) || nameValue(told, session) || placeValue(told, known) || watchedValue(told, session);
+  if (value) return value;
+  const board = readBoard(session.debugger.session.lookQuestions.board);
+  const { condition, fault } = conditionOf(told, { face, board, map: session.map });
+  if (!condition) throw new AdapterError(fault);
+  return String(condition.holds(session.debugger.told(condition.places)));
+}
+
+/**
+ * What the page tells of a word where one points at it: what it stands for now.
+ * @param {string} text
+ * @param {Known} known
+ */
+export function hoverOf(text, known) {
+  const { session, instructions } = known;
+  const told = text.trim();
+  /** @type {(name: string) => import("../debug/value_words.js").Named | undefined} */
+  const nameOf = (name) => {
+    const found = session.map.names.get(name);
+    return found && { ...found, words: session.map.meaningOf(name) };
+  };
+  const doesOf = (/** @type {string} */ word) => (instructions.get(word) || { does: "" }).does;
+  const pieces = valuesAt(told, 0, new Standing(session.debugger.session.look()), { nameOf, doesOf });
+  return pieces.length > 0 ? textOf(pieces) : doesOf(told.toUpperCase()) || valueOfExpression(told, known);
+}

@@ -1,0 +1,94 @@
+// The keys of a board: their places, their names, and what is typed for them.
+
+import * as say from "../../words/board.js";
+
+/**
+ * @typedef {import("../bench/answers.js").Board} Board
+ * @typedef {import("./face.js").Face} Face
+ *
+ * A key of the board, `key` as lines have it (`0 2`), or what is at its TEST pin, `test 0`, the level while it is pressed. `letter` is the
+ * character that is typed for it, "" for none.
+ * @typedef {{ key: string, legend: string, words: string, isNamed: boolean, isSwitch: boolean, letter: string }} BoardKey
+ */
+
+const LETTERS = "1234567890qwertyuiopasdfghjklzxcvbnm";
+
+/**
+ * A character that is typed for a legend of several: one of its own, or the next that is free.
+ * @param {string} name
+ * @param {Set<string>} taken
+ */
+function freeLetter(name, taken) {
+  return [...name.toLowerCase(), ...name.toUpperCase(), ...LETTERS].find((letter) => !taken.has(letter)) || "";
+}
+
+/**
+ * The keys of a board, row by row, and then what is at its TEST pin, if its face tells that.
+ * @param {Pick<Board, "rows" | "columns">} board
+ * @param {Pick<Face, "keys" | "test">} face
+ * @returns {BoardKey[]}
+ */
+export function keysOf(board, face) {
+  const keys = [];
+  const taken = new Set([...face.keys.values()].map(({ text }) => text).filter((name) => name.length === 1));
+  /** @type {(legend: string, name: string) => string} */
+  const take = (legend, name) => {
+    const letter = legend.length === 1 ? legend : freeLetter(name, taken);
+    if (letter) taken.add(letter);
+    return letter;
+  };
+  for (let row = 0; row < board.rows; row++) {
+    for (let column = 0; column < board.columns; column++) {
+      const key = `${row} ${column}`;
+      const named = face.keys.get(key);
+      const legend = named ? named.text.replace(/_/g, " ") : `${row}.${column}`;
+      const words = say.keyAt(legend, row, column);
+      const letter = legend === "" ? "" : take(legend, named ? named.text : "");
+      keys.push({ key, legend, words, isNamed: Boolean(named && legend), isSwitch: false, letter });
+    }
+  }
+  return face.test ? [...keys, keyOfTest(face.test, take)] : keys;
+}
+
+/**
+ * @param {import("./face.js").TestPin} test
+ * @param {(legend: string, name: string) => string} take
+ */
+function keyOfTest({ kind, name, level }, take) {
+  const legend = name.replace(/_/g, " ");
+  const words = say.keyAtTest(kind, legend);
+  return { key: `test ${level}`, legend, words, isNamed: true, isSwitch: kind === "switch", letter: take(legend, name) };
+}
+
+/**
+ * The legend that a key of the keyboard stands for: Enter is `=`, Escape clears.
+ * @type {Record<string, string>}
+ */
+const NAMED_KEYS = { Enter: "=", Escape: "C", Backspace: "CE", Delete: "CE", ",": "." };
+
+/**
+ * Which key of the board is meant by a key of the keyboard; undefined where none is.
+ * @template {BoardKey} Key
+ * @param {Key[]} keys
+ * @param {string} typed
+ * @returns {Key | undefined}
+ */
+export function keyOfKeyboard(keys, typed) {
+  const letter = typed.length === 1 ? typed : "";
+  const own = keys.find((key) => letter !== "" && key.letter === letter);
+  if (own) return own;
+  const name = NAMED_KEYS[typed];
+  const named = name && keys.find((key) => key.legend === name);
+  if (named) return named;
+  return keys.find((key) => letter !== "" && key.letter.toLowerCase() === letter.toLowerCase());
+}
+
+/**
+ * What is told below the keys.
+ * @param {BoardKey[]} keys
+ */
+export function hintOfKeys(keys) {
+  if (keys.length === 0) return say.NO_KEYS;
+  const naming = keys.some((key) => key.isNamed) ? "" : say.NAMES_KEYS;
+  return say.keysHint(naming);
+}

@@ -1,0 +1,348 @@
+// The wiring of a board as a drawing: its parts with their pins, and the wires between them, each at its place. Nothing here draws.
+
+import { BITS } from "../bench/board_form.js";
+import * as say from "../../words/board.js";
+
+/**
+ * @typedef {import("../bench/answers.js").Board} Board
+ * @typedef {import("./face.js").TestPin} TestPin
+ * @typedef {{ place: string, name: string }} Buzzer
+ *
+ * A pin of a part. `line` is the line of the board that it is at, as the board's text names it ("" for the TEST pin); a lamp has a colour.
+ * Its own name is that line where the part drives it or reads it, else what it is: `clock 0`, `data 0`, `row 1`, `column 2`, `lamp 3`,
+ * `buzzer 0`.
+ * @typedef {{ id: string, line: string, label: string, colour?: string, x: number, y: number }} Pin
+ * @typedef {Omit<Pin, "x" | "y">} PinToPut
+ *
+ * A part: its name in the text (`rom 1`, `ram 0.2`, `chain 0`, `keys`, `lamps`, `test`, `buzzer`, `processor`), what it is called, and
+ * where it stands.
+ * @typedef {{ id: string, kind: string, title: string, x: number, y: number, width: number, height: number, pins: Pin[],
+ *   says: string[] }} Part
+ *
+ * A wire from the pin that drives a line to a pin that takes it.
+ * @typedef {{ line: string, from: Pin, to: Pin }} Wire
+ * @typedef {{ parts: Part[], wires: Wire[], width: number, height: number }} Picture
+ *
+ * What a face tells: what the lamps are called, "" for one without a name, their colours, "" for one that has none of its own, what is at
+ * the TEST pin, and the buzzer at a line of the board.
+ * @typedef {{ names: string[], colours: string[], test: TestPin | null, buzzer: Buzzer | null }} Appearance
+ *
+ * @typedef {{ x: number, y: number }} Point
+ *
+ * Where parts stand that were dragged, by their names.
+ * @typedef {Map<string, Point>} Moved
+ */
+
+export const PIN_STEP = 18;
+export const HEAD = 26;
+const GAP = 14;
+const EDGE = 10;
+/** So many bits of a chain that nothing uses are drawn, to be wired. */
+const FREE_BITS = 6;
+/** The columns of parts: how wide their parts are, and how much room the wires have before them. */
+const COLUMNS = [
+  { room: 0, width: 84 },
+  { room: 16, width: 112 },
+  { room: 80, width: 138 },
+  { room: 90, width: 150 },
+];
+
+/** The longest name that a part of the first column has room for. */
+const LONGEST_NAME = 11;
+
+/** Parts of one column, one below the other. */
+class Column {
+  /**
+   * @param {number} x
+   * @param {number} width
+   */
+  constructor(x, width) {
+    this.x = x;
+    this.width = width;
+    this.bottom = EDGE;
+  }
+
+  /**
+   * Adds a part with pins at its left and its right side.
+   * @param {Pick<Part, "id" | "kind" | "title" | "says">} part
+   * @param {PinToPut[]} left
+   * @param {PinToPut[]} right
+   * @returns {Part}
+   */
+  add(part, left, right) {
+    const { x, width } = this;
+    const y = this.bottom;
+    const height = HEAD + Math.max(left.length, right.length, 1) * PIN_STEP;
+    this.bottom += height + GAP;
+    /** @type {(pinX: number) => (pin: PinToPut, at: number) => Pin} */
+    const put = (pinX) => (pin, at) => ({ ...pin, x: pinX, y: y + HEAD + at * PIN_STEP + PIN_STEP / 2 });
+    return { ...part, x, y, width, height, pins: [...left.map(put(x)), ...right.map(put(x + width))] };
+  }
+}
+
+/** Which line each pin of the board takes, with the words for it. */
+class Uses {
+  /**
+   * @param {Board} board
+   * @param {Buzzer | null} buzzer
+   */
+  constructor(board, buzzer) {
+    /** @type {Map<string, string[]>} */
+    this.words = new Map();
+    /** @type {Map<string, number>} at which of all uses a line is used first */
+    this.order = new Map();
+    board.chains.forEach(({ clock, data }, at) => {
+      this.add(clock, say.clocksChain(at));
+      this.add(data, say.isData(at));
+    });
+    if (board.matrix) this.addMatrix(board.matrix);
+    board.lamps.forEach((line, at) => this.add(line, say.lightsLamp(at)));
+    if (buzzer) this.add(buzzer.place, say.SOUNDS_BUZZER);
+  }
+
+  /** @param {NonNullable<Board["matrix"]>} matrix */
+  addMatrix({ chain, first, rows, columns }) {
+    for (let row = 0; row < rows; row++) this.add(`chain${chain}.${first + row}`, say.drivesRow(row));
+    columns.forEach((line, at) => this.add(line, say.readsColumn(at)));
+  }
+
+  /**
+   * @param {string} line
+   * @param {string} words
+   */
+  add(line, words) {
+    if (!this.words.has(line)) this.order.set(line, this.order.size);
+    this.words.set(line, [...(this.words.get(line) || []), words]);
+  }
+
+  /**
+   * How far down a line is used: rows come first, then columns, then lamps.
+   * @param {string} line
+   */
+  orderOf(line) {
+    return this.order.get(line) || 0;
+  }
+
+  /** @param {string} line */
+  of(line) {
+    return this.words.get(line) || [];
+  }
+
+  /**
+   * What a line does, in words.
+   * @param {string} name
+   * @param {string} line
+   */
+  say(name, line) {
+    const uses = this.of(line);
+    return `${name} ${uses.join(say.AND) || say.NOT_USED}`;
+  }
+}
+
+/**
+ * The four lines of a port, line 3 first in the mask.
+ * @param {string} chip `rom1` or `ram0.2`
+ */
+function linesOfPort(chip) {
+  return [0, 1, 2, 3].map((number) => ({ id: `${chip}.${number}`, line: `${chip}.${number}` }));
+}
+
+/**
+ * @param {Column} column
+ * @param {TestPin | null} test
+ */
+function drawProcessor(column, test) {
+  const says = [say.DOES_PROCESSOR,
+    test ? say.testIsAt(test.kind, nameOf(test)) : say.TEST_IS_OWN];
+  return column.add({ id: "processor", kind: "processor", title: "4004", says }, [], [{ id: "TEST", line: "", label: "TEST" }]);
+}
+
+/** @param {TestPin} test */
+function nameOf({ name }) {
+  return name.replace(/_/g, " ");
+}
+
+/**
+ * The button or the switch at the TEST pin.
+ * @param {Column} column
+ * @param {TestPin} test
+ */
+function drawTest(column, test) {
+  const name = nameOf(test);
+  const title = name.length > LONGEST_NAME ? `${name.slice(0, LONGEST_NAME - 1)}…` : name;
+  const says = [say.putsTest(test.kind, name, test.level)];
+  return column.add({ id: "test", kind: "test", title, says }, [], [{ id: "test", line: "", label: test.kind }]);
+}
+
+/**
+ * @param {Column} column
+ * @param {Board["roms"][number]} rom
+ * @param {Uses} uses
+ */
+function drawRom(column, { chip, port }, uses) {
+  const isInput = (/** @type {number} */ at) => port[3 - at] === "i";
+  const pins = linesOfPort(`rom${chip}`).map((pin, at) => ({ ...pin, label: say.portPin(isInput(at), at) }));
+  const says = pins.map(({ line }, at) => uses.say(say.lineOfPort(line, isInput(at)), line));
+  return column.add({ id: `rom ${chip}`, kind: "rom", title: say.romTitle(chip), says }, [], pins);
+}
+
+/**
+ * @param {Column} column
+ * @param {number} bank
+ * @param {number} chip
+ * @param {Uses} uses
+ */
+function drawRam(column, bank, chip, uses) {
+  const pins = linesOfPort(`ram${bank}.${chip}`).map((pin, at) => ({ ...pin, label: say.portPin(false, at) }));
+  const says = pins.map(({ line }) => uses.say(say.lineOfPort(line, false), line));
+  return column.add({ id: `ram ${bank}.${chip}`, kind: "ram", title: say.ramTitle(bank, chip), says }, [], pins);
+}
+
+/**
+ * A chain with the bits that something uses, and some of the others.
+ * @param {Column} column
+ * @param {Board["chains"][number]} chain
+ * @param {number} at
+ * @param {Uses} uses
+ */
+function drawChain(column, { clock, data, chips }, at, uses) {
+  const bits = Array.from({ length: BITS * chips }, (_, bit) => (
+    { id: `chain${at}.${bit}`, line: `chain${at}.${bit}`, label: say.bitPin(bit) }));
+  const used = bits.filter(({ line }) => uses.of(line).length > 0).sort((one, other) => uses.orderOf(one.line) - uses.orderOf(other.line));
+  const free = bits.filter(({ line }) => uses.of(line).length === 0).slice(0, FREE_BITS);
+  const says = [say.clockIs(clock), say.dataIs(data), ...used.map(({ line, label }) => uses.say(label, line))];
+  const inputs = [{ id: `clock ${at}`, line: clock, label: say.CLOCK_PIN }, { id: `data ${at}`, line: data, label: say.DATA_PIN }];
+  return column.add({ id: `chain ${at}`, kind: "chain", title: say.chainTitle(at, chips), says }, inputs, [...used, ...free]);
+}
+
+/**
+ * @param {Column} column
+ * @param {NonNullable<Board["matrix"]>} matrix
+ */
+function drawKeys(column, { chain, first, rows, columns }) {
+  const rowPins = Array.from({ length: rows }, (_, row) => (
+    { id: `row ${row}`, line: `chain${chain}.${first + row}`, label: say.rowPin(row) }));
+  const columnPins = columns.map((line, at) => ({ id: `column ${at}`, line, label: say.columnPin(at) }));
+  const says = [...rowPins.map(({ line, label }) => say.drivenBy(label, line)), ...columnPins.map(({ line, label }) => (
+    say.readAt(label, line)))];
+  return column.add({ id: "keys", kind: "keys", title: say.keysTitle(rows, columns.length), says }, [...rowPins, ...columnPins], []);
+}
+
+/**
+ * @param {Column} column
+ * @param {string[]} lamps
+ * @param {Appearance} look
+ */
+function drawLamps(column, lamps, { names, colours }) {
+  const pins = lamps.map((line, at) => ({ id: `lamp ${at}`, line, label: names[at] || say.lampPin(at), colour: colours[at] || "red" }));
+  const says = pins.map(({ line, label }) => say.isAt(label, line));
+  return column.add({ id: "lamps", kind: "lamps", title: say.lampsTitle(lamps.length), says }, pins, []);
+}
+
+/**
+ * @param {Column} column
+ * @param {Buzzer} buzzer
+ */
+function drawBuzzer(column, { place, name }) {
+  const says = [say.soundsEdges(name, place)];
+  return column.add({ id: "buzzer", kind: "buzzer", title: say.BUZZER, says }, [{ id: "buzzer 0", line: place, label: name }], []);
+}
+
+/**
+ * The wires: a line goes from the pin of the chip or chain that has it to each other pin with its name.
+ * @param {Part[]} parts
+ */
+function wiresOf(parts) {
+  /** @type {Map<string, Pin>} */
+  const sources = new Map();
+  for (const part of parts) {
+    if (part.id === "test") sources.set("", part.pins[0]);
+    const owner = part.id.replace(" ", "");
+    for (const pin of part.pins) if (pin.line !== "" && pin.id === pin.line && pin.line.startsWith(`${owner}.`)) sources.set(pin.line, pin);
+  }
+  /** @type {Wire[]} */
+  const wires = [];
+  for (const { pins } of parts) {
+    for (const pin of pins) {
+      const from = sources.get(pin.line);
+      if (from && from !== pin) wires.push({ line: pin.line, from, to: pin });
+    }
+  }
+  return wires;
+}
+
+/**
+ * The columns, of which those that have no parts take no room.
+ * @param {boolean[]} areUsed
+ */
+function columnsOf(areUsed) {
+  let right = EDGE;
+  return COLUMNS.map(({ room, width }, at) => {
+    const column = new Column(right + room, width);
+    if (areUsed[at]) right += room + width;
+    return column;
+  });
+}
+
+/**
+ * Puts parts where they were dragged to; their pins go with them.
+ * @param {Part[]} parts
+ * @param {Moved} moved
+ */
+function moveParts(parts, moved) {
+  for (const part of parts) {
+    const point = moved.get(part.id);
+    if (!point) continue;
+    const [right, down] = [point.x - part.x, point.y - part.y];
+    Object.assign(part, point);
+    for (const pin of part.pins) Object.assign(pin, { x: pin.x + right, y: pin.y + down });
+  }
+}
+
+/**
+ * The drawing of a board.
+ * @param {Board} board
+ * @param {Appearance} look
+ * @param {Moved} [moved]
+ * @returns {Picture}
+ */
+export function drawBoard(board, look = { names: [], colours: [], test: null, buzzer: null }, moved = new Map()) {
+  const uses = new Uses(board, look.buzzer);
+  const hasChips = board.roms.length + board.banks.length > 0;
+  const hasFront = board.matrix !== null || board.lamps.length > 0 || Boolean(look.buzzer);
+  const columns = columnsOf([true, hasChips, board.chains.length > 0, hasFront]);
+  const [first, second, third, fourth] = columns;
+  const parts = [drawProcessor(first, look.test)];
+  if (look.test) parts.push(drawTest(first, look.test));
+  for (const rom of [...board.roms].sort((one, other) => one.chip - other.chip)) parts.push(drawRom(second, rom, uses));
+  for (const { bank, chips } of board.banks) {
+    for (let chip = 0; chip < chips; chip++) parts.push(drawRam(second, bank, chip, uses));
+  }
+  board.chains.forEach((chain, at) => parts.push(drawChain(third, chain, at, uses)));
+  if (board.matrix) parts.push(drawKeys(fourth, board.matrix));
+  if (board.lamps.length > 0) parts.push(drawLamps(fourth, board.lamps, look));
+  if (look.buzzer) parts.push(drawBuzzer(fourth, look.buzzer));
+  moveParts(parts, moved);
+  const width = Math.max(...parts.map((part) => part.x + part.width)) + EDGE;
+  const height = Math.max(...parts.map((part) => part.y + part.height)) + GAP;
+  return { parts, wires: wiresOf(parts), width, height };
+}
+
+/**
+ * Whether a line of a port is at 1.
+ * @param {string} digit what the port has, as a hexadecimal digit
+ * @param {number} line
+ */
+export function isHigh(digit, line) {
+  return ((parseInt(digit, 16) >> line) & 1) === 1;
+}
+
+/**
+ * Whether a line of a ROM's port is at 1: an input line has what is read at it, an output line what the latch holds.
+ * @param {string} mask the port in the board's text, line 3 first
+ * @param {{ out: string, in: string }} told
+ * @param {number} line
+ */
+export function isHighAtRom(mask, told, line) {
+  return isHigh(mask[3 - line] === "i" ? told.in : told.out, line);
+}

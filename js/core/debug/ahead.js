@@ -1,0 +1,125 @@
+// Looking ahead: after how many cycles a goal is reached. It is found out by questions, or on a copy of the session that is thrown away, so
+// that nothing of it is ever in the session, not even where all ends in the middle of it. The session itself then runs for so many cycles.
+
+import { Cancelled } from "../bench/faults.js";
+import { LONGEST_RUN } from "../engine/key_queue.js";
+import { FIRST_CYCLES, PieceSize } from "../engine/pieces.js";
+import { Answers } from "../engine/tracing.js";
+import { LARGEST_PIECE, watcherOf } from "./goals.js";
+
+/**
+ * @typedef {import("../engine/engine.js").Engine} Engine
+ * @typedef {import("../engine/key_queue.js").PlannedLine} PlannedLine
+ * @typedef {import("./goals.js").Found} Found
+ * @typedef {import("./goals.js").Goal} Goal
+ * @typedef {import("./goals.js").Watcher} Watcher
+ */
+
+/**
+ * The lines of a piece.
+ * @param {Watcher} watcher
+ * @param {number} cycles
+ */
+function linesOf(watcher, cycles) {
+  let lines = "";
+  for (let left = cycles; left > 0; left -= LONGEST_RUN) {
+    const run = Math.min(left, LONGEST_RUN);
+    lines += `${watcher.before(run)}run ${run}\n${watcher.after}`;
+  }
+  return lines;
+}
+
+/**
+ * Goes through the answers of a piece; null where neither the goal nor a stop is among them.
+ * @param {Answers} answers
+ * @param {Watcher} watcher
+ * @returns {Found | null} its cycles are those of this piece
+ */
+function foundIn(answers, watcher) {
+  let done = 0;
+  while (!answers.isEmpty) {
+    const found = watcher.take(answers);
+    done += found.cycles;
+    if (found.isReached || found.end !== "end") return { ...found, cycles: done };
+  }
+  return null;
+}
+
+/**
+ * Looks for a goal from here on, with the keys as they are.
+ * @param {Engine} engine
+ * @param {Uint8Array} file is left as it is
+ * @param {Goal} goal
+ * @param {(done: number) => Promise<boolean>} goesOn is told after each piece how many cycles were tried, and says whether to go on
+ * @param {number} most so many cycles are tried
+ * @param {() => Uint8Array} [codes] gives what stands in ROM
+ * @returns {Promise<Found>}
+ */
+export async function seek(engine, file, goal, goesOn, most, codes) {
+  const copy = file.slice();
+  const watcher = watcherOf(engine, file, goal, codes);
+  if (!watcher) return { cycles: 0, isReached: false, end: "lacks" };
+  if (watcher.first) engine.serve(copy, watcher.first, copy);
+  const piece = new PieceSize(FIRST_CYCLES, 1, LARGEST_PIECE);
+  for (let done = 0; done < most;) {
+    const cycles = Math.min(piece.size, watcher.most(), most - done);
+    const found = piece.measure(() => foundIn(new Answers(engine.serve(copy, linesOf(watcher, cycles), copy).answers), watcher));
+    if (found) return { ...found, cycles: done + found.cycles };
+    done += cycles;
+    if (!(await goesOn(done))) throw new Cancelled();
+  }
+  return { cycles: most, isReached: false, end: "bound" };
+}
+
+/**
+ * How many cycles the run of a line would do, 0 for a change of a key.
+ * @param {PlannedLine} planned
+ */
+export function cyclesOfLine({ line, change }) {
+  return change ? 0 : Number(line.slice("run ".length));
+}
+
+/**
+ * After how many cycles of the lines that come next a goal is reached; -1 where it is not, or where something else stops them before.
+ * @param {Engine} engine
+ * @param {Uint8Array} file is left as it is
+ * @param {PlannedLine[]} planned
+ * @param {Watcher} watcher has seen all runs up to here
+ */
+export function cyclesToGoal(engine, file, planned, watcher) {
+  const lines = planned.map((each) => (
+    each.change ? `${each.line}\n` : `${watcher.before(cyclesOfLine(each))}${each.line}\n${watcher.after}`));
+  const answers = new Answers(engine.ask(file, watcher.first + lines.join("")).answers);
+  if (watcher.first) answers.take();
+  let done = 0;
+  for (const { change } of planned) {
+    if (change) {
+      answers.take();
+      continue;
+    }
+    const found = watcher.take(answers);
+    done += found.cycles;
+    if (found.isReached) return done;
+    if (found.end !== "end") return -1;
+  }
+  return -1;
+}
+
+/**
+ * The lines up to so many cycles.
+ * @param {PlannedLine[]} planned
+ * @param {number} cycles
+ * @returns {PlannedLine[]}
+ */
+export function linesUpTo(planned, cycles) {
+  /** @type {PlannedLine[]} */
+  const cut = [];
+  let left = cycles;
+  for (const each of planned) {
+    const run = cyclesOfLine(each);
+    if (left === 0) break;
+    cut.push(run > left ? { line: `run ${left}`, change: null } : each);
+    left -= Math.min(run, left);
+  }
+  return cut;
+}

@@ -1,0 +1,194 @@
+// Breakpoints that do not stop each time: with a condition, from some hit on, or with a note that is logged in place of a stop. They are
+// found ahead, on a copy that has them as breakpoints, and that tells at each arrival what stands at the places they ask for.
+
+import { Answers, valuesOf } from "../engine/tracing.js";
+import { cyclesOfLine } from "./ahead.js";
+import { MOST_PLACES } from "./conditions.js";
+
+/**
+ * @typedef {import("../engine/engine.js").Engine} Engine
+ * @typedef {import("../engine/key_queue.js").PlannedLine} PlannedLine
+ *
+ * `from`: it stops from this hit on; `holds` and `words` get what stands at its places; `words` is null where it stops.
+ * @typedef {{ id: number, address: number, from: number, hits: number, places: string[], holds: (values: string[]) => boolean,
+ *   words: ((values: string[]) => string) | null }} SoftBreakpoint
+ *
+ * @typedef {{ id: number, cycles: number, words: string }} Logged a note, after so many cycles
+ *
+ * What was seen ahead: after how many cycles a breakpoint stops, and which one; -1 where none does. The hits of each breakpoint, the
+ * notes, at most the last ones, and how many there were.
+ * @typedef {{ cycles: number, id: number, hits: Map<number, number>, notes: Logged[], noted: number }} Seen
+ */
+
+/** So many runs are asked for at once. */
+const MOST_RUNS = 400;
+/** So many notes are told of a look. */
+export const MOST_NOTES = 200;
+
+/** @returns {Seen} */
+export function nothingSeen() {
+  return { cycles: -1, id: 0, hits: new Map(), notes: [], noted: 0 };
+}
+
+export class Arrivals {
+  /** @param {SoftBreakpoint[]} breakpoints each at an address of its own */
+  constructor(breakpoints) {
+    this.breakpoints = breakpoints;
+    this.at = new Map(breakpoints.map((each) => [each.address, each]));
+    this.places = ["pc", ...new Set(breakpoints.flatMap(({ places }) => places))];
+    this.looks = new Map(breakpoints.map(({ id, places }) => [id, places.map((place) => this.places.indexOf(place))]));
+    this.first = breakpoints.map(({ address }) => `break ${address}\n`).join("");
+    this.probes = this.probeLines();
+    /** How many arrivals there were in a cycle, of late. */
+    this.density = 0;
+    this.copy = new Uint8Array(0);
+  }
+
+  get isEmpty() {
+    return this.breakpoints.length === 0;
+  }
+
+  /** The questions at an arrival: each takes so many places. */
+  probeLines() {
+    const lines = [];
+    for (let from = 0; from < this.places.length; from += MOST_PLACES) {
+      lines.push(`trace 1 ${this.places.slice(from, from + MOST_PLACES).join(" ")}\n`);
+    }
+    return lines;
+  }
+
+  /**
+   * Looks through the lines that come next.
+   * @param {Engine} engine
+   * @param {Uint8Array} file is left as it is
+   * @param {PlannedLine[]} planned
+   * @returns {Seen}
+   */
+  look(engine, file, planned) {
+    const seen = nothingSeen();
+    if (this.isEmpty) return seen;
+    if (this.density === 0 && this.isQuiet(engine, file, planned)) return seen;
+    if (this.copy.length !== file.length) this.copy = new Uint8Array(file.length);
+    this.copy.set(file);
+    let [lines, count, done] = [this.first, this.breakpoints.length, 0];
+    for (const each of planned) {
+      if (each.change) {
+        lines += `${each.line}\n`;
+        count += 1;
+        continue;
+      }
+      const before = done;
+      const ran = this.run(engine, this.copy, { lines, count, cycles: cyclesOfLine(each) },
+        (end, row, part) => end !== "break" || this.isStop(row, before + part, seen));
+      if (ran < 0) return seen;
+      done += ran;
+      [lines, count] = ["", 0];
+    }
+    return seen;
+  }
+
+  /**
+   * Whether there is no arrival at all: one question tells.
+   * @param {Engine} engine
+   * @param {Uint8Array} file
+   * @param {PlannedLine[]} planned
+   */
+  isQuiet(engine, file, planned) {
+    const answers = engine.ask(file, this.first + planned.map(({ line }) => `${line}\n`).join("")).answers.slice(this.breakpoints.length);
+    return planned.every(({ change }, at) => change !== null || answers[at].endsWith(" end"));
+  }
+
+  /**
+   * Goes through a run on a file that has the breakpoints; gives its cycles, -1 where a visit ends it.
+   * @param {Engine} engine
+   * @param {Uint8Array} file
+   * @param {{ lines: string, count: number, cycles: number }} run lines before it, how many answers they have, how many cycles it has
+   * @param {(end: string, row: string[], ran: number) => boolean} visit is told of each stop, by the word of its answer, what stands at
+   *   `places` there, and how many cycles of the run were done; it says whether that is the end
+   */
+  run(engine, file, { lines, count, cycles }, visit) {
+    let [before, skipped, ran, arrivals] = [lines, count, 0, 0];
+    while (ran < cycles) {
+      const left = cycles - ran;
+      const runs = Math.min(left, MOST_RUNS, Math.max(1, Math.round(2 * this.density * left)));
+      const pair = `run ${Math.floor(left / runs)}\n${this.probes.join("")}`;
+      const answers = new Answers(engine.serve(file, before + pair.repeat(runs), file).answers);
+      answers.skip(skipped);
+      [before, skipped] = ["", 0];
+      while (!answers.isEmpty) {
+        const { cycles: part, end } = answers.takeRun();
+        const row = this.probes.flatMap(() => valuesOf(answers.takeTrace().row));
+        ran += part;
+        if (end === "end") continue;
+        arrivals += 1;
+        if (visit(end, row, ran)) return -1;
+      }
+    }
+    this.density = arrivals / cycles;
+    return ran;
+  }
+
+  /**
+   * The breakpoint at which time has arrived, where its condition holds; null where there is none.
+   * @param {string[]} row what stands at `places`
+   */
+  heldAt(row) {
+    const found = this.at.get(parseInt(row[0], 16));
+    return found && found.holds(this.valuesFor(found, row)) ? found : null;
+  }
+
+  /**
+   * @param {SoftBreakpoint} breakpoint
+   * @param {string[]} row
+   */
+  valuesFor({ id }, row) {
+    return (this.looks.get(id) || []).map((at) => row[at]);
+  }
+
+  /**
+   * Whether time stops at an arrival.
+   * @param {string[]} row
+   * @param {number} cycles
+   * @param {Seen} seen
+   */
+  isStop(row, cycles, seen) {
+    const found = this.at.get(parseInt(row[0], 16));
+    // One that always stops; the session has it itself.
+    if (!found) return true;
+    const { id, holds, words, from } = found;
+    const values = this.valuesFor(found, row);
+    if (!holds(values)) return false;
+    const hits = (seen.hits.get(id) || 0) + 1;
+    seen.hits.set(id, hits);
+    if (found.hits + hits < from) return false;
+    if (words) {
+      seen.noted += 1;
+      if (seen.notes.length === MOST_NOTES) seen.notes.shift();
+      seen.notes.push({ id, cycles, words: words(values) });
+      return false;
+    }
+    seen.cycles = cycles;
+    seen.id = id;
+    return true;
+  }
+
+  /** How many hits there were of each, in their order. */
+  get hits() {
+    return this.breakpoints.map(({ hits }) => hits);
+  }
+
+  /** @param {number[]} hits those of before, since what was counted did not come about */
+  takeBack(hits) {
+    this.breakpoints.forEach((breakpoint, at) => {
+      breakpoint.hits = hits[at];
+    });
+  }
+
+  /**
+   * What was seen has come about.
+   * @param {Seen} seen
+   */
+  count({ hits }) {
+    for (const breakpoint of this.breakpoints) breakpoint.hits += hits.get(breakpoint.id) || 0;
+  }
+}

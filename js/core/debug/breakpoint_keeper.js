@@ -1,0 +1,282 @@
+// The breakpoints of the session that is shown: a list that moves with the source, and the bench, which has what the list has. Where the
+// bench tells of others (a line `break` that was typed, a session of mcs4) the list takes them.
+
+import { BreakpointList, MOST_BREAKPOINTS, MOST_ON, instructionOfAddress, instructionOfLine } from "./breakpoints.js";
+import { isSoft } from "./soft_breakpoints.js";
+import * as say from "../../words/debug.js";
+
+/**
+ * @typedef {import("../machine/source_map.js").SourceMap} SourceMap
+ * @typedef {import("./breakpoints.js").Breakpoint} Breakpoint
+ * @typedef {import("./breakpoints.js").Edit} Edit
+ * @typedef {import("./breakpoints.js").KeptBreakpoint} KeptBreakpoint
+ * @typedef {import("./debugger.js").Tally} Tally
+ * @typedef {import("./soft_breakpoints.js").Placed} Placed
+ *
+ * What it calls: the bench has these from here on, which gives what cannot be read, by ids; the list is another one, or its hits alone are;
+ * a user has changed it; something is told, where the hand was; a call failed.
+ * @typedef {{ set: (placed: Placed[]) => Promise<[number, string][]>, changed: () => void, counted: () => void, touched: () => void,
+ *   tell: (words: string) => void, failed: (fault: unknown) => void }} KeeperCalls
+ */
+
+const TOO_MANY = say.tooManyOn(MOST_ON);
+
+export class BreakpointKeeper {
+  /** @param {KeeperCalls} calls */
+  constructor(calls) {
+    this.calls = calls;
+    this.list = new BreakpointList();
+    /** @type {SourceMap | null} the program that stands in ROM, where the source is that program */
+    this.map = null;
+    /** Why it is not. */
+    this.words = "";
+    /** @type {Map<number, string>} why one cannot be read, by its id */
+    this.faults = new Map();
+    /** @type {Set<number> | null} the addresses that the bench has; null until it has told of a session */
+    this.told = null;
+    /** Whether the list of a session is one that was kept. */
+    this.isKept = false;
+    /** How many times the bench is yet to be asked to have the list, and what it was asked last. */
+    this.asked = 0;
+    this.last = "";
+    /** @type {Promise<void>} all that was asked for is done */
+    this.settled = Promise.resolve();
+  }
+
+  // --- what others tell ---
+
+  /**
+   * Another session is shown.
+   * @param {KeptBreakpoint[] | undefined} kept undefined where none were kept: those of its file count
+   */
+  open(kept) {
+    this.list = new BreakpointList(kept);
+    this.isKept = kept !== undefined;
+    this.map = null;
+    this.words = "";
+    this.told = null;
+    this.last = "";
+    this.faults.clear();
+    this.calls.changed();
+  }
+
+  /** The bench was begun anew: it knows of none. */
+  again() {
+    this.last = "";
+    this.apply();
+  }
+
+  /** @param {Edit[]} edits of the source, one after the other */
+  edited(edits) {
+    const moved = edits.filter((edit) => this.list.edit(edit));
+    if (moved.length > 0) this.calls.changed();
+  }
+
+  /**
+   * Whether the source is what stands in ROM, and which lines are where.
+   * @param {SourceMap | null} map
+   * @param {string} words why it is not
+   */
+  takeMap(map, words) {
+    this.map = map;
+    this.words = words;
+    if (!this.told) return;
+    const moved = map ? this.list.locate(map) : [];
+    if (moved.length > 0) this.calls.tell(moved.join(" "));
+    this.apply();
+  }
+
+  /**
+   * The breakpoints that the bench has, by a look.
+   * @param {string[]} breaks as answers write them
+   */
+  take(breaks) {
+    const addresses = breaks.map((address) => parseInt(address, 16));
+    const before = this.told;
+    this.told = new Set(addresses);
+    if (!before) {
+      // The session was just opened. What its file has beside the list was put there by another program.
+      if (!this.isKept) for (const address of addresses) this.adopt(address);
+      this.calls.changed();
+      return;
+    }
+    if (this.isApplying) return;
+    const wanted = new Set(this.hard);
+    for (const address of addresses.filter((each) => !wanted.has(each) && !before.has(each))) this.adopt(address);
+    for (const address of [...wanted].filter((each) => before.has(each) && !addresses.includes(each))) this.drop(address);
+    this.apply();
+  }
+
+  /** The addresses of those that always stop. */
+  get hard() {
+    return this.list.placed.filter((each) => !isSoft(each)).map(({ address }) => address);
+  }
+
+  /** @param {number} address the bench has a breakpoint there */
+  adopt(address) {
+    const found = this.list.atAddress(address);
+    if (found) {
+      this.list.change(found.id, { isOn: true });
+      return;
+    }
+    const { map } = this;
+    const instruction = map ? instructionOfAddress(address, map) : { line: 0, address, words: "" };
+    if (instruction.words) this.calls.tell(instruction.words);
+    if (instruction.line > 0 && this.list.atLine(instruction.line)) return;
+    this.list.add({ line: instruction.line, address: instruction.address });
+  }
+
+  /** @param {number} address the bench has none there any more */
+  drop(address) {
+    const found = this.list.atAddress(address);
+    if (found) this.list.remove(found.id);
+  }
+
+  /** @param {Tally} tally what breakpoints did */
+  count({ hits }) {
+    if (hits.length === 0) return;
+    this.list.count(hits);
+    this.calls.counted();
+  }
+
+  // --- what a user does ---
+
+  /**
+   * Sets the breakpoint of a line, or takes it away.
+   * @param {number} line
+   */
+  toggleLine(line) {
+    const own = this.list.atLine(line);
+    if (own) {
+      this.remove(own.id);
+      return;
+    }
+    const instruction = this.map ? instructionOfLine(line, this.map) : { line, address: -1, words: this.wordsOfLater() };
+    if (instruction.words) this.calls.tell(instruction.words);
+    if (instruction.line !== line && this.list.atLine(instruction.line)) return;
+    if (this.map && instruction.address < 0) return;
+    this.add({ line: instruction.line, address: instruction.address });
+  }
+
+  /**
+   * The breakpoint of a line, which is set where there is none; undefined where there can be none.
+   * @param {number} line
+   */
+  ofLine(line) {
+    if (!this.list.atLine(line)) this.toggleLine(line);
+    const next = this.map ? instructionOfLine(line, this.map).line : line;
+    return this.list.atLine(line) || this.list.atLine(next);
+  }
+
+  wordsOfLater() {
+    return this.words ? say.untilThen(this.words) : "";
+  }
+
+  /**
+   * Sets the breakpoint of an address, or takes it away.
+   * @param {number} address
+   */
+  toggleAddress(address) {
+    const own = this.list.atAddress(address);
+    if (own) {
+      this.remove(own.id);
+      return;
+    }
+    const instruction = this.map ? instructionOfAddress(address, this.map) : { line: 0, address, words: "" };
+    if (instruction.words) this.calls.tell(instruction.words);
+    this.add({ line: instruction.line, address: instruction.address });
+  }
+
+  /** @param {Partial<KeptBreakpoint>} some */
+  add(some) {
+    if (this.list.all.length >= MOST_BREAKPOINTS) {
+      this.calls.tell(say.mostBreakpoints(MOST_BREAKPOINTS));
+      return;
+    }
+    const isFull = this.list.countOn >= MOST_ON;
+    if (isFull) this.calls.tell(TOO_MANY);
+    this.list.add({ ...some, isOn: !isFull });
+    this.acted();
+  }
+
+  /** @param {number} id */
+  remove(id) {
+    this.list.remove(id);
+    this.acted();
+  }
+
+  /**
+   * Other words, or on or off.
+   * @param {number} id
+   * @param {Partial<KeptBreakpoint>} some
+   */
+  change(id, some) {
+    const found = this.list.get(id);
+    if (!found) return;
+    if (some.isOn && !found.isOn && this.list.countOn >= MOST_ON) {
+      this.calls.tell(TOO_MANY);
+      this.calls.changed();
+      return;
+    }
+    this.list.change(id, some);
+    this.acted();
+  }
+
+  /** @param {boolean} isOn all of them, as many as there can be */
+  switchAll(isOn) {
+    let left = MOST_ON;
+    for (const { id } of [...this.list.all]) {
+      this.list.change(id, { isOn: isOn && left > 0 });
+      left -= 1;
+    }
+    this.acted();
+  }
+
+  removeAll() {
+    this.list.all = [];
+    this.acted();
+  }
+
+  /** Hits are counted anew. */
+  forgetHits() {
+    for (const each of this.list.all) each.hits = 0;
+    this.last = "";
+    this.apply();
+  }
+
+  // --- the bench ---
+
+  get isApplying() {
+    return this.asked > 0;
+  }
+
+  acted() {
+    this.calls.touched();
+    this.apply();
+  }
+
+  /** The bench has what the list has, once `settled` is kept. */
+  apply() {
+    this.calls.changed();
+    const { placed } = this.list;
+    // Names in conditions may mean something else in another text.
+    const names = this.map && placed.some(isSoft) ? this.map.text : "";
+    const next = JSON.stringify([names, placed.map((each) => ({ ...each, line: 0, hits: 0 }))]);
+    const isNone = placed.length === 0 && this.told !== null && this.told.size === 0;
+    if (next === this.last || (this.last === "" && isNone)) return;
+    this.last = next;
+    this.asked += 1;
+    this.settled = this.settled.then(() => this.set()).catch((fault) => this.calls.failed(fault));
+  }
+
+  async set() {
+    const { list } = this;
+    try {
+      const faults = list === this.list ? await this.calls.set(list.placed) : [];
+      if (list === this.list) this.faults = new Map(faults);
+    } finally {
+      this.asked -= 1;
+    }
+    if (list === this.list) this.calls.changed();
+  }
+}

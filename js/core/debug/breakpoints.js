@@ -1,0 +1,269 @@
+// Breakpoints as lines of a program's text: they move with the text, and where the text is what stands in ROM each has an address. One that
+// has no line of the text stands at an address alone.
+
+import * as say from "../../words/debug.js";
+
+/**
+ * @typedef {import("../machine/source_map.js").SourceMap} SourceMap
+ * @typedef {import("./soft_breakpoints.js").Placed} Placed
+ *
+ * `line` from 1, 0 where it stands at an address alone; `address` where it was put last, -1 for nowhere yet; `isOn`: it stops; the rest as
+ * in Placed.
+ * @typedef {{ id: number, line: number, address: number, isOn: boolean, condition: string, from: number, note: string, hits: number }}
+ *   Breakpoint
+ * @typedef {Omit<Breakpoint, "id" | "hits">} KeptBreakpoint as a session and a project keep it
+ *
+ * An edit of the text: of its lines (from 0) those from one to another one were replaced by so many.
+ * @typedef {{ from: { line: number, ch: number }, to: { line: number, ch: number }, text: string[], removed?: string[],
+ *   origin?: string }} Edit
+ */
+
+/** The bench has so many that always stop, and a copy of it as many again with the others. */
+export const MOST_ON = 32;
+/** So many are kept. */
+export const MOST_BREAKPOINTS = 256;
+/** So many that went with their lines come back with them, when that is undone. */
+const MOST_GONE = 256;
+
+/** @type {Omit<Breakpoint, "id" | "line" | "address">} */
+const PLAIN = { isOn: true, condition: "", from: 1, note: "", hits: 0 };
+
+export class BreakpointList {
+  /** @param {Partial<KeptBreakpoint>[]} [kept] */
+  constructor(kept = []) {
+    this.made = 0;
+    /** @type {Breakpoint[]} in the order of their lines, those at an address alone last */
+    this.all = kept.map((each) => this.make(each));
+    /** @type {{ text: string, breakpoint: Breakpoint }[]} those that went with their lines, the last one last */
+    this.gone = [];
+    this.sort();
+  }
+
+  /**
+   * @param {Partial<KeptBreakpoint>} some
+   * @returns {Breakpoint}
+   */
+  make(some) {
+    this.made += 1;
+    return { ...PLAIN, line: 0, address: -1, ...some, hits: 0, id: this.made };
+  }
+
+  sort() {
+    /** @type {(each: Breakpoint) => number} */
+    const rank = ({ line, address }) => (line > 0 ? line : 1e6 + address);
+    this.all.sort((one, other) => rank(one) - rank(other));
+  }
+
+  /** @param {Partial<KeptBreakpoint>} some */
+  add(some) {
+    const made = this.make(some);
+    this.all.push(made);
+    this.sort();
+    return made;
+  }
+
+  /** @param {number} id */
+  remove(id) {
+    this.all = this.all.filter((each) => each.id !== id);
+  }
+
+  /**
+   * Other words, or on or off.
+   * @param {number} id
+   * @param {Partial<KeptBreakpoint>} some
+   */
+  change(id, some) {
+    this.all = this.all.map((each) => (each.id === id ? { ...each, ...some } : each));
+  }
+
+  /**
+   * @param {number} id
+   * @returns {Breakpoint | undefined}
+   */
+  get(id) {
+    return this.all.find((each) => each.id === id);
+  }
+
+  /**
+   * @param {number} line
+   * @returns {Breakpoint | undefined}
+   */
+  atLine(line) {
+    return this.all.find((each) => each.line === line);
+  }
+
+  /**
+   * @param {number} address
+   * @returns {Breakpoint | undefined}
+   */
+  atAddress(address) {
+    return this.all.find((each) => each.address === address);
+  }
+
+  /** How many are on. */
+  get countOn() {
+    return this.all.filter(({ isOn }) => isOn).length;
+  }
+
+  /**
+   * The text was edited. A breakpoint moves with its line; one whose whole line is gone goes with it. Gives whether one has another place.
+   * @param {Edit} edit
+   */
+  edit(edit) {
+    const { first, last, count, isOther } = replacedLines(edit);
+    if (isOther) return this.leaveText();
+    const more = count - (last - first + 1);
+    if (more === 0) return false;
+    const isMoved = this.all.some(({ line }) => line >= first);
+    this.all = this.all.flatMap((each) => {
+      if (each.line < first) return [each];
+      if (each.line > last) return [{ ...each, line: each.line + more }];
+      // A line that was replaced by others is the one at its place among them.
+      if (each.line < first + count) return [each];
+      this.leave(each, edit);
+      return [];
+    });
+    const isUndone = edit.origin === "undo" || edit.origin === "redo";
+    return (isUndone && this.bringBack(edit, first, count)) || isMoved;
+  }
+
+  /** All of the text is another one: what is known of breakpoints are their addresses, where they have some. */
+  leaveText() {
+    this.all = this.all.map((each) => (each.address >= 0 ? { ...each, line: 0 } : each));
+    this.sort();
+    return this.all.length > 0;
+  }
+
+  /**
+   * A breakpoint goes with its line.
+   * @param {Breakpoint} breakpoint
+   * @param {Edit} edit
+   */
+  leave(breakpoint, { from, removed = [] }) {
+    this.gone.push({ text: removed[breakpoint.line - from.line - 1] || "", breakpoint });
+    if (this.gone.length > MOST_GONE) this.gone.shift();
+  }
+
+  /**
+   * Lines came back, and with them the breakpoints that went with them; gives whether there are any.
+   * @param {Edit} edit
+   * @param {number} first
+   * @param {number} count
+   */
+  bringBack({ from, text }, first, count) {
+    const before = this.all.length;
+    for (let line = first + count - 1; line >= first; line--) {
+      const at = this.gone.map((each) => each.text).lastIndexOf(text[line - from.line - 1]);
+      if (at < 0 || this.atLine(line)) continue;
+      const [{ breakpoint }] = this.gone.splice(at, 1);
+      this.all.push({ ...breakpoint, line });
+    }
+    this.sort();
+    return this.all.length > before;
+  }
+
+  /**
+   * The text is what stands in ROM: each breakpoint has an address. Gives words of those that moved.
+   * @param {SourceMap} map
+   */
+  locate(map) {
+    /** @type {string[]} */
+    const words = [];
+    /** @type {Map<number, Breakpoint>} */
+    const placed = new Map();
+    for (const each of this.all) {
+      const found = each.line > 0 ? instructionOfLine(each.line, map) : instructionOfAddress(each.address, map);
+      if (found.words) words.push(found.words);
+      const { line, address } = found;
+      // Two that have come to one place are one.
+      if (address >= 0 && placed.has(address)) continue;
+      placed.set(address >= 0 ? address : -1 - each.id, { ...each, line, address });
+    }
+    this.all = [...placed.values()];
+    this.sort();
+    return words;
+  }
+
+  /**
+   * Those that are on, where they have an address.
+   * @returns {Placed[]}
+   */
+  get placed() {
+    return this.all.filter(({ isOn, address }) => isOn && address >= 0);
+  }
+
+  /** @param {[number, number][]} hits more of each, by its id */
+  count(hits) {
+    for (const [id, more] of hits) {
+      const found = this.get(id);
+      if (found) found.hits += more;
+    }
+  }
+
+  /** @returns {KeptBreakpoint[]} */
+  get kept() {
+    return this.all.map(({ line, address, isOn, condition, from, note }) => ({ line, address, isOn, condition, from, note }));
+  }
+}
+
+/**
+ * How many lines are the same at the beginning of both, or at the end.
+ * @param {string[]} olds
+ * @param {string[]} news
+ * @param {number} most
+ * @param {boolean} isAtEnd
+ */
+function sameLines(olds, news, most, isAtEnd) {
+  let count = 0;
+  /** @type {(lines: string[]) => string} */
+  const next = (lines) => lines[isAtEnd ? lines.length - 1 - count : count];
+  while (count < most && next(olds) === next(news)) count += 1;
+  return count;
+}
+
+/**
+ * The lines that an edit replaces, from 1, and by how many: those at its beginning and its end that stay are none of them. What is put in
+ * at the beginning of a line stands before the line. `isOther`: a whole text from its first line on is another one, to its last line.
+ * @param {Edit} edit
+ */
+function replacedLines({ from, to, text, removed = Array(to.line - from.line + 1).fill("\n") }) {
+  const most = Math.min(removed.length, text.length);
+  const isBefore = from.ch === 0;
+  const one = sameLines(removed, text, most, isBefore);
+  const other = sameLines(removed, text, most - one, !isBefore);
+  const [before, after] = isBefore ? [other, one] : [one, other];
+  const isOther = isBefore && from.line === 0 && before + after === 0 && removed.length > 2 && text.length > 2;
+  return { first: from.line + 1 + before, last: to.line + 1 - after, count: text.length - before - after, isOther };
+}
+
+/**
+ * The instruction that a line, or the next one that has one, begins.
+ * @param {number} line
+ * @param {SourceMap} map
+ */
+export function instructionOfLine(line, map) {
+  const own = map.addressOf(line);
+  if (own !== undefined) return { line, address: own, words: "" };
+  for (let next = line + 1; next <= map.count; next++) {
+    const address = map.addressOf(next);
+    if (address !== undefined) {
+      const words = say.movedToNext(line, next);
+      return { line: next, address, words };
+    }
+  }
+  return { line, address: -1, words: say.nothingFollows(line) };
+}
+
+/**
+ * The line of an address, or of the next instruction where it is inside one.
+ * @param {number} address
+ * @param {SourceMap} map
+ */
+export function instructionOfAddress(address, map) {
+  if (address < 0 || !map.isInside(address)) return { line: address < 0 ? 0 : map.lineOf(address), address, words: "" };
+  const line = map.lineOf(address);
+  const digits = address.toString(16).toUpperCase().padStart(3, "0");
+  const next = instructionOfLine(line + 1, map);
+  if (next.address < 0) return { line, address: map.addresses[line], words: say.insideInstruction(digits, line) };
+  return { ...next, words: say.insideAndMoved(digits, line, next.line) };
+}

@@ -1,0 +1,256 @@
+// A session in memory with its debugger, the program's lines, and breakpoints at these: what an editor, a prompt or a test in node opens.
+//
+//     const engine = await Engine.load(bytes of the module);         (worker/engine.js)
+//     const session = new DebugSession(engine, { board, program });  texts; or { file, board, program } for the bytes of a .mcs
+//     session.refused;                                               what was refused of them
+//     session.breakpoints.add({ line: 12, condition: "r9 = 9" }); await session.applyBreakpoints();
+//     const stop = await session.go();                               runs up to a stop; go({ kind: "over" | "out" | "here" | "change" .. })
+//     stop.why, stop.words, session.line, session.values(["r4", "pc", "lamps"]), session.returns;
+//     await session.into(); await session.back({ kind: "instruction" }); session.forward();
+//     await session.setProgram(text);                                assembled anew: breakpoints move to where their lines are now
+//
+// Time has no clock here: `go` runs as fast as the module can, in pieces, and `goesOn` is asked between them whether to go on. Nothing is
+// written: `session.file` has the bytes, in which no breakpoint with a condition and no move ever stands.
+
+import { readBoard, readRegisters, readRun, refusalOf } from "../bench/answers.js";
+import { Face } from "../board/face.js";
+import { SourceMap } from "../machine/source_map.js";
+import { sentText } from "../text/text_fault.js";
+import { PieceSize } from "../engine/pieces.js";
+import { readProgram } from "../engine/program_check.js";
+import { WorkerSession } from "../engine/worker_session.js";
+import { BreakpointList } from "./breakpoints.js";
+import { Debugger, NO_TALLY, bothTallies, nearOf } from "./debugger.js";
+import { wordsOfGone, wordsOfHalt, wordsOfAddress, wordsOfStop, wordsOfWhen } from "../../words/stops.js";
+import * as say from "../../words/debug.js";
+
+/**
+ * @typedef {import("../bench/answers.js").Refusal} Refusal
+ * @typedef {import("../engine/engine.js").Engine} Engine
+ * @typedef {import("../engine/going_back.js").BackGoal} BackGoal
+ * @typedef {import("./debugger.js").GoesOn} GoesOn
+ * @typedef {import("./debugger.js").Stop} Stop
+ * @typedef {import("./debugger.js").Tally} Tally
+ * @typedef {import("./goals.js").Goal} Goal
+ * @typedef {{ file?: Uint8Array, board?: string, program?: string }} Opened
+ * @typedef {Stop & { words: string, tally: Tally }} Stopped `why` is "pause" where `goesOn` ended it, "lacks" where the board lacks a place
+ */
+
+const FIRST_PIECE = 50000;
+/** What is done again for a step back is no more than a piece (worker/timeline.js). */
+const LARGEST_PIECE = 500000;
+
+/** @type {GoesOn} */
+const always = async () => true;
+
+export class DebugSession {
+  /**
+   * @param {Engine} engine
+   * @param {Opened} opened
+   */
+  constructor(engine, { file, board = "", program = "" }) {
+    const own = file ? file.slice() : engine.begin();
+    /** @type {{ word: "wire" | "asm", refusal: Refusal }[]} the texts that the bench refused */
+    this.refused = [];
+    this.boardText = board;
+    this.program = program;
+    /** So many cycles of time that runs are done at once. */
+    this.largestPiece = LARGEST_PIECE;
+    if (!file) {
+      this.put(engine, own, "wire", sentText(board, "#"));
+      this.put(engine, own, "asm", sentText(program, ";"));
+    }
+    this.debugger = new Debugger(new WorkerSession(engine, own));
+    this.breakpoints = new BreakpointList();
+    this.map = this.readMap();
+  }
+
+  /**
+   * @param {Engine} engine
+   * @param {Uint8Array} file
+   * @param {"wire" | "asm"} word
+   * @param {string} text
+   */
+  put(engine, file, word, text) {
+    if (text === "") return;
+    const refusal = refusalOf(engine.serve(file, `${word}\n${text}.\n`, file).answers[0]);
+    if (refusal) this.refused.push({ word, refusal });
+  }
+
+  get file() {
+    return this.debugger.session.file;
+  }
+
+  readMap() {
+    const sent = sentText(this.program, ";");
+    return new SourceMap(readProgram(this.debugger.session.engine, sent).map, sent);
+  }
+
+  // --- program and breakpoints ---
+
+  /**
+   * Assembles another text; the machine stays where it is. Gives why it is refused, or null.
+   * @param {string} program
+   * @returns {Promise<Refusal | null>}
+   */
+  async setProgram(program) {
+    const { first } = await this.debugger.session.serve(`asm\n${sentText(program, ";")}.\n`, always);
+    const refusal = refusalOf(first);
+    if (refusal) return refusal;
+    this.program = program;
+    this.map = this.readMap();
+    await this.applyBreakpoints();
+    return null;
+  }
+
+  /**
+   * The breakpoints of the list, as they are now, are those that stop. Gives words of those that moved to an instruction, and of each that
+   * cannot be read, by its id, why.
+   */
+  async applyBreakpoints() {
+    const { session } = this.debugger;
+    const moved = this.breakpoints.locate(this.map);
+    const names = { face: new Face(this.boardText), board: readBoard(session.lookQuestions.board), map: this.map };
+    const { lines, faults } = this.debugger.setBreakpoints(this.breakpoints.placed, names);
+    if (lines) await session.serve(lines, always);
+    return { moved, faults };
+  }
+
+  // --- moves ---
+
+  /**
+   * Runs up to a goal, or, without one, up to a stop.
+   * @param {Goal | null} [goal]
+   * @param {GoesOn} [goesOn]
+   * @returns {Promise<Stopped>}
+   */
+  async go(goal = null, goesOn = always) {
+    const debug = this.debugger;
+    if (!goal) {
+      debug.begin();
+      return this.runOn(null, goesOn);
+    }
+    const { found, tally } = await debug.goOn(goal, nearOf(goal), goesOn);
+    this.breakpoints.count(tally.hits);
+    if (debug.isMoving) return this.runOn(goal, goesOn);
+    const { cycles, isReached, end, id, returns } = found;
+    return this.stopped(goal, { why: isReached ? "goal" : end, cycles, id, returns }, tally);
+  }
+
+  /**
+   * Lets so many cycles pass, or fewer up to a stop; `why` is "passed" where they did.
+   * @param {number} cycles
+   * @param {GoesOn} [goesOn]
+   * @returns {Promise<Stopped>}
+   */
+  pass(cycles, goesOn = always) {
+    this.debugger.begin();
+    return this.runOn(null, goesOn, cycles);
+  }
+
+  /**
+   * @param {Goal | null} goal
+   * @param {GoesOn} goesOn
+   * @param {number} [most] so many cycles
+   * @returns {Promise<Stopped>}
+   */
+  async runOn(goal, goesOn, most = Infinity) {
+    const debug = this.debugger;
+    const piece = new PieceSize(Math.min(FIRST_PIECE, this.largestPiece), 1, this.largestPiece);
+    /** @type {Tally} */
+    let tally = NO_TALLY;
+    for (let done = 0; ;) {
+      const frame = piece.measure(() => debug.advance(Math.min(piece.size, most - done)));
+      done += frame.cycles;
+      this.breakpoints.count(frame.tally.hits);
+      tally = bothTallies(tally, frame.tally);
+      if (frame.stop) return this.stopped(goal, frame.stop, tally);
+      const isOver = done >= most;
+      if (!isOver && await goesOn(done, frame.tally)) continue;
+      debug.stopped();
+      const words = wordsOfHalt(goal, done, this.counterWords);
+      return { why: isOver ? "passed" : "pause", id: 0, cycles: done, returns: false, words, tally };
+    }
+  }
+
+  /**
+   * @param {Goal | null} goal
+   * @param {Stop} stop
+   * @param {Tally} tally
+   * @returns {Stopped}
+   */
+  stopped(goal, stop, tally) {
+    return { ...stop, words: wordsOfStop(goal, stop, this.counterWords, wordsOfWhen(this.breakpoints.get(stop.id))), tally };
+  }
+
+  /**
+   * One instruction, into a subroutine that it calls.
+   * @returns {Promise<Stopped>}
+   */
+  async into() {
+    const { first } = await this.debugger.session.serve("step\n", always);
+    const run = readRun(first);
+    const isDone = run !== null && run.end === "end";
+    const stop = { why: isDone ? "goal" : run ? run.end : first, id: 0, cycles: run ? run.cycles : 0, returns: false };
+    return this.stopped({ kind: "over" }, stop, NO_TALLY);
+  }
+
+  /**
+   * @param {BackGoal} goal
+   * @param {GoesOn} [goesOn]
+   */
+  async back(goal, goesOn = always) {
+    const went = await this.debugger.goBack(goal, (done = 0) => goesOn(done));
+    return { ...went, words: wordsOfGone(goal, went, this.counterWords, this.breakpoints.get(went.id)) };
+  }
+
+  forward() {
+    const went = this.debugger.goForward();
+    return { ...went, words: wordsOfGone({ kind: "forward" }, went, this.counterWords) };
+  }
+
+  /**
+   * Serves lines that were typed; a run among them ends at each breakpoint that it comes to. `words` say so where one ended the last line.
+   * @param {string} lines
+   */
+  async serve(lines) {
+    const { told, typed: { id, cut, cycles, tally } } = await this.debugger.serveTyped(lines, always);
+    this.breakpoints.count(tally.hits);
+    if (id === 0) return { ...told, tally, words: "" };
+    const { words } = this.stopped(null, { why: "break", id, cycles, returns: false }, tally);
+    return { ...told, tally, words: say.lineEnded(words, cut) };
+  }
+
+  // --- where it stands ---
+
+  get registers() {
+    return readRegisters(this.debugger.session.ask("regs\n")[0]);
+  }
+
+  /** The address of the instruction that comes next. */
+  get address() {
+    return parseInt(this.registers.counter, 16);
+  }
+
+  /** Its line in the program; 0 for none. */
+  get line() {
+    return this.map.lineOf(this.address);
+  }
+
+  get counterWords() {
+    return wordsOfAddress(this.registers.counter, this.map);
+  }
+
+  /** The return addresses, the newest first. */
+  get returns() {
+    return this.registers.returns.map((address) => parseInt(address, 16));
+  }
+
+  /**
+   * What stands at places, by the names of bench/places.js.
+   * @param {string[]} names
+   */
+  values(names) {
+    return this.debugger.values(names);
+  }
+}

@@ -1,0 +1,450 @@
+// The debugger of a session: breakpoints, moves up to a goal, why time stops, values, going back. It touches no document: it is in the
+// page's worker as in node. All that it tells comes from answers of the bench, and all that it leaves in the session are runs.
+//
+//     const session = new WorkerSession(engine, file);               (debug_session.js does this, and keeps the program's lines, too)
+//     const debug = new Debugger(session);
+//     debug.setBreakpoints([{ id: 1, address: 0x14, condition: "r9 = 9", from: 1, note: "", hits: 0 }], names);
+//     const { found } = await debug.goOn({ kind: "over" }, NEAR, goesOn);
+//     while (debug.isMoving) { const { stop } = debug.advance(1543); if (stop) .. }    what was not near is time that runs, with its keys
+//     debug.values(["r4", "lamps"]); await debug.goBack({ kind: "instruction" }, goesOn); debug.goForward();
+//
+// A move has a goal (goals.js). One that comes near is reached at once; any other is `isMoving` until `advance` tells a stop or `drop` is
+// called. A breakpoint that always stops is one of the bench (`break`). One with a condition, a count or a note is found ahead
+// (arrivals.js), and no file ever has it.
+
+import { readBoard, readRun } from "../bench/answers.js";
+import { hex } from "../bench/numbers.js";
+import { placeOf } from "../bench/places.js";
+import { NOTHING_TOLD, aimBack } from "../engine/going_back.js";
+import { runLines } from "../engine/key_queue.js";
+import { LOOKED_CYCLES } from "../engine/pieces.js";
+import { Answers, valuesOf } from "../engine/tracing.js";
+import { cyclesToGoal, seek, linesUpTo } from "./ahead.js";
+import { Arrivals, MOST_NOTES, nothingSeen } from "./arrivals.js";
+import { MOST_PLACES } from "./conditions.js";
+import { counterOf, watcherOf } from "./goals.js";
+import { lastArrival } from "./last_arrival.js";
+import { isSoft, softBreakpointOf } from "./soft_breakpoints.js";
+import { planTyped } from "./typed_lines.js";
+import { UsualFaults } from "./usual_faults.js";
+
+/**
+ * @typedef {import("./arrivals.js").Logged} Logged
+ * @typedef {import("./arrivals.js").Seen} Seen
+ * @typedef {import("./arrivals.js").SoftBreakpoint} SoftBreakpoint
+ * @typedef {import("./conditions.js").Names} Names
+ * @typedef {import("./goals.js").Found} Found
+ * @typedef {import("./goals.js").Goal} Goal
+ * @typedef {import("./goals.js").Watcher} Watcher
+ * @typedef {import("./soft_breakpoints.js").Placed} Placed
+ * @typedef {import("./usual_faults.js").UsualFault} UsualFault
+ * @typedef {import("../engine/going_back.js").Aim} Aim
+ * @typedef {import("../engine/going_back.js").BackGoal} BackGoal
+ * @typedef {import("../engine/timeline.js").Present} Present
+ * @typedef {import("../engine/worker_session.js").Frame} Frame
+ * @typedef {import("../engine/worker_session.js").Told} Told
+ * @typedef {import("../engine/worker_session.js").WorkerSession} WorkerSession
+ * @typedef {(done: number, tally?: Tally) => Promise<boolean>} GoesOn is told how many cycles were looked through, or, of time that runs,
+ *   passed, with what breakpoints did in the last of them; it says whether to go on
+ *
+ * Why time stopped: at its goal, or by the word of an answer ("break", "watch", "code", a refusal). `id`: of the breakpoint, 0 for none;
+ * `cycles`: since the move began, or since time runs.
+ * @typedef {{ why: string, id: number, cycles: number, returns: boolean }} Stop
+ *
+ * What breakpoints did: hits by their ids since it was told last, notes, and how many notes there were; and faults that everyone makes
+ * once, as they happened (usual_faults.js).
+ * @typedef {{ hits: [number, number][], notes: Logged[], noted: number, usual: UsualFault[] }} Tally
+ * Of lines that were typed: where a breakpoint ended the last one, its id and the line, else 0 and ""; the cycles, what breakpoints did.
+ * @typedef {{ id: number, cut: string, cycles: number, tally: Tally }} Typed
+ * @typedef {Frame & { stop: Stop | null, tally: Tally }} DebugFrame
+ * @typedef {{ found: Found & { id: number, returns: boolean }, told: (Told & { look: string[] }) | null, tally: Tally }} Went nothing was
+ *   told where nothing was done
+ * @typedef {Omit<Aim, "moment" | "present"> & { isDone: boolean, wires: boolean, cycles: number }} WentBack
+ * @typedef {Omit<Aim, "moment" | "present"> & { isFound: boolean, cycles: number, address: number }} LastChange
+ */
+
+/** A goal that comes within so many cycles is reached at once: a second of a real 4004. */
+export const NEAR = 92593;
+/** A change that needs no key, so many; of instructions that are counted, all. */
+const NEAR_CHANGE = 10000000;
+const ALL = 100000000;
+
+/** @type {Tally} */
+export const NO_TALLY = { hits: [], notes: [], noted: 0, usual: [] };
+
+/**
+ * @param {Tally} one
+ * @param {Tally} other what came after it
+ * @returns {Tally}
+ */
+export function bothTallies(one, other) {
+  return {
+    hits: [...one.hits, ...other.hits],
+    notes: [...one.notes, ...other.notes].slice(-MOST_NOTES),
+    noted: one.noted + other.noted,
+    usual: [...one.usual, ...other.usual],
+  };
+}
+
+/**
+ * How many cycles are looked through for a goal at once.
+ * @param {Goal} goal
+ */
+export function nearOf({ kind }) {
+  if (kind === "change") return NEAR_CHANGE;
+  return kind === "count" ? ALL : NEAR;
+}
+
+export class Debugger {
+  /** @param {WorkerSession} session */
+  constructor(session) {
+    this.session = session;
+    this.arrivals = new Arrivals([]);
+    this.usual = new UsualFaults(session);
+    /** @type {import("../engine/key_queue.js").PlannedLine[] | null} those that are done, and not looked at for faults yet */
+    this.unlooked = null;
+    /** @type {import("./usual_faults.js").UsualFault[]} that were found there, and are not told yet */
+    this.late = [];
+    /** @type {Map<number, number> | null} the ids of the breakpoints that always stop, by their addresses; null until some are set */
+    this.hard = null;
+    /** @type {Watcher | null} of the move that is under way */
+    this.watcher = null;
+    /** The cycles that were counted where the move began, or where time began to run. */
+    this.begun = session.count.total;
+  }
+
+  /** Whether a move is under way whose goal did not come yet. */
+  get isMoving() {
+    return this.watcher !== null;
+  }
+
+  // --- breakpoints ---
+
+  /**
+   * The breakpoints from here on, each at an address of its own. Gives the lines that make the bench have those that always stop, which
+   * are not sent here; and of each that cannot be read, by its id, why.
+   * @param {Placed[]} placed those that are on
+   * @param {Names} names
+   * @returns {{ lines: string, faults: [number, string][] }}
+   */
+  setBreakpoints(placed, names) {
+    /** @type {[number, string][]} */
+    const faults = [];
+    const softs = placed.filter(isSoft).flatMap((each) => {
+      const { soft, fault } = softBreakpointOf(each, names);
+      if (!soft) faults.push([each.id, fault]);
+      return soft ? [soft] : [];
+    });
+    this.arrivals = new Arrivals(softs);
+    this.hard = new Map(placed.filter((each) => !isSoft(each)).map(({ id, address }) => [address, id]));
+    return { lines: this.breakLines(), faults };
+  }
+
+  /** The lines by which the bench has the breakpoints that always stop, and no other. */
+  breakLines() {
+    const { hard } = this;
+    if (!hard) return "";
+    const before = new Set(this.session.breaks);
+    const gone = [...before].filter((address) => !hard.has(address)).map((address) => `unbreak 0x${hex(address, 3)}\n`);
+    const come = [...hard.keys()].filter((address) => !before.has(address)).map((address) => `break 0x${hex(address, 3)}\n`);
+    return [...gone, ...come].join("");
+  }
+
+  // --- time ---
+
+  /** Time begins to run, or goes on to another goal: cycles are counted from here on. */
+  begin() {
+    this.watcher = null;
+    this.begun = this.session.count.total;
+    this.late = [];
+    this.usual.begin();
+  }
+
+  /** The goal of the move is none any more. */
+  drop() {
+    this.watcher = null;
+  }
+
+  /**
+   * Lets so many cycles pass, as the session does, up to the goal of the move or a breakpoint.
+   * @param {number} cycles
+   * @param {boolean} [isHurried] whether lamps wait for it: then faults that nothing stops at are looked for by `lookBack`
+   * @returns {DebugFrame}
+   */
+  advance(cycles, isHurried = false) {
+    const { session } = this;
+    const { engine, file } = session;
+    let planned = session.queue.plan(cycles);
+    const toGoal = this.watcher ? cyclesToGoal(engine, file, planned, this.watcher) : -1;
+    if (toGoal >= 0) planned = linesUpTo(planned, toGoal);
+    const seen = this.arrivals.look(engine, file, planned);
+    if (seen.cycles >= 0) planned = linesUpTo(planned, seen.cycles);
+    const isLate = isHurried && this.usual.stops.size === 0 && session.recording === null;
+    const usual = isLate ? { faults: [], stop: -1 } : this.usual.look(planned);
+    if (usual.stop >= 0) planned = linesUpTo(planned, usual.stop);
+    const before = session.count.total;
+    const frame = session.advanceBy(planned);
+    this.arrivals.count(seen);
+    this.unlooked = isLate ? planned : null;
+    const stop = this.stopOfOthers(frame, usual.stop) || this.stopOf(frame, seen, toGoal);
+    if (stop) this.stopped();
+    return { ...frame, stop, tally: { ...this.tallyOf(seen, stop, before), usual: [...this.takeLate(), ...usual.faults] } };
+  }
+
+  /** Looks for faults in what was done last, where that is yet to be done: the session's other file is as it was before. */
+  lookBack() {
+    const { unlooked } = this;
+    this.unlooked = null;
+    if (unlooked) this.late.push(...this.usual.look(unlooked, this.session.next).faults);
+  }
+
+  /** Takes out what was found late. */
+  takeLate() {
+    return this.late.splice(0);
+  }
+
+  /**
+   * What stops time beside goals and breakpoints: a fault that is told, or the end of a recording.
+   * @param {Frame} frame
+   * @param {number} usual after how many cycles, -1 for none
+   */
+  stopOfOthers(frame, usual) {
+    if (usual >= 0 && frame.cycles === usual) return this.stopAt("usual");
+    const { recorder } = this.session;
+    if (!recorder || !recorder.stops || frame.end) return null;
+    recorder.stops = false;
+    return this.stopAt("recorded");
+  }
+
+  /**
+   * @param {string} why
+   * @returns {Stop}
+   */
+  stopAt(why) {
+    return { why, id: 0, cycles: this.session.count.total - this.begun, returns: false };
+  }
+
+  /**
+   * @param {Frame} frame
+   * @param {Seen} seen
+   * @param {number} toGoal
+   * @returns {Stop | null}
+   */
+  stopOf(frame, seen, toGoal) {
+    const cycles = this.session.count.total - this.begun;
+    const returns = this.watcher !== null && this.watcher.returns;
+    if (toGoal >= 0 && frame.cycles === toGoal) return { why: "goal", id: 0, cycles, returns };
+    if (seen.cycles >= 0 && frame.cycles === seen.cycles) return { why: "break", id: seen.id, cycles, returns: false };
+    if (!frame.end) return null;
+    const run = readRun(frame.end);
+    return { why: run ? run.end : frame.end, id: this.idOfStop(run ? run.end : ""), cycles, returns: false };
+  }
+
+  /**
+   * The breakpoint that stopped a run here.
+   * @param {string} why
+   */
+  idOfStop(why) {
+    if (why !== "break" || !this.hard) return 0;
+    return this.hard.get(this.counter) || 0;
+  }
+
+  get counter() {
+    return counterOf(this.session.ask("regs\n")[0]).counter;
+  }
+
+  stopped() {
+    this.lookBack();
+    this.watcher = null;
+    this.session.timeline.stop();
+  }
+
+  /**
+   * @param {Seen} seen
+   * @param {{ why: string, id: number } | null} stop
+   * @param {number} before the cycles that were counted by then
+   * @returns {Tally}
+   */
+  tallyOf({ hits, notes, noted, id }, stop, before) {
+    /** @type {[number, number][]} */
+    const all = [...hits];
+    if (stop && stop.why === "break" && stop.id !== 0 && stop.id !== id) all.push([stop.id, 1]);
+    return { hits: all, notes: notes.map((note) => ({ ...note, cycles: before + note.cycles })), noted, usual: [] };
+  }
+
+  // --- moves ---
+
+  /**
+   * Goes on to a goal, or to what stops time before, where one of them comes within so many cycles. Where neither does, nothing is done,
+   * and the move is under way: `advance` goes on with it.
+   * @param {Goal} goal
+   * @param {number} near
+   * @param {GoesOn} goesOn
+   * @returns {Promise<Went>}
+   */
+  async goOn(goal, near, goesOn) {
+    this.begin();
+    const { session } = this;
+    const codes = () => session.codes;
+    const watcher = watcherOf(session.engine, session.file, goal, codes);
+    const returns = watcher !== null && watcher.returns;
+    const sought = { ...await seek(session.engine, session.file, goal, goesOn, near, codes), id: 0, returns };
+    if (sought.end === "lacks") return { found: sought, told: null, tally: NO_TALLY };
+    const seen = await this.seenIn(sought.cycles, goesOn);
+    if (sought.end === "bound" && seen.cycles < 0) {
+      this.watcher = watcher;
+      return { found: sought, told: null, tally: NO_TALLY };
+    }
+    const found = seen.cycles < 0 ? sought : { cycles: seen.cycles, isReached: false, end: "break", id: seen.id, returns };
+    const told = await session.serve(runLines(Math.max(1, found.cycles)), async () => true);
+    this.arrivals.count(seen);
+    if (!found.isReached && found.id === 0) found.id = this.idOfStop(found.end);
+    return { found, told, tally: this.tallyOf(seen, { why: found.end, id: found.id }, this.begun) };
+  }
+
+  /**
+   * What breakpoints do in so many cycles from here on, with the keys as they are.
+   * @param {number} cycles
+   * @param {GoesOn} goesOn
+   */
+  async seenIn(cycles, goesOn) {
+    const all = nothingSeen();
+    if (this.arrivals.isEmpty) return all;
+    const { engine, file } = this.session;
+    const copy = file.slice();
+    for (let done = 0; done < cycles;) {
+      const piece = Math.min(LOOKED_CYCLES, cycles - done);
+      const planned = runLines(piece).trimEnd().split("\n").map((line) => ({ line, change: null }));
+      const seen = this.arrivals.look(engine, copy, planned);
+      for (const [id, hits] of seen.hits) all.hits.set(id, (all.hits.get(id) || 0) + hits);
+      all.notes = [...all.notes, ...seen.notes.map((note) => ({ ...note, cycles: note.cycles + done }))];
+      all.noted += seen.noted;
+      if (seen.cycles >= 0) return { ...all, cycles: done + seen.cycles, id: seen.id };
+      engine.serve(copy, runLines(piece), copy);
+      done += piece;
+      if (done < cycles && !(await goesOn(done))) break;
+    }
+    return all;
+  }
+
+  /**
+   * Serves lines that were typed, all of them or none. A run among them ends at each breakpoint that it comes to.
+   * @param {string} lines
+   * @param {(done: number) => Promise<boolean>} goesOn is told how many characters are done
+   * @returns {Promise<{ told: Told & { look: string[] }, typed: Typed }>}
+   */
+  async serveTyped(lines, goesOn) {
+    const { session, arrivals } = this;
+    const before = session.count.total;
+    const hits = arrivals.hits;
+    try {
+      const { lines: served, runs, id, cut } = await planTyped(session.engine, session.file, arrivals, lines, goesOn);
+      const told = await session.serve(served, goesOn);
+      this.usual.forget();
+      const tallies = runs.map(({ seen, done }) => this.tallyOf(seen, null, before + done));
+      return { told, typed: { id, cut, cycles: session.count.total - before, tally: tallies.reduce(bothTallies, NO_TALLY) } };
+    } catch (fault) {
+      arrivals.takeBack(hits);
+      throw fault;
+    }
+  }
+
+  // --- the past ---
+
+  /**
+   * Goes back. The breakpoints are no part of the past: they stay.
+   * @param {BackGoal} goal
+   * @param {(done?: number) => Promise<boolean>} goesOn
+   * @returns {Promise<WentBack>}
+   */
+  async goBack(goal, goesOn) {
+    this.begin();
+    const { session } = this;
+    const { moment, present: found, ...told } = goal.kind === "arrival" ? await lastArrival(session, this.stopping(), goal.place, goesOn)
+      : await aimBack(session.engine, session, goal, goesOn);
+    if (!moment) return { ...told, isDone: false, wires: false, cycles: 0 };
+    const present = found || await session.timeline.at(session.engine, moment, goesOn);
+    session.timeline.goBack(moment, session);
+    return { ...told, ...this.become(present) };
+  }
+
+  /**
+   * The breakpoints that stop time, as those with a condition: the bench's own where none were set.
+   * @returns {SoftBreakpoint[]}
+   */
+  stopping() {
+    const hard = this.hard || new Map(this.session.breaks.map((address) => [address, 0]));
+    const always = { from: 1, hits: 0, places: [], holds: () => true, words: null };
+    return [...[...hard].map(([address, id]) => ({ ...always, id, address })), ...this.arrivals.breakpoints.filter(({ words }) => !words)];
+  }
+
+  /**
+   * When a place changed last, without going there: how many cycles ago, and at which address an instruction did it, -1 where none did.
+   * @param {string} place
+   * @param {(done?: number) => Promise<boolean>} goesOn
+   * @returns {Promise<LastChange>}
+   */
+  async lastChange(place, goesOn) {
+    const { session } = this;
+    const { moment, present, ...told } = await aimBack(session.engine, session, { kind: "change", place }, goesOn);
+    if (!moment) return { ...told, isFound: false, cycles: 0, address: -1 };
+    const { file, count } = present || await session.timeline.at(session.engine, moment, goesOn);
+    const { counter } = counterOf(session.engine.ask(file, "regs\n").answers[0]);
+    return { ...told, isFound: true, cycles: session.count.total - count.total, address: told.line ? -1 : counter };
+  }
+
+  /**
+   * Goes where the last going back came from.
+   * @returns {WentBack}
+   */
+  goForward() {
+    this.begin();
+    const present = this.session.timeline.goForward();
+    return present ? { ...NOTHING_TOLD, ...this.become(present) } : { ...NOTHING_TOLD, isDone: false, wires: false, cycles: 0 };
+  }
+
+  /** @param {Present} present */
+  become(present) {
+    const { session } = this;
+    const before = session.count.total;
+    const wires = session.become(present);
+    const lines = this.breakLines();
+    if (lines) session.changeBreaks(lines);
+    this.usual.forget();
+    this.begun = session.count.total;
+    return { isDone: true, wires, cycles: Math.abs(session.count.total - before) };
+  }
+
+  // --- values ---
+
+  /**
+   * What stands at places now, by the names that places.js has; "" for one that there is none of.
+   * @param {string[]} names
+   * @returns {string[]}
+   */
+  values(names) {
+    const board = readBoard(this.session.lookQuestions.board);
+    const places = names.map((name) => placeOf(name));
+    const probes = places.map((place) => (place ? place.probesOn(board) : []));
+    const told = this.told(probes.flat());
+    let from = 0;
+    return places.map((place, at) => {
+      const values = told.slice(from, from += probes[at].length);
+      return place && values.length > 0 ? place.value(values) : "";
+    });
+  }
+
+  /**
+   * What `trace` tells of its places now.
+   * @param {string[]} probes
+   */
+  told(probes) {
+    /** @type {string[]} */
+    const values = [];
+    for (let from = 0; from < probes.length; from += MOST_PLACES) {
+      const answers = this.session.ask(`trace 1 ${probes.slice(from, from + MOST_PLACES).join(" ")}\n`);
+      values.push(...valuesOf(new Answers(answers).takeTrace().row));
+    }
+    return values;
+  }
+}

@@ -1,0 +1,160 @@
+// Goals of time that passes: what is watched for each, run by run. The bench is asked before each run what it would do, and does it not.
+
+import { readBoard, readCounter } from "../bench/answers.js";
+import { placeOf } from "../bench/places.js";
+import { LONGEST_RUN } from "../engine/key_queue.js";
+import { isCall, isReturn, romCodes } from "../engine/rom_codes.js";
+import { readTraced } from "../engine/tracing.js";
+
+/**
+ * @typedef {import("../engine/engine.js").Engine} Engine
+ * @typedef {import("../engine/tracing.js").Answers} Answers
+ * @typedef {import("../engine/tracing.js").Traced} Traced
+ * @typedef {{ kind: "over" } | { kind: "out" } | { kind: "here", address: number } | { kind: "count", count: number }
+ *   | { kind: "change", place: string }} Goal past the subroutine that is called here, out of the one that this is, to an address, so
+ *   many instructions, or until the value of a place is another one
+ * @typedef {{ cycles: number, isReached: boolean, end: string }} Found the cycles up to the goal, or up to an earlier stop, and what
+ *   stopped it: a word of the answer to a run; "bound" where neither came, "lacks" where the board has no such place
+ *
+ * Watches for a goal: how many cycles can be run at most without going past it; lines that come first, once, and how many answers they
+ * have; what is asked before and after a run of so many cycles, and what came of that run. `returns`: it is reached by a return.
+ * @typedef {{ first: string, most: () => number, before: (cycles: number) => string, after: string,
+ *   take: (answers: Answers) => Found, returns: boolean }} Watcher
+ */
+
+export const LARGEST_PIECE = 4 * LONGEST_RUN;
+
+/**
+ * The counter and the owed cycle of an answer to `regs`.
+ * @param {string} regs
+ */
+export function counterOf(regs) {
+  const { counter, owed } = readCounter(regs);
+  return { counter: parseInt(counter, 16), isOwed: owed === "1" };
+}
+
+/**
+ * Watches for an instruction.
+ * @param {string} places what `trace` looks at
+ * @param {(traced: Traced) => number} goal after how many cycles an instruction that is told has reached it, -1 where it has not
+ * @returns {Watcher}
+ */
+function traced(places, goal) {
+  return {
+    first: "",
+    most: () => LARGEST_PIECE,
+    before: (cycles) => `trace ${cycles}${places}\n`,
+    after: "",
+    take: (answers) => {
+      const { lines } = answers.takeTrace();
+      const ran = answers.takeRun();
+      for (const line of lines) {
+        const cycles = goal(readTraced(line));
+        if (cycles >= 0) return { cycles, isReached: true, end: "" };
+      }
+      return { ...ran, isReached: false };
+    },
+    returns: false,
+  };
+}
+
+/**
+ * Reached when the return is done that leaves so many calls fewer open than there are here: each JMS is one more, each BBL one less.
+ * @param {Uint8Array} codes
+ * @param {number} level 0 for the call that is about to be done, -1 for the one that this is in
+ * @returns {Watcher}
+ */
+function returned(codes, level) {
+  let depth = 0;
+  const watcher = traced(" ret", ({ cycles, address }) => {
+    if (isCall(codes[address])) depth += 1;
+    if (!isReturn(codes[address])) return -1;
+    depth -= 1;
+    return depth <= level ? cycles + 1 : -1;
+  });
+  return { ...watcher, returns: true };
+}
+
+/**
+ * Reached when so many instructions are done. No cycle does more than one.
+ * @param {number} count
+ * @param {boolean} isOwed whether this is the middle of one
+ * @returns {Watcher}
+ */
+function counted(count, isOwed) {
+  let left = count;
+  let wasOwed = isOwed;
+  return {
+    first: "",
+    most: () => left,
+    before: (cycles) => `count ${cycles}\n`,
+    after: "regs\n",
+    take: (answers) => {
+      const begun = answers.takeCounts().reduce((sum, each) => sum + each.begun, 0);
+      const ran = answers.takeRun();
+      const isNowOwed = counterOf(answers.take()).isOwed;
+      left -= begun + Number(wasOwed) - Number(isNowOwed);
+      wasOwed = isNowOwed;
+      return left === 0 ? { cycles: ran.cycles, isReached: true, end: "" } : { ...ran, isReached: false };
+    },
+    returns: false,
+  };
+}
+
+/**
+ * Reached at an address. What is asked has a breakpoint there, unless all breakpoints are taken.
+ * @param {Engine} engine
+ * @param {Uint8Array} file
+ * @param {number} address
+ * @returns {Watcher}
+ */
+function arrived(engine, file, address) {
+  const first = `break ${address}\n`;
+  const [answer] = engine.ask(file, first).answers;
+  if (!answer.startsWith("ok ")) return beginning(address);
+  return {
+    first,
+    most: () => LARGEST_PIECE,
+    before: () => "",
+    after: "regs\n",
+    take: (answers) => {
+      const ran = answers.takeRun();
+      const { counter, isOwed } = counterOf(answers.take());
+      return !isOwed && counter === address ? { cycles: ran.cycles, isReached: true, end: "" } : { ...ran, isReached: false };
+    },
+    returns: false,
+  };
+}
+
+/**
+ * The same by the instructions that are begun; one that begins at once is where this is.
+ * @param {number} address
+ */
+function beginning(address) {
+  let isFirst = true;
+  return traced("", (instruction) => {
+    const isHere = isFirst && instruction.cycles === 0;
+    isFirst = false;
+    return instruction.address === address && !isHere ? instruction.cycles : -1;
+  });
+}
+
+/**
+ * @param {Engine} engine
+ * @param {Uint8Array} file the session, which stays as it is
+ * @param {Goal} goal
+ * @param {() => Uint8Array} [codes] gives what stands in ROM
+ * @returns {Watcher | null} null where the board has no such place
+ */
+export function watcherOf(engine, file, goal, codes = () => romCodes(engine, file)) {
+  if (goal.kind === "here") return arrived(engine, file, goal.address);
+  if (goal.kind === "change") {
+    const place = placeOf(goal.place);
+    const probes = place ? place.probesOn(readBoard(engine.ask(file, "board\n").answers)) : [];
+    return probes.length > 0 ? traced(` ${probes.join(" ")}`, ({ cycles }) => cycles + 1) : null;
+  }
+  const { counter, isOwed } = counterOf(engine.ask(file, "regs\n").answers[0]);
+  if (goal.kind === "count") return counted(goal.count, isOwed);
+  if (goal.kind === "out") return returned(codes(), -1);
+  return isOwed || !isCall(codes()[counter]) ? counted(1, isOwed) : returned(codes(), 0);
+}

@@ -1,0 +1,121 @@
+// The last arrival at a breakpoint before the present, or the last change of what is watched: the past is done again, block by block, on a
+// copy that has the breakpoints of now. A breakpoint with a note stops nothing; how many hits it is to have is not asked.
+
+import { readMarks, watchedPlaces } from "../bench/answers.js";
+import { aim, changeFinder, lastInPast } from "../engine/going_back.js";
+import { Arrivals } from "./arrivals.js";
+import { counterOf } from "./goals.js";
+
+/**
+ * @typedef {import("../engine/engine.js").Engine} Engine
+ * @typedef {import("../engine/going_back.js").Aim} Aim
+ * @typedef {import("../engine/going_back.js").Finder} Finder
+ * @typedef {import("../engine/timeline.js").GoesOn} GoesOn
+ * @typedef {import("../engine/timeline.js").Present} Present
+ * @typedef {import("../engine/units.js").Unit} Unit
+ * @typedef {import("../engine/worker_session.js").WorkerSession} WorkerSession
+ * @typedef {import("./arrivals.js").SoftBreakpoint} SoftBreakpoint
+ */
+
+const MARKS = /^(un)?(break|watch) /;
+
+/** Finds the last arrival at a breakpoint whose condition holds. */
+class LastArrival {
+  /**
+   * @param {WorkerSession} session
+   * @param {SoftBreakpoint[]} breakpoints
+   */
+  constructor(session, breakpoints) {
+    this.engine = session.engine;
+    this.arrivals = new Arrivals(breakpoints);
+    /** Where time stands now is no arrival before now. */
+    this.now = { total: session.count.total, counter: counterOf(session.ask("regs\n")[0]).counter };
+    this.copy = new Uint8Array(0);
+    this.total = 0;
+  }
+
+  /** @param {Present} present */
+  begin({ file, count }) {
+    const { engine, arrivals } = this;
+    const [breaks, watches] = engine.ask(file, "breaks\nwatches\n").answers.map(readMarks);
+    const gone = [...breaks.map((each) => `unbreak 0x${each}\n`), ...watches.map((each) => `unwatch ${each.replace(".", " 0x")}\n`)];
+    this.copy = file.slice();
+    engine.serve(this.copy, gone.join("") + arrivals.first, this.copy);
+    this.total = count.total;
+  }
+
+  /**
+   * @param {Unit[]} units
+   * @returns {Aim | null}
+   */
+  among(units) {
+    const { engine, arrivals, copy, now } = this;
+    /** @type {Aim | null} */
+    let found = null;
+    let [lines, count] = ["", 0];
+    for (const { line, cycles, moment } of units) {
+      if (cycles === 0) {
+        // Breakpoints of then are not those of now; and a run of no cycle did nothing.
+        if (MARKS.test(line) || /^(run|step)\b/.test(line)) continue;
+        [lines, count] = [`${lines}${line}\n`, count + 1];
+        continue;
+      }
+      const before = this.total;
+      arrivals.run(engine, copy, { lines, count, cycles }, (_, row, ran) => {
+        const held = arrivals.heldAt(row);
+        const isNow = before + ran === now.total && held !== null && held.address === now.counter;
+        if (held && !isNow) found = aim({ moment: { ...moment, cycles: moment.cycles + ran }, end: "break", id: held.id });
+        return false;
+      });
+      [lines, count] = ["", 0];
+      this.total += cycles;
+    }
+    if (lines !== "") engine.serve(copy, lines, copy);
+    return found;
+  }
+}
+
+/**
+ * The later of two moments; the first one where they are the same.
+ * @param {Aim | null} one
+ * @param {Aim | null} other
+ */
+function laterOf(one, other) {
+  if (!one || !other) return one || other;
+  const [a, b] = [one, other].map(({ moment }) => moment || { segment: -1, entry: -1, cycles: -1 });
+  const isLater = [b.segment - a.segment, b.entry - a.entry, b.cycles - a.cycles].find((each) => each !== 0) || 0;
+  return isLater > 0 ? other : one;
+}
+
+/**
+ * Finds the last of what several find.
+ * @param {Finder[]} finders
+ * @returns {Finder}
+ */
+function lastOf(finders) {
+  return {
+    begin: ({ file, count }) => finders.forEach((finder) => finder.begin({ file: file.slice(), count })),
+    among: (units) => finders.map((finder) => finder.among(units)).reduce(laterOf, null),
+  };
+}
+
+/**
+ * @param {WorkerSession} session
+ * @param {SoftBreakpoint[]} breakpoints those that stop
+ * @param {string} place that is watched beside what the bench watches, "" for none
+ * @param {GoesOn} goesOn
+ * @returns {Promise<Aim>} the beginning of what is remembered, where nothing else is before now
+ */
+export async function lastArrival(session, breakpoints, place, goesOn) {
+  const { engine, file, timeline } = session;
+  const places = [...watchedPlaces(session.ask("watches\n")[0]), ...(place === "" ? [] : [place])];
+  const changes = places.map((each) => changeFinder(engine, file, each));
+  if (changes.some((each) => each === null)) return aim({ why: "lacks", place });
+  const finders = changes.flatMap((each) => (each ? [each] : []));
+  const all = lastOf([...(breakpoints.length > 0 ? [new LastArrival(session, breakpoints)] : []), ...finders]);
+  const { found, beginning } = await lastInPast(engine, timeline, all, goesOn);
+  if (found) return found;
+  const { end } = timeline;
+  const isHere = beginning.segment === end.segment && end.entry === 0;
+  return isHere ? aim({ why: "short" }) : aim({ moment: beginning, end: "beginning" });
+}

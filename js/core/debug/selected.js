@@ -1,0 +1,124 @@
+// What SRC has selected, and what is wrong with an instruction that uses it: it reads or writes where the board has nothing, or where
+// another SRC was meant.
+
+import { hex, numberOf } from "../bench/numbers.js";
+import { itemsOf, valueIn } from "../bench/state_line.js";
+import * as say from "../../words/debug.js";
+
+/**
+ * @typedef {import("../bench/answers.js").Board} Board
+ * @typedef {import("./usual_faults.js").Kind} Kind
+ * @typedef {{ kind: Kind, words: string }} Fault
+ */
+
+const WRR = 0xE2;
+const RDR = 0xEA;
+/** Those that use a bank of RAM, with their names: they write, or they read. */
+const WRITES = new Map([[0xE0, "WRM"], [0xE1, "WMP"], [0xE4, "WR0"], [0xE5, "WR1"], [0xE6, "WR2"], [0xE7, "WR3"]]);
+const READS = new Set([0xE8, 0xE9, 0xEB, 0xEC, 0xED, 0xEE, 0xEF]);
+
+/** @param {number} code */
+function isSource(code) {
+  return code >> 4 === 2 && code % 2 === 1;
+}
+
+/**
+ * Whether an instruction selects, or uses what is selected.
+ * @param {number} code
+ */
+export function usesSelected(code) {
+  return code >> 4 === 0xE || isSource(code);
+}
+
+export class Selected {
+  /** @param {Board} board */
+  constructor(board) {
+    /** @type {Map<number, string>} the ports of the ROMs */
+    this.ports = new Map(board.roms.map(({ chip, port }) => [Number(chip), port]));
+    /** @type {Map<number, number>} how many chips each bank has */
+    this.chips = new Map(board.banks.map(({ bank, chips }) => [Number(bank), Number(chips)]));
+    /** @type {Map<number, number>} the SRC byte that each bank keeps */
+    this.kept = new Map();
+    /** Where the last SRC stands (-1 for not seen yet), and what has used it since. */
+    this.source = -1;
+    /** @type {Set<string>} */
+    this.users = new Set();
+    /** @type {Map<number, number>} the ROM whose port each WRR and RDR has used last, by its address */
+    this.used = new Map();
+  }
+
+  /** @param {string} state the answer to `state` */
+  begin(state) {
+    for (const item of itemsOf(valueIn(state, "banks"))) {
+      const [bank, byte] = item.split(".");
+      this.kept.set(Number(bank), parseInt(byte, 16));
+    }
+  }
+
+  /**
+   * @param {number} code
+   * @param {number} address
+   * @param {string[]} values what src, dcl and ret are after it
+   */
+  follow(code, address, [source, bank]) {
+    if (isSource(code)) {
+      this.kept.set(numberOf(bank), parseInt(source, 16));
+      this.source = address;
+      this.users.clear();
+    } else if (WRITES.has(code) || READS.has(code)) this.users.add("RAM");
+    else if (code === WRR || code === RDR) {
+      this.users.add(code === WRR ? "WRR" : "RDR");
+      this.used.set(address, parseInt(source[0], 16));
+    }
+  }
+
+  /**
+   * @param {number} code of the instruction that comes next
+   * @param {number} address
+   * @param {string[]} values what src, dcl and ret are before it
+   * @returns {Fault | null}
+   */
+  faultOf(code, address, [source, bank]) {
+    if (code === WRR || code === RDR) return this.faultOfPort(code === WRR ? "WRR" : "RDR", address, parseInt(source[0], 16));
+    const name = WRITES.get(code);
+    return name ? this.faultOfRam(name, numberOf(bank)) : null;
+  }
+
+  /**
+   * @param {string} name
+   * @param {number} address
+   * @param {number} chip
+   * @returns {Fault | null}
+   */
+  faultOfPort(name, address, chip) {
+    const port = this.ports.get(chip);
+    const isWrite = name === "WRR";
+    const what = say.usesRom(name, isWrite, chip);
+    if (port === undefined) return isWrite ? { kind: "chip", words: say.whichLacks(what, this.told) } : null;
+    if (isWrite && !/[01]/.test(port)) return { kind: "lines", words: say.noOutputs(what, this.told) };
+    if (!isWrite && !port.includes("i")) return { kind: "lines", words: say.noInputs(what, this.told) };
+    const before = this.used.get(address);
+    const user = [...this.users].find((each) => each !== name);
+    if (user === undefined || before === undefined || before === chip) return null;
+    const words = say.usedBefore(what, before, this.source < 0 ? "" : say.atAddress(hex(this.source, 3)));
+    return { kind: "source", words: say.sourceWasFor(words, user) };
+  }
+
+  /** Where the last SRC stands, if it was seen. */
+  get told() {
+    return this.source < 0 ? "" : say.lastSource(hex(this.source, 3));
+  }
+
+  /**
+   * @param {string} name
+   * @param {number} bank
+   * @returns {Fault | null}
+   */
+  faultOfRam(name, bank) {
+    const chips = this.chips.get(bank) || 0;
+    const chip = (this.kept.get(bank) || 0) >> 6;
+    if (chip < chips) return null;
+    const words = chips === 0 ? say.bankWithoutRam(bank) : say.chipOf(chip, bank, chips);
+    return { kind: "chip", words: say.writesTo(name, words, this.told) };
+  }
+}

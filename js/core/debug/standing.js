@@ -1,0 +1,147 @@
+// What stands in the machine at a look: registers, RAM, ports, and what SRC has selected. It is read from the answers to `state` and to
+// `ram B` of each bank, and only what is asked for. Without a document.
+
+import { readRam } from "../bench/answers.js";
+import { hex } from "../bench/numbers.js";
+import { partsOfState, portsOf, registersOf } from "../bench/state_line.js";
+import * as say from "../../words/debug.js";
+
+/**
+ * @typedef {import("../bench/answers.js").Ram} Ram
+ * @typedef {import("../bench/answers.js").Registers} Registers
+ * @typedef {import("../bench/answers.js").RomPort} RomPort
+ */
+
+/**
+ * A character of RAM, by the byte that SRC sends for it.
+ * @param {number} byte
+ */
+export function wordsOfCharacter(byte) {
+  return say.characterAt(byte >> 6, byte >> 4 & 3, byte & 15);
+}
+
+export class Standing {
+  /** @param {string[]} look the answers to `state`, and to `ram B` of each bank that has chips, each as one text */
+  constructor([state, ...banks]) {
+    const parts = partsOfState(state);
+    /** @type {Registers} */
+    this.registers = registersOf(parts.registers);
+    this.parts = parts;
+    this.ports = portsOf(parts.ports);
+    this.banks = banks;
+    /** @type {Map<number, Ram> | null} */
+    this.read = null;
+  }
+
+  /** @returns {Map<number, Ram>} what each bank has, by its number */
+  get ram() {
+    if (!this.read) {
+      const numbers = this.ports.sources.slice(1).map((item) => Number(item.split(".")[0]));
+      this.read = new Map(this.banks.map((answer, at) => [numbers[at], readRam(answer.split("\n"))]));
+    }
+    return this.read;
+  }
+
+  /** The bank that DCL has selected. */
+  get bank() {
+    return parseInt(this.registers.bank, 16);
+  }
+
+  /** The SRC byte that the ROMs keep. */
+  get source() {
+    return parseInt(this.ports.sources[0], 16);
+  }
+
+  /**
+   * The SRC byte that a bank keeps; undefined where the board has no such bank.
+   * @param {number} [bank]
+   */
+  sourceOf(bank = this.bank) {
+    const found = this.ports.sources.slice(1).map((item) => item.split(".")).find(([number]) => Number(number) === bank);
+    return found && parseInt(found[1], 16);
+  }
+
+  /** @param {number} number of the register */
+  register(number) {
+    return this.registers.registers[number];
+  }
+
+  /** @param {number} number of the pair */
+  pair(number) {
+    return this.register(2 * number) + this.register(2 * number + 1);
+  }
+
+  /**
+   * @param {number} bank
+   * @param {number} register
+   */
+  ramRegister(bank, register) {
+    const ram = this.ram.get(bank);
+    return ram && ram.registers.get(`${bank}.${register >> 2}.${register & 3}`);
+  }
+
+  /**
+   * What a character holds; "" where the board has none there.
+   * @param {number} bank
+   * @param {number} byte
+   */
+  character(bank, byte) {
+    const found = this.ramRegister(bank, byte >> 4);
+    return found ? found.characters[byte & 15] : "";
+  }
+
+  /**
+   * What a status character holds; "" where the board has none there.
+   * @param {number} bank
+   * @param {number} register 0 to 15, through all chips of the bank
+   * @param {number} number
+   */
+  status(bank, register, number) {
+    const found = this.ramRegister(bank, register);
+    return found ? found.status[number] : "";
+  }
+
+  /**
+   * The port of a ROM; undefined where the board has none.
+   * @param {number} chip
+   * @returns {RomPort | undefined}
+   */
+  romPort(chip) {
+    return this.ports.roms.find((each) => Number(each.chip) === chip);
+  }
+
+  /**
+   * What the port of a RAM chip puts out; "" where the board has none.
+   * @param {number} bank
+   * @param {number} chip
+   */
+  ramPort(bank, chip) {
+    const ram = this.ram.get(bank);
+    return (ram && ram.ports.get(`${bank}.${chip}`)) || "";
+  }
+  /**
+   * All that an instruction can change, by its name, in the order in which it is told.
+   * @returns {Map<string, string>}
+   */
+  all() {
+    const { registers, ports } = this;
+    /** @type {Map<string, string>} */
+    const all = new Map([["acc", registers.accumulator], ["cy", registers.carry], ["dcl", registers.bank]]);
+    registers.registers.forEach((value, at) => all.set(`R${at}`, value));
+    for (const source of ports.sources) {
+      const [bank, byte] = source.split(".");
+      all.set(byte === undefined ? "SRC" : say.sourceOfBank(bank), byte === undefined ? bank : byte);
+    }
+    for (const [bank, ram] of this.ram) {
+      for (const [name, { characters, status }] of ram.registers) {
+        const [, chip, register] = name.split(".").map(Number);
+        [...characters].forEach((value, at) => all.set(`ram.${bank}.0x${hex(chip * 64 + register * 16 + at, 2)}`, value));
+        [...status].forEach((value, at) => all.set(`st.${bank}.${chip * 4 + register}.${at}`, value));
+      }
+      for (const [name, value] of ram.ports) all.set(`ram${name} out`, value);
+    }
+    for (const { chip, out } of ports.roms) all.set(`rom${chip} out`, out);
+    ports.chains.forEach((bits, at) => all.set(`chain${at}`, bits));
+    return all;
+  }
+}

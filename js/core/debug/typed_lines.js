@@ -1,0 +1,66 @@
+// Lines that were typed, before they are served: a `run` among them ends at a breakpoint with a condition or a count as it does at one that
+// always stops. So all of them are done on a copy first, and such a run becomes one of as many cycles as it is to do.
+
+import { readRun } from "../bench/answers.js";
+import { Cancelled } from "../bench/faults.js";
+import { endOfInputs, readInputs } from "../bench/inputs.js";
+import { numberOf } from "../bench/numbers.js";
+import { LONGEST_RUN } from "../engine/key_queue.js";
+
+/**
+ * @typedef {import("../bench/inputs.js").Input} Input
+ * @typedef {import("../engine/engine.js").Engine} Engine
+ * @typedef {import("./arrivals.js").Arrivals} Arrivals
+ * @typedef {import("./arrivals.js").Seen} Seen
+ *
+ * The lines as they are to be served; what breakpoints do in each run, and how many cycles are done before it; and where a breakpoint ends
+ * the last line, the id of that and the line as it was typed, else 0 and "".
+ * @typedef {{ lines: string, runs: { seen: Seen, done: number }[], id: number, cut: string }} Planned
+ */
+
+/**
+ * How many cycles a line runs for; 0 for any other line, and for one that the bench refuses.
+ * @param {Input | undefined} input
+ */
+function cyclesOf(input) {
+  const cycles = input && input.kind === "run" && input.words.length === 2 ? numberOf(input.words[1]) : 0;
+  return cycles >= 1 && cycles <= LONGEST_RUN ? cycles : 0;
+}
+
+/**
+ * @param {Engine} engine
+ * @param {Uint8Array} file is left as it is
+ * @param {Arrivals} arrivals count what they see
+ * @param {string} lines
+ * @param {(done: number) => Promise<boolean>} goesOn is told how many characters are looked through, and says whether to go on
+ * @returns {Promise<Planned>}
+ */
+export async function planTyped(engine, file, arrivals, lines, goesOn) {
+  /** @type {Planned} */
+  const plan = { lines: "", runs: [], id: 0, cut: "" };
+  if (arrivals.isEmpty || !/\brun\b/.test(lines)) return { ...plan, lines };
+  const copy = file.slice();
+  let [waiting, done] = ["", 0];
+  for (let at = 0; at < lines.length;) {
+    const end = endOfInputs(lines, at, 1);
+    const [input] = readInputs(lines.slice(at, end));
+    const cycles = cyclesOf(input);
+    let served = lines.slice(at, end);
+    waiting += served;
+    [plan.id, plan.cut, at] = [0, "", end];
+    if (cycles > 0) {
+      const before = waiting.slice(0, -served.length);
+      if (before) engine.serve(copy, before, copy);
+      const seen = arrivals.look(engine, copy, [{ line: `run ${cycles}`, change: null }]);
+      if (seen.cycles >= 0) [served, plan.id, plan.cut] = [`run ${seen.cycles}\n`, seen.id, input.line.trim()];
+      arrivals.count(seen);
+      plan.runs.push({ seen, done });
+      const run = readRun(engine.serve(copy, served, copy).answers[0]);
+      done += run ? run.cycles : 0;
+      waiting = "";
+      if (!(await goesOn(at))) throw new Cancelled();
+    }
+    plan.lines += served;
+  }
+  return plan;
+}

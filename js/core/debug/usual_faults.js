@@ -1,0 +1,209 @@
+// Faults that everyone makes once, told as they happen (docs/MANUAL.md, "Some faults that everyone makes once"): a fourth JMS inside three
+// others, a BBL without a call, WRR or RDR at a port without such lines, a write to a chip that the board lacks, bytes that no line put
+// there, and an SRC that still points elsewhere. The bench is asked ahead of each run what it would do; nothing is known here of what
+// instructions do, but which of them use what SRC has selected (selected.js). Without a document.
+//
+//     const watch = new UsualFaults(session);
+//     watch.begin();                                 time begins to run: each kind is told once from here on
+//     const { faults, stop } = watch.look(lines);    ahead of the lines;  `stop` is after how many cycles one is to stop time, -1 for none
+
+import { readBoard } from "../bench/answers.js";
+import { hex } from "../bench/numbers.js";
+import { areLive, callBefore } from "../machine/returns.js";
+import { isCall, isReturn, romCodes } from "../engine/rom_codes.js";
+import { Answers, valuesOf } from "../engine/tracing.js";
+import { cyclesOfLine, linesUpTo } from "./ahead.js";
+import { Selected, usesSelected } from "./selected.js";
+import * as say from "../../words/debug.js";
+
+/**
+ * @typedef {import("../machine/source_map.js").SourceMap} SourceMap
+ * @typedef {import("../engine/key_queue.js").PlannedLine} PlannedLine
+ * @typedef {import("../engine/tracing.js").Trace} Trace
+ * @typedef {import("../engine/worker_session.js").WorkerSession} WorkerSession
+ * @typedef {"calls" | "return" | "lines" | "chip" | "bytes" | "source"} Kind
+ *
+ * A fault: the address of the instruction that is about to make it, after so many cycles of the lines, and what it is, in words.
+ * @typedef {{ kind: Kind, address: number, cycles: number, words: string }} UsualFault
+ * @typedef {{ faults: UsualFault[], stop: number }} Looked
+ */
+
+const ALL = Object.keys(say.KINDS).length;
+/** After time began and after each key so many cycles are looked at, half a second of a real 4004; then one look in so many. */
+const LOOKED_CYCLES = 50000;
+const SAMPLE = 16;
+const SAMPLE_CYCLES = 2000;
+/** Lines of more cycles are those of full speed, of which no more are looked at: a look takes as long as some millions of them. */
+const FRAME_CYCLES = 10000;
+
+/** @type {Looked} */
+const NOTHING = { faults: [], stop: -1 };
+
+export class UsualFaults {
+  /** @param {WorkerSession} session */
+  constructor(session) {
+    this.session = session;
+    /** @type {Set<Kind>} at which time stops */
+    this.stops = new Set();
+    /** @type {SourceMap | null} the program, where it is what stands in ROM */
+    this.map = null;
+    /** @type {Uint8Array | null} what stands in ROM, where that was read */
+    this.codes = null;
+    /** @type {Selected | null} */
+    this.selected = null;
+    /** @type {Set<Kind>} */
+    this.told = new Set();
+    /** Where time stopped last at a fault, and the address that it goes on from: it goes on with that instruction. */
+    this.stopped = -1;
+    this.skipped = -1;
+    this.left = LOOKED_CYCLES;
+    this.looks = 0;
+  }
+
+  /** Time begins to run. */
+  begin() {
+    this.told.clear();
+    this.left = LOOKED_CYCLES;
+    this.skipped = this.stopped;
+    this.stopped = -1;
+  }
+
+  /** Something else than time has changed the session: ROM and the board may be others, and what SRC has selected. */
+  forget() {
+    this.codes = null;
+    this.selected = null;
+  }
+
+  /**
+   * @param {PlannedLine[]} planned what comes next
+   * @param {Uint8Array} [file] before them, where they are done already
+   * @returns {Looked}
+   */
+  look(planned, file = this.session.file) {
+    const most = this.mostOf(planned);
+    if (most === 0 || this.told.size === ALL) return NOTHING;
+    const faults = this.faultsIn(linesUpTo(planned, most), file);
+    const last = faults.find(({ kind }) => this.stops.has(kind));
+    if (!last) return { faults, stop: -1 };
+    this.stopped = last.address;
+    return { faults: faults.filter((fault) => fault.cycles <= last.cycles), stop: last.cycles };
+  }
+
+  /**
+   * How many of the cycles of some lines are looked at: all soon after time began or a key moved, and where time is to stop at faults,
+   * but at full speed; else a sample of them, since each cycle is done three times more where it is looked at.
+   * @param {PlannedLine[]} planned
+   */
+  mostOf(planned) {
+    const cycles = planned.reduce((sum, each) => sum + cyclesOfLine(each), 0);
+    if (planned.some(({ change }) => change !== null)) this.left = LOOKED_CYCLES;
+    this.looks += 1;
+    const isAll = this.stops.size > 0 && cycles <= FRAME_CYCLES;
+    const sample = this.looks % SAMPLE === 0 ? SAMPLE_CYCLES : 0;
+    const most = isAll ? cycles : Math.min(cycles, FRAME_CYCLES, Math.max(this.left, sample));
+    this.left = Math.max(0, this.left - most);
+    return most;
+  }
+
+  /** What stands in ROM, and what is selected. */
+  read() {
+    const { engine, file, lookQuestions } = this.session;
+    this.codes = this.codes || romCodes(engine, file);
+    this.selected = this.selected || new Selected(readBoard(lookQuestions.board));
+    return { codes: this.codes, selected: this.selected };
+  }
+
+  /**
+   * @param {PlannedLine[]} planned
+   * @param {Uint8Array} file
+   */
+  faultsIn(planned, file) {
+    const { engine } = this.session;
+    const { codes, selected } = this.read();
+    const lines = planned.map((each) => {
+      const cycles = cyclesOfLine(each);
+      return each.change ? `${each.line}\n` : `trace ${cycles} src dcl ret\ntrace ${cycles}\n${each.line}\n`;
+    });
+    const answers = new Answers(engine.ask(file, `state\n${lines.join("")}`).answers);
+    selected.begin(answers.take());
+    /** @type {UsualFault[]} */
+    const faults = [];
+    let done = 0;
+    for (const { change } of planned) {
+      if (change) {
+        answers.take();
+        continue;
+      }
+      const [changes, instructions] = [answers.takeTrace(), answers.takeTrace()];
+      this.follow({ codes, selected, done }, changes, instructions.lines, faults);
+      const { cycles, end } = answers.takeRun();
+      done += cycles;
+      if (end !== "end") break;
+    }
+    return faults;
+  }
+
+  /**
+   * Goes through the instructions of a run.
+   * @param {{ codes: Uint8Array, selected: Selected, done: number }} known
+   * @param {Trace} changes of what SRC, DCL, JMS and BBL change
+   * @param {string[]} instructions
+   * @param {UsualFault[]} faults takes what is found
+   */
+  follow({ codes, selected, done }, changes, instructions, faults) {
+    let values = valuesOf(changes.row);
+    let at = 0;
+    for (const line of instructions) {
+      const blank = line.indexOf(" ");
+      const address = parseInt(line.slice(blank + 1), 16);
+      const code = codes[address];
+      const changed = at < changes.lines.length && changes.lines[at].startsWith(line);
+      if (changed || usesSelected(code) || isCall(code) || isReturn(code) || this.isUnspelled(address)) {
+        const cycles = done + Number(line.slice(0, blank));
+        this.tell(faults, address, cycles, this.faultOf(codes, address, values) || selected.faultOf(code, address, values));
+        if (changed) {
+          values = valuesOf(changes.lines[at].slice(line.length));
+          at += 1;
+        }
+        selected.follow(code, address, values);
+      }
+    }
+  }
+
+  /**
+   * @param {UsualFault[]} faults
+   * @param {number} address
+   * @param {number} cycles
+   * @param {{ kind: Kind, words: string } | null} fault
+   */
+  tell(faults, address, cycles, fault) {
+    const isSkipped = cycles === 0 && address === this.skipped;
+    if (cycles === 0) this.skipped = -1;
+    if (!fault || isSkipped || this.told.has(fault.kind)) return;
+    this.told.add(fault.kind);
+    faults.push({ ...fault, address, cycles });
+  }
+
+  /**
+   * What is wrong with a call, a return, or where the instruction stands.
+   * @param {Uint8Array} codes
+   * @param {number} address
+   * @param {string[]} values what src, dcl and ret are before it
+   * @returns {{ kind: Kind, words: string } | null}
+   */
+  faultOf(codes, address, values) {
+    const code = codes[address];
+    if (this.isUnspelled(address)) return { kind: "bytes", words: say.RUNS_ON };
+    if (!isCall(code) && !isReturn(code)) return null;
+    const returns = values[2].split(",").map((each) => parseInt(each, 16));
+    const [newest, , oldest] = returns.map((each) => hex(each, 3));
+    const live = areLive(returns, returns.map((each) => hex(codes[callBefore(each)], 2)), this.map);
+    if (isReturn(code)) return live[0] ? null : { kind: "return", words: say.returnGoes(newest) };
+    return live[2] ? { kind: "calls", words: say.wayBackLost(oldest) } : null;
+  }
+
+  /** @param {number} address */
+  isUnspelled(address) {
+    return this.map !== null && this.map.lineOf(address) === 0;
+  }
+}

@@ -1,0 +1,187 @@
+// What a word of a program's text stands for now: a register, a pair, what an instruction reads or writes by SRC, a number, a label. It is
+// told in pieces: words, and between them values, each with the place by which it can be poked. Without a document.
+//
+//     pieces(valuesAt("        SRC P2", 13, standing, names))     "P2 = 60: R4 6, R5 0; selects ROM 6, and of bank 0 chip 1, .."
+
+import { hex, numberOf } from "../bench/numbers.js";
+import { NUMBER, PAIR, REGISTER, partsOf, wordAt } from "../text/assembly.js";
+import { wordsOfCharacter } from "./standing.js";
+import * as say from "../../words/debug.js";
+
+/**
+ * @typedef {import("./standing.js").Standing} Standing
+ * @typedef {import("../text/assembly.js").Parts} Parts
+ *
+ * A value that can be edited: what `poke` calls its place, and what it is called here.
+ * @typedef {{ place: string, name: string, value: string }} Value
+ * @typedef {string | Value} Piece
+ *
+ * The program that stands in ROM: what a name of it stands for, with words about it; what an instruction does, "" for a word that is none.
+ * @typedef {{ value: number, isLabel: boolean, words: string }} Named
+ * @typedef {{ nameOf: (name: string) => Named | undefined, doesOf: (word: string) => string }} Program
+ */
+
+/** Which of a register's status characters an instruction uses, and those that use its characters. */
+const STATUS = /^(?:RD|WR)([0-3])$/;
+const ACCUMULATOR = /\b(ACC|CY|carry|borrow)\b/;
+const CHARACTER = new Set(["WRM", "RDM", "ADM", "SBM"]);
+
+/**
+ * The pieces as one text.
+ * @param {Piece[]} pieces
+ */
+export function textOf(pieces) {
+  return pieces.map((piece) => (typeof piece === "string" ? piece : piece.value)).join("");
+}
+
+/**
+ * @param {number} number
+ * @param {Standing} standing
+ * @returns {Value}
+ */
+function registerValue(number, standing) {
+  return { place: `r${number}`, name: `R${number}`, value: standing.register(number) };
+}
+
+/**
+ * @param {string} place
+ * @param {string} name
+ * @param {Standing} standing
+ * @returns {Value}
+ */
+function machineValue(place, name, { registers }) {
+  return { place, name, value: place === "acc" ? registers.accumulator : registers.carry };
+}
+
+/**
+ * The character that a byte selects in a bank, and what it holds.
+ * @param {number} bank
+ * @param {number} byte
+ * @param {Standing} standing
+ * @returns {Piece[]}
+ */
+function characterPieces(bank, byte, standing) {
+  const words = say.inBank(bank, wordsOfCharacter(byte));
+  const value = standing.character(bank, byte);
+  if (value === "") return [say.boardLacks(words)];
+  return [`${words} = `, { place: `ram.${bank}.0x${hex(byte, 2)}`, name: words, value }];
+}
+
+/**
+ * What a byte selects, sent by SRC: a ROM's port, and a character of the bank.
+ * @param {number} byte
+ * @param {Standing} standing
+ * @returns {Piece[]}
+ */
+function selectedBy(byte, standing) {
+  const chip = byte >> 4;
+  const rom = standing.romPort(chip) ? [say.romChip(chip)] : [];
+  const hasRam = standing.sourceOf() !== undefined;
+  if (!hasRam) return rom.length > 0 ? rom : [say.NOTHING_THERE];
+  return [...rom.map((each) => `${each}; `), ...characterPieces(standing.bank, byte, standing)];
+}
+
+/**
+ * @param {string} word
+ * @param {Parts} parts of its line
+ * @param {Standing} standing
+ * @returns {Piece[]}
+ */
+function registerPieces(word, { head }, standing) {
+  const number = Number(word.slice(1));
+  if (!PAIR.test(word)) return [`R${number} = `, registerValue(number, standing)];
+  const byte = standing.pair(number);
+  /** @type {Piece[]} */
+  const pieces = [`P${number} = ${byte}: R${2 * number} `, registerValue(2 * number, standing), `, R${2 * number + 1} `,
+    registerValue(2 * number + 1, standing)];
+  if (!head || head.text.toUpperCase() !== "SRC") return pieces;
+  return [...pieces, say.SELECTS, ...selectedBy(parseInt(byte, 16), standing)];
+}
+
+/**
+ * What an instruction reads or writes by what SRC has selected; none for one that does not.
+ * @param {string} name in upper case
+ * @param {Standing} standing
+ * @returns {Piece[]}
+ */
+function portPieces(name, standing) {
+  const { bank } = standing;
+  if (name === "WRR" || name === "RDR") {
+    const chip = standing.source >> 4;
+    const port = standing.romPort(chip);
+    return [port ? say.portOfRom(chip, port.out, port.in) : say.boardLacks(say.romChip(chip))];
+  }
+  const byte = standing.sourceOf();
+  const uses = CHARACTER.has(name) || name === "WMP" || STATUS.test(name);
+  if (byte === undefined) return uses ? [say.bankWithoutRam(bank)] : [];
+  if (CHARACTER.has(name)) return characterPieces(bank, byte, standing);
+  if (name === "WMP") {
+    const out = standing.ramPort(bank, byte >> 6);
+    return [say.portOfRam(bank, byte >> 6, out)];
+  }
+  const status = STATUS.exec(name);
+  if (!status) return [];
+  const words = say.statusAt(bank, byte >> 6, byte >> 4 & 3, status[1]);
+  const value = standing.status(bank, byte >> 4, Number(status[1]));
+  if (value === "") return [say.boardLacks(words)];
+  return [`${words} = `, { place: `st.${bank}.${byte >> 4}.${status[1]}`, name: words, value }];
+}
+
+/**
+ * What an instruction uses beside its operands.
+ * @param {string} name in upper case
+ * @param {string} does
+ * @param {Parts} parts
+ * @param {Standing} standing
+ * @returns {Piece[]}
+ */
+function instructionPieces(name, does, parts, standing) {
+  const [operand] = parts.operands;
+  if (name === "SRC" && operand && PAIR.test(operand.text)) return registerPieces(operand.text, parts, standing);
+  const pieces = portPieces(name, standing);
+  if (!ACCUMULATOR.test(does)) return pieces;
+  /** @type {Piece[]} */
+  const accumulator = ["acc ", machineValue("acc", "acc", standing), ", cy ", machineValue("cy", "cy", standing)];
+  return pieces.length > 0 ? [...pieces, "; ", ...accumulator] : accumulator;
+}
+
+/**
+ * A number in binary, too; of FIM also what it selects, once SRC sends it.
+ * @param {string} written in the other ways
+ * @param {number} value
+ * @param {Parts} parts
+ * @param {Standing} standing
+ * @returns {Piece[]}
+ */
+function numberPieces(written, value, { head }, standing) {
+  if (!(value <= 255)) return [written];
+  const binary = value.toString(2).padStart(value > 15 ? 8 : 4, "0").replace(/(....)(....)/, "$1 $2");
+  if (!head || head.text.toUpperCase() !== "FIM") return [`${written}, ${binary}`];
+  return [say.bySource(written, binary), ...selectedBy(value, standing)];
+}
+
+/**
+ * What the word at a place of a line stands for now; none where there is nothing to say.
+ * @param {string} text the line
+ * @param {number} at
+ * @param {Standing} standing
+ * @param {Program} program
+ * @returns {Piece[]}
+ */
+export function valuesAt(text, at, standing, { nameOf, doesOf }) {
+  const word = wordAt(text, at);
+  const parts = partsOf(text);
+  if (!word || word.from >= parts.comment) return [];
+  const upper = word.text.toUpperCase();
+  const does = doesOf(upper);
+  if (does !== "") return instructionPieces(upper, does, parts, standing);
+  if (REGISTER.test(word.text) || PAIR.test(word.text)) return registerPieces(word.text, parts, standing);
+  if (NUMBER.test(word.text)) {
+    const value = numberOf(word.text);
+    return numberPieces(`${value} = 0x${hex(value, 1)}`, value, parts, standing);
+  }
+  const name = nameOf(word.text);
+  if (!name) return [];
+  if (!name.isLabel) return numberPieces(name.words, name.value, parts, standing);
+  return [standing.registers.counter === hex(name.value, 3) ? say.comesNext(name.words) : name.words];
+}

@@ -1,0 +1,264 @@
+// Parts that go from a board, and with each what hangs on it alone: a lamp without a line is none. The others keep their wires.
+
+import { counted } from "../bench/numbers.js";
+import { Face } from "../board/face.js";
+import { isScanned, lampsOf } from "../board/face_board.js";
+import { removeColumns, removeRows, renamePorts, renumberLamps, setWhole } from "./face_edits.js";
+import { BUZZER, readTarget } from "./board_lines.js";
+import { nameOfPart, setRows } from "./adding.js";
+import { removeElement, removePart, setValue, setWritten } from "./part_edits.js";
+import { ActRefusal } from "./sketch.js";
+import * as say from "../../words/drawing.js";
+
+/**
+ * @typedef {import("./board_lines.js").Board} Board
+ * @typedef {import("./sketch.js").Sketch} Sketch
+ * @typedef {import("../text/board_reader.js").Value} Value
+ *
+ * What goes: ROMs by number, RAM chips as `bank.chip`, chains, columns and lamps.
+ * @typedef {{ roms: Set<number>, rams: Set<string>, chains: Set<number>, keys: boolean, columns: Set<number>, lamps: Set<number> }} Gone
+ */
+
+/** @returns {Gone} */
+function nothing() {
+  return { roms: new Set(), rams: new Set(), chains: new Set(), keys: false, columns: new Set(), lamps: new Set() };
+}
+
+/**
+ * @param {Gone} gone
+ * @param {string} line
+ */
+function isLineGone({ roms, rams, chains }, line) {
+  const [, kind, first, second] = /** @type {RegExpExecArray} */ (/^(rom|ram|chain)(\d+)\.(\d+)/.exec(line));
+  if (kind === "rom") return roms.has(Number(first));
+  return kind === "chain" ? chains.has(Number(first)) : rams.has(`${first}.${second}`);
+}
+
+/**
+ * The lamps of the display, the bar and so on that a lamp belongs to; the lamp alone where it belongs to none.
+ * @param {Face} face
+ * @param {number} lamp
+ */
+export function lampsWith(face, lamp) {
+  const all = face.groups.map(lampsOf).find((lamps) => lamps.includes(lamp));
+  return all || [lamp];
+}
+
+/**
+ * The display whose first lamp this is, where another one like it can come from the shelf; undefined for none.
+ * @param {Face} face
+ * @param {number} lamp
+ */
+export function displayAt(face, lamp) {
+  return face.groups.find((group) => group.kind === "display" && group.first === lamp && (group.columns === 4 || group.columns === 7)
+    && !isScanned(group));
+}
+
+/**
+ * Adds to what goes all that hangs on it.
+ * @param {Board} board
+ * @param {Face} face
+ * @param {Gone} gone
+ */
+function spread(board, face, gone) {
+  board.chains.forEach(({ clock, data }, at) => {
+    if (isLineGone(gone, clock) || isLineGone(gone, data)) gone.chains.add(at);
+  });
+  const { matrix } = board;
+  if (matrix) {
+    matrix.columns.forEach((line, at) => isLineGone(gone, line) && gone.columns.add(at));
+    gone.keys = gone.keys || gone.chains.has(matrix.chain) || gone.columns.size === matrix.columns.length;
+  }
+  board.lamps.forEach((line, at) => isLineGone(gone, line) && gone.lamps.add(at));
+  // Lamps of a set, to which others are added that may be of another one.
+  for (const at of gone.lamps) {
+    const groups = face.groups.map(lampsOf).filter((lamps) => lamps.includes(at));
+    for (const lamp of groups.flat()) if (lamp < board.lamps.length) gone.lamps.add(lamp);
+  }
+}
+
+/**
+ * @param {Sketch} sketch
+ * @param {Gone} gone
+ */
+function removeAll(sketch, gone) {
+  const { matrix } = sketch.board;
+  if (gone.lamps.size > 0) removeLamps(sketch, gone.lamps);
+  if (gone.keys && matrix) removeKeys(sketch);
+  else if (gone.columns.size > 0) takeColumns(sketch, gone.columns);
+  for (const chain of descending(gone.chains)) removeChain(sketch, chain);
+  sketch.goneChains.push(...gone.chains);
+  for (const rom of gone.roms) removeRom(sketch, rom);
+  for (const ram of gone.rams) removeRam(sketch, ram);
+}
+
+/** @param {Set<number>} numbers */
+function descending(numbers) {
+  return [...numbers].sort((one, other) => other - one);
+}
+
+/**
+ * @param {Sketch} sketch
+ * @param {Set<number>} lamps
+ */
+function removeLamps(sketch, lamps) {
+  sketch.edit(renumberLamps(sketch.draft, lamps));
+  for (const lamp of descending(lamps)) sketch.edit(removePart(sketch.draft, "lamp", lamp));
+}
+
+/** @param {Sketch} sketch */
+function removeKeys(sketch) {
+  sketch.edit(removeRows(sketch.draft, 0));
+  sketch.edit(removePart(sketch.draft, "keys", 0));
+}
+
+/**
+ * @param {Sketch} sketch
+ * @param {Set<number>} columns
+ */
+function takeColumns(sketch, columns) {
+  sketch.edit(removeColumns(sketch.draft, columns));
+  for (const column of descending(columns)) {
+    const { draft } = sketch;
+    sketch.edit(removeElement(draft, draft.keyOf(draft.entry("keys", 0), "columns").value, column));
+  }
+}
+
+/**
+ * The chains behind it have other numbers from then on, and so have their bits.
+ * @param {Sketch} sketch
+ * @param {number} chain
+ */
+function removeChain(sketch, chain) {
+  /** @type {(line: string) => string} */
+  const rename = (line) => line.replace(/^chain(\d+)/, (_, number) => `chain${Number(number) - (Number(number) > chain ? 1 : 0)}`);
+  const { draft } = sketch;
+  const values = draft.of("lamp").map((entry) => draft.keyOf(entry, "line").value);
+  const bits = values.filter(({ inner }) => rename(String(inner)) !== inner);
+  const numbers = draft.of("keys").map((entry) => draft.keyOf(entry, "chain").value).filter(({ inner }) => Number(inner) > chain);
+  sketch.edit([
+    ...bits.map((value) => setWritten(draft, value, rename(String(value.inner)))),
+    ...numbers.map((value) => setWritten(draft, value, Number(value.inner) - 1)),
+  ]);
+  sketch.edit(renamePorts(sketch.draft, (port) => (port === `chain${chain}` ? "" : rename(port))));
+  sketch.edit(removePart(sketch.draft, "chain", chain));
+}
+
+/**
+ * @param {Sketch} sketch
+ * @param {number} rom
+ */
+function removeRom(sketch, rom) {
+  sketch.edit(renamePorts(sketch.draft, (port) => (port === `rom${rom}` ? "" : port)));
+  const { draft } = sketch;
+  sketch.edit(removePart(draft, "rom", draft.of("rom").indexOf(draft.numbered("rom", rom))));
+}
+
+/**
+ * The last chip of its bank.
+ * @param {Sketch} sketch
+ * @param {string} ram
+ */
+function removeRam(sketch, ram) {
+  const [bank, chip] = ram.split(".").map(Number);
+  sketch.edit(renamePorts(sketch.draft, (port) => (port === `ram${ram}` ? "" : port)));
+  const { draft } = sketch;
+  const entry = draft.numbered("ram", bank);
+  sketch.edit(chip > 0 ? [setValue(draft, entry, "chips", chip)] : removePart(draft, "ram", draft.of("ram").indexOf(entry)));
+}
+
+/**
+ * What goes with a part that is named.
+ * @param {Board} board
+ * @param {Gone} gone
+ * @param {string} part
+ */
+function mark(board, gone, part) {
+  const [kind, number] = readTarget(part);
+  if (kind === "rom") gone.roms.add(number);
+  else if (kind === "chain") gone.chains.add(number);
+  else if (kind === "lamp") gone.lamps.add(number);
+  else if (kind === "column") gone.columns.add(number);
+  else if (kind === "keys") gone.keys = true;
+  else if (kind === "lamps") board.lamps.forEach((_, at) => gone.lamps.add(at));
+  else if (kind === "ram") markRam(board, gone, part.slice(4));
+  else throw new ActRefusal(whyItStays(part));
+}
+
+/**
+ * What is no part of its own.
+ * @param {string} part
+ */
+function whyItStays(part) {
+  if (part === "processor" || part === "TEST") return say.PROCESSOR_STAYS;
+  if (/^(clock|data)/.test(part)) return say.CHAIN_NEEDS_LINES;
+  return say.LINE_STAYS;
+}
+
+/**
+ * @param {Board} board
+ * @param {Gone} gone
+ * @param {string} ram
+ */
+function markRam({ banks }, gone, ram) {
+  const [bank, chip] = ram.split(".").map(Number);
+  const { chips } = banks.find((each) => each.bank === bank) || { chips: 0 };
+  if (chip !== chips - 1) throw new ActRefusal(say.deleteChipFirst(bank, chips - 1));
+  gone.rams.add(ram);
+}
+
+/**
+ * Takes a part away: `rom 1`, `ram 0.1`, `chain 0`, `keys`, `row 1` (the last one), `column 2`, `lamp 3`, `lamps`, `test`, `buzzer`;
+ * gives in words what went with it.
+ * @param {Sketch} sketch
+ * @param {string} part
+ */
+export function deletePart(sketch, part) {
+  const { board } = sketch;
+  if (part === "test") {
+    sketch.edit(setWhole(sketch.draft, "test", "", ""));
+    return "";
+  }
+  if (part === "buzzer" || part === BUZZER) {
+    sketch.edit(setWhole(sketch.draft, "buzzer", board.buzzer || "", ""));
+    return "";
+  }
+  if (part.startsWith("row ")) return deleteRow(sketch, Number(part.slice(4)));
+  const gone = nothing();
+  mark(board, gone, part);
+  // Chains hang on ROMs, keys and lamps on chains: the second time nothing new comes.
+  const face = new Face(sketch.text);
+  for (let times = 0; times < 2; times++) spread(board, face, gone);
+  const words = wordsOfGone(board, gone, part);
+  removeAll(sketch, gone);
+  return words;
+}
+
+/**
+ * @param {Sketch} sketch
+ * @param {number} row
+ */
+function deleteRow(sketch, row) {
+  const { matrix } = sketch.board;
+  if (!matrix || row !== matrix.rows - 1) throw new ActRefusal(say.DELETE_LAST_ROW);
+  setRows(sketch, row);
+  sketch.edit(removeRows(sketch.draft, row));
+  return "";
+}
+
+/**
+ * What goes with a part that is deleted.
+ * @param {Board} board
+ * @param {Gone} gone
+ * @param {string} part
+ */
+function wordsOfGone({ buzzer }, gone, part) {
+  const { chains, keys, columns, lamps } = gone;
+  const others = [...chains].map((chain) => `chain ${chain}`).filter((name) => name !== part);
+  const further = part === "lamps" || (part.startsWith("lamp ") && lamps.size === 1) ? 0 : lamps.size;
+  if (keys && part !== "keys") others.push(nameOfPart("keys"));
+  else if (!keys && columns.size > 0 && !part.startsWith("column")) others.push(say.ofKeys(counted(columns.size, "column")));
+  if (further > 0) others.push(part.startsWith("lamp ") ? say.allLampsOf(further) : counted(further, "lamp"));
+  if (buzzer && isLineGone(gone, buzzer)) others.push(say.THE_BUZZER);
+  return say.listOf(others);
+}

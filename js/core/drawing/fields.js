@@ -1,0 +1,238 @@
+// What can be set of a part or a pin that is chosen: its name, its colour, where it is wired to, how many chips it has. Each field says
+// what act another value is.
+
+import { upTo } from "../bench/numbers.js";
+import { COLOURS } from "../board/face_words.js";
+import { RANGES, linesOf } from "../bench/board_form.js";
+import { displayAt, lampsWith } from "./deleting.js";
+import { BUZZER, nameOfTarget, readTarget, sourcesOf, wiringOf } from "./board_lines.js";
+import * as say from "../../words/drawing.js";
+
+/**
+ * @typedef {import("./board_lines.js").Board} Board
+ * @typedef {import("../board/face.js").Face} Face
+ * @typedef {import("./acts.js").Act} Act
+ *
+ * A field: its label, its value, the values that it may have with what they are called, where it is not a text of any words; and the act
+ * that another value is.
+ * @typedef {{ label: string, value: string, options: { value: string, words: string }[] | null, act: (value: string) => Act }} Field
+ *
+ * A button: its word, and its act.
+ * @typedef {{ word: string, act: Act }} Button
+ *
+ * What is chosen, in words, and the part whose lines in the board's text it is in, "" for none.
+ * @typedef {{ title: string, part: string, fields: Field[], buttons: Button[] }} Fields
+ */
+
+/**
+ * @param {string} label
+ * @param {string} value
+ * @param {(value: string) => Act} act
+ * @returns {Field}
+ */
+function text(label, value, act) {
+  return { label, value: value.replace(/_/g, " "), options: null, act };
+}
+
+/**
+ * @param {string} label
+ * @param {string} value
+ * @param {string[] | { value: string, words: string }[]} options
+ * @param {(value: string) => Act} act
+ * @returns {Field}
+ */
+function choice(label, value, options, act) {
+  return { label, value, options: options.map((each) => (typeof each === "string" ? { value: each, words: each } : each)), act };
+}
+
+/**
+ * The numbers from one to another.
+ * @param {{ from: number, to: number }} range
+ */
+function numbers({ from, to }) {
+  return upTo(to + 1).slice(from).map(String);
+}
+
+/**
+ * The line that something takes.
+ * @param {Board} board
+ * @param {string} target
+ * @param {string} [label]
+ */
+function lineField(board, target, label = nameOfTarget(target)) {
+  const now = wiringOf(board).get(target) || "";
+  return choice(say.lineOf(label), now, sourcesOf(board, target), (line) => ({ kind: "wire", line, target }));
+}
+
+/**
+ * The words of a port or a chain, by its place in the face.
+ * @param {Face} face
+ * @param {string} part
+ */
+function portField(face, part) {
+  const told = face.ports.get(part.replace(" ", ""));
+  return text(say.WHAT_IS_THERE, told ? told.text : "", (name) => ({ kind: "name", part, name }));
+}
+
+/**
+ * @param {string} line
+ * @param {string} port
+ * @returns {Field}
+ */
+function directionField(line, port) {
+  const at = Number(line.split(".")[1]);
+  const options = say.DIRECTIONS.map(([value, words]) => ({ value, words }));
+  return choice(say.lineIsA(at), port[3 - at], options, (as) => ({ kind: "port", line, as }));
+}
+
+/** @type {(part: string) => Button} */
+const copyOf = (part) => ({ word: say.COPY, act: { kind: "copy", part } });
+/** @type {(part: string, word?: string) => Button} */
+const deletionOf = (part, word = say.DELETE) => ({ word, act: { kind: "delete", part } });
+
+/**
+ * @param {Board} board
+ * @param {Face} face
+ * @param {string} part
+ * @returns {Fields}
+ */
+function ofRom(board, face, part) {
+  const chip = readTarget(part)[1];
+  const rom = board.roms.find((each) => Number(each.chip) === chip);
+  const port = rom ? rom.port : "0000";
+  const lines = upTo(4).map((at) => directionField(`rom${chip}.${at}`, port));
+  const fields = [portField(face, part), ...lines];
+  return { title: say.romWithPort(chip), part, fields, buttons: [copyOf(part), deletionOf(part)] };
+}
+
+/**
+ * @param {Board} board
+ * @param {Face} face
+ * @param {string} part
+ * @returns {Fields}
+ */
+function ofChain(board, face, part) {
+  const at = readTarget(part)[1];
+  const chips = choice("chips", String(board.chains[at].chips), numbers(RANGES["chain.chips"]), (value) => (
+    { kind: "chips", chain: at, chips: Number(value) }));
+  const lines = [lineField(board, `clock ${at}`, "clock"), lineField(board, `data ${at}`, "data")];
+  const fields = [portField(face, part), ...lines, chips];
+  return { title: say.chainOf(at), part, fields, buttons: [copyOf(part), deletionOf(part)] };
+}
+
+/**
+ * @param {Board} board
+ * @param {Face} face
+ * @returns {Fields}
+ */
+function ofKeys(board, face) {
+  const rows = choice("rows", String(board.rows), numbers(RANGES["keys.rows"]), (value) => ({ kind: "rows", rows: Number(value) }));
+  const columns = upTo(board.columns).map((at) => lineField(board, `column ${at}`, `column ${at}`));
+  const names = upTo(board.rows).flatMap((row) => upTo(board.columns).map((column) => {
+    const told = face.keys.get(`${row} ${column}`);
+    return text(`key ${row}.${column}`, told ? told.text : "", (name) => ({ kind: "name", part: `key ${row} ${column}`, name }));
+  }));
+  const more = { word: say.ANOTHER_COLUMN, act: /** @type {Act} */ ({ kind: "column" }) };
+  const fields = [rows, lineField(board, "row 0", "row 0"), ...columns, ...names];
+  return { title: say.KEYS, part: "keys", fields, buttons: [more, deletionOf("keys")] };
+}
+
+/**
+ * @param {Board} board
+ * @param {Face} face
+ * @param {number} lamp
+ * @returns {Fields}
+ */
+function ofLamp(board, face, lamp) {
+  const part = `lamp ${lamp}`;
+  const all = lampsWith(face, lamp);
+  const isOne = all.length === 1;
+  // The lamps of a display have the colour of the first one.
+  const [name, colour] = [face.lamps.get(lamp), face.colours.get(all[0])];
+  const fields = [
+    text("name", name ? name.text : "", (value) => ({ kind: "name", part, name: value })),
+    choice("colour", colour ? colour.text : "red", [...COLOURS], (value) => ({ kind: "colour", lamp: all[0], colour: value })),
+    lineField(board, part, "lamp"),
+  ];
+  const copies = displayAt(face, all[0]) ? [{ ...copyOf(`lamp ${all[0]}`), word: say.COPY_DISPLAY }] : [];
+  const buttons = isOne ? [copyOf(part), deletionOf(part)] : [...copies, deletionOf(part, say.deleteLamps(all.length))];
+  return { title: say.lampTitle(lamp), part, fields, buttons };
+}
+
+/**
+ * @param {Board} board
+ * @param {Face} face
+ * @returns {Fields}
+ */
+function ofBuzzer(board, { buzzer }) {
+  const name = text("name", buzzer ? buzzer.name : "", (value) => ({ kind: "name", part: "buzzer", name: value }));
+  const fields = [name, lineField(board, BUZZER, "buzzer")];
+  return { title: say.THE_BUZZER_TITLE, part: "buzzer", fields, buttons: [deletionOf("buzzer")] };
+}
+
+/**
+ * @param {Face} face
+ * @param {string} part
+ * @returns {Fields}
+ */
+function ofRam(face, part) {
+  const title = say.ramWithPort(part.slice(4));
+  return { title, part: part.split(".")[0], fields: [portField(face, part)], buttons: [copyOf(part), deletionOf(part)] };
+}
+
+/**
+ * @param {Board} board
+ * @param {string} name
+ * @returns {Fields}
+ */
+function ofLine(board, name) {
+  const line = linesOf(board).find((each) => each.name === name);
+  const rom = line && line.kind === "rom" ? board.roms.find(({ chip }) => name.startsWith(`rom${chip}.`)) : null;
+  const isInput = line !== undefined && line.isInput;
+  /** @type {Button[]} */
+  const buttons = line && !isInput ? [{ word: say.LAMP_HERE, act: { kind: "add", part: "lamp", line: name } }] : [];
+  if (line && !isInput && !board.buzzer) buttons.push({ word: say.BUZZER_HERE, act: { kind: "add", part: "buzzer", line: name } });
+  const [, kind, number] = /^([a-z]+)(\d+)/.exec(name) || ["", "", ""];
+  const fields = rom ? [directionField(name, rom.port)] : [];
+  return { title: say.lineTitle(name, isInput), part: `${kind} ${number}`, fields, buttons };
+}
+
+/**
+ * @param {Board} board
+ * @param {string} target
+ * @returns {Fields}
+ */
+function ofTarget(board, target) {
+  const [kind, number] = readTarget(target);
+  const canGo = kind === "column" || (kind === "row" && number === board.rows - 1 && number > 0);
+  const name = nameOfTarget(target);
+  const title = name.charAt(0).toUpperCase() + name.slice(1);
+  const part = kind === "row" || kind === "column" ? "keys" : `chain ${number}`;
+  return { title, part, fields: [lineField(board, target, say.IT_IS)], buttons: canGo ? [deletionOf(target)] : [] };
+}
+
+/**
+ * What can be set of what is chosen; of the whole board where nothing is.
+ * @param {Board} board
+ * @param {Face} face
+ * @param {string} chosen a part or a pin
+ * @returns {Fields}
+ */
+export function fieldsOf(board, face, chosen) {
+  const [kind, number] = readTarget(chosen);
+  if (kind === "rom") return ofRom(board, face, chosen);
+  if (kind === "chain") return ofChain(board, face, chosen);
+  if (kind === "keys") return ofKeys(board, face);
+  if (kind === "lamp") return ofLamp(board, face, number);
+  if (kind === "ram") return ofRam(face, chosen);
+  if (kind === "buzzer" && board.buzzer) return ofBuzzer(board, face);
+  if (kind === "lamps") return { title: say.ALL_LAMPS, part: "lamp 0", fields: [], buttons: [deletionOf("lamps", say.DELETE_ALL_LAMPS)] };
+  if (kind === "test" && face.test) {
+    const name = text("name", face.test.name, (value) => ({ kind: "name", part: "test", name: value }));
+    return { title: say.atTest(face.test.kind), part: "test", fields: [name], buttons: [deletionOf("test")] };
+  }
+  if (wiringOf(board).has(chosen)) return ofTarget(board, chosen);
+  if (chosen.includes(".")) return ofLine(board, chosen);
+  const title = text("title", face.title, (name) => ({ kind: "name", part: "title", name }));
+  return { title: say.BOARD_TITLE, part: "", fields: [title], buttons: [] };
+}

@@ -1,0 +1,133 @@
+// Where a search begins that goes on from a state of the program's tests (`from STATE`): the tests that lead to it are run once, and their
+// lines stand before each find.
+
+import { partsOfState, portsOf } from "../bench/state_line.js";
+import { Account, MOST_LEVELS } from "../testing/account.js";
+import { TestRun } from "../testing/test_run.js";
+import { ownLines, readTests } from "../testing/test_text.js";
+import * as say from "../../words/explore.js";
+
+/**
+ * @typedef {import("../testing/prepared.js").Prepared} Prepared
+ * @typedef {import("../testing/test_text.js").Test} Test
+ * @typedef {import("./campaign.js").Campaign} Campaign
+ * @typedef {import("./inputs.js").Input} Input
+ * @typedef {import("./subject.js").Subject} Subject
+ * @typedef {{ subject: Subject, campaign: Campaign }} Readable
+ */
+
+/** What is counted of tests that go on from one another: which calls are open. */
+class OpenCalls extends Account {
+  begin() {
+    this.waiting.key = "";
+  }
+
+  end() {
+    // They are open where the next one goes on.
+  }
+}
+
+/**
+ * Whether a test saves a state.
+ * @param {Test} test
+ * @param {string} state
+ */
+function saves({ steps }, state) {
+  return steps.some(({ action }) => action.kind === "save" && action.state === state);
+}
+
+/**
+ * The tests that lead to a state, in their order; or why there are none, in words.
+ * @param {Prepared["names"]} names
+ * @param {string} testText
+ * @param {string} state
+ * @returns {{ tests: Test[], words: string }}
+ */
+export function testsThatLead(names, testText, state) {
+  const { tests, faults } = readTests(testText, names);
+  if (testText.trim() === "") return { tests: [], words: say.noTests(state) };
+  if (faults.length > 0) return { tests: [], words: say.testsFault(faults[0].line, faults[0].words) };
+  const last = tests.find((test) => saves(test, state));
+  if (!last) {
+    const there = tests.flatMap(({ steps }) => steps.flatMap(({ action }) => (action.kind === "save" ? [action.state] : [])));
+    return { tests: [], words: say.noSuchState(state, there.join(" ")) };
+  }
+  const before = last.from === "" ? [] : testsThatLead(names, testText, last.from).tests;
+  return { tests: [...before, last], words: "" };
+}
+
+/**
+ * The tests up to where each saves the state that is gone on from.
+ * @param {Test[]} tests
+ * @param {string} state
+ * @returns {Test[]}
+ */
+function upToStates(tests, state) {
+  return tests.map((test, at) => {
+    const wanted = at + 1 < tests.length ? tests[at + 1].from : state;
+    const end = test.steps.findIndex(({ action }) => action.kind === "save" && action.state === wanted);
+    return { ...test, steps: test.steps.slice(0, end + 1) };
+  });
+}
+
+/**
+ * What is done in tests, without the lines of states.
+ * @param {Test[]} tests
+ */
+function linesOf(tests) {
+  const lines = tests.flatMap((test) => ownLines(test.steps)).filter(({ action }) => action.kind !== "from" && action.kind !== "save");
+  return lines.map(({ text }) => `  ${text}`);
+}
+
+/**
+ * How many calls are open behind tests; after a power cycle in one of them that is not known.
+ * @param {Test[]} tests
+ * @param {OpenCalls} account
+ */
+function callsOf(tests, account) {
+  const isReset = tests.some(({ steps }) => ownLines(steps).some(({ action }) => action.kind === "reset"));
+  const { length } = account.open;
+  return isReset ? { least: 0, most: MOST_LEVELS } : { least: length, most: length };
+}
+
+/**
+ * An input, down or up as it is in a session.
+ * @param {Input} input
+ * @param {string} state
+ * @returns {Input}
+ */
+function asItIs(input, state) {
+  const { test, ports } = partsOfState(state);
+  const key = input.down.replace(/^press (\d+) (\d+)$/, "$1.$2");
+  return { ...input, isDown: input.isKey ? portsOf(ports).keys.includes(key) : input.down === `test ${test}` };
+}
+
+/**
+ * A campaign that begins where it says; or why it cannot, in words.
+ * @param {Readable} readable
+ * @param {Prepared} prepared
+ * @param {string} testText
+ * @returns {Promise<{ readable: Readable, words: string }>}
+ */
+export async function begun(readable, prepared, testText) {
+  const { subject, campaign } = readable;
+  if (!campaign.from) return { readable, words: "" };
+  const { state } = campaign.from;
+  const { tests, words } = testsThatLead(prepared.names, testText, state);
+  if (words) return { readable, words };
+  const account = new OpenCalls(prepared.codes);
+  const run = new TestRun(subject.engine, prepared, account, async () => {});
+  let failed = "";
+  const leading = upToStates(tests, state);
+  for (const test of leading) {
+    const { failure } = await run.run(test, "");
+    if (failure && failed === "") failed = say.testFails(failure.line, failure.text, failure.words);
+  }
+  const saved = run.states.get(state);
+  if (!saved) return { readable, words: failed };
+  const { file } = saved;
+  const [told] = subject.engine.ask(file, "state\n").answers;
+  const inputs = campaign.inputs.map((input) => asItIs(input, told));
+  const there = { inputs, before: linesOf(leading), calls: callsOf(leading, account) };
+  return { readable: { subject: { ...subject, file }, campaign: { ...campaign, ...there } }, words: "" };
+}

@@ -1,0 +1,339 @@
+// A text of properties: what may be changed on the board, what makes a state new, and what must hold. Its lines are in the manual
+// ("Looking for what breaks it").
+
+import { LONGEST_RUN } from "../engine/key_queue.js";
+import { hasScannedDisplay } from "../engine/seen_text.js";
+import { conditionOf } from "../debug/conditions.js";
+import { durationOf, wholeDuration } from "../debug/durations.js";
+import { keysOf, namesOfInputs, pinOf } from "./inputs.js";
+import { afterPress, always, alwaysOn, at, every, model, never, neverFor, once, onlyAfter, reach, reachAt } from "./properties.js";
+import { NO_DISPLAY, noLabel } from "../../words/debug.js";
+import * as say from "../../words/explore.js";
+import { noKey } from "../../words/testing.js";
+
+/**
+ * @typedef {import("./inputs.js").Input} Input
+ * @typedef {import("./properties.js").Property} Property
+ * @typedef {import("./subject.js").Subject} Subject
+ * @typedef {{ line: number, words: string }} Fault
+ *
+ * @typedef {{ inputs: Input[], together: number, canReset: boolean, shortest: number, longest: number, held: number, apart: number,
+ *   begin: number, down: number, up: number, notes: string[], properties: Property[], command: string, from: From | null,
+ *   before: string[], calls: { least: number, most: number } }} Campaign
+ *   `shortest` and `longest` are waits, `held` is how long a key is down at most, `apart` for how long it is up at least, `begin` is from
+ *   where on all is judged, `down` and `up` are how long a key is down and up for a model, in cycles; `notes` are places of `trace`;
+ *   `before` are lines of a test that lead to where all begins, and `calls` how many are open there
+ *
+ * A state of tests to begin with, the file that has them ("" for those beside the properties), and the line that says so.
+ * @typedef {{ state: string, file: string, line: number }} From
+ */
+
+/** A line that cannot be read. */
+class Unreadable extends Error {}
+
+/**
+ * @param {string} words
+ * @returns {never}
+ */
+function fail(words) {
+  throw new Unreadable(words);
+}
+
+const MOST_NOTES = 16;
+/** So many keys are down together at most, where nothing is said. */
+const TOGETHER = 2;
+/** Waits where nothing is said, of 1 and 20 ms, and the pace of `keys`. */
+const WAITS = { shortest: 93, longest: 1852 };
+const PACE = { down: 4000, up: 16000 };
+
+class Reader {
+  /** @param {Subject} subject */
+  constructor({ names, instructions }) {
+    this.names = names;
+    this.instructions = instructions;
+    /** @type {Input[]} */
+    this.inputs = [];
+    /** @type {Property[]} */
+    this.properties = [];
+    /** @type {string[]} */
+    this.notes = [];
+    this.together = TOGETHER;
+    this.canReset = false;
+    this.shortest = WAITS.shortest;
+    this.longest = WAITS.longest;
+    this.down = PACE.down;
+    this.up = PACE.up;
+    this.held = Infinity;
+    this.apart = 0;
+    this.begin = 0;
+    this.command = "";
+    /** @type {{ state: string, file: string } | null} */
+    this.from = null;
+  }
+
+  /** @param {string} text */
+  condition(text) {
+    const { condition, fault } = conditionOf(text, this.names);
+    return condition || fail(fault);
+  }
+
+  /** @param {string} word */
+  label(word) {
+    const name = word.replace(/^@/, "");
+    const found = this.names.map.names.get(name);
+    return word.startsWith("@") && found && found.isLabel ? found.value
+      : fail(word.startsWith("@") ? noLabel(name) : say.labelForm(word));
+  }
+
+  /** @param {string} name */
+  input(name) {
+    const { face } = this.names;
+    const found = [...keysOf(face), pinOf(face)].find((each) => each.name === name && (each.isKey || face.test));
+    if (found) return found;
+    const there = namesOfInputs(face);
+    return fail(noKey(name, there.join(" ")));
+  }
+
+  /** @param {Input} input */
+  add(input) {
+    if (!this.inputs.some(({ name }) => name === input.name)) this.inputs.push(input);
+  }
+
+  /**
+   * @param {string} text
+   * @param {string} form
+   */
+  time(text, form) {
+    const cycles = wholeDuration(text.trim().split(/\s+/));
+    return cycles > 0 ? cycles : fail(form);
+  }
+}
+
+/**
+ * Two times, with or without a word between them.
+ * @param {string[]} words
+ * @param {string} form
+ */
+function twoTimes(words, form) {
+  const first = durationOf(words, 0);
+  const rest = words.slice(first.words).filter((word, index) => index > 0 || word !== "to");
+  const second = wholeDuration(rest);
+  if (first.cycles === 0 || second === 0) fail(form);
+  return [first.cycles, second];
+}
+
+
+/**
+ * The lines that say what may be changed, and how.
+ * @type {Record<string, (reader: Reader, words: string[]) => void>}
+ */
+const SETTINGS = {
+  press: (reader, words) => {
+    if (words.length === 0) fail(say.PRESS_FORM);
+    for (const word of words) reader.add(reader.input(word));
+  },
+  test: (reader, words) => {
+    if (words.length > 0) fail(say.TEST_FORM);
+    reader.add(pinOf(reader.names.face));
+  },
+  reset: (reader, words) => {
+    if (words.length > 0) fail(say.RESET_FORM);
+    reader.canReset = true;
+  },
+  together: (reader, words) => {
+    if (words.length !== 1 || !/^[1-9]\d?$/.test(words[0])) fail(say.TOGETHER_FORM);
+    reader.together = Number(words[0]);
+  },
+  wait: (reader, words) => {
+    [reader.shortest, reader.longest] = twoTimes(words, say.WAIT_FORM);
+    // A wait is one run.
+    if (reader.longest > LONGEST_RUN || reader.shortest > reader.longest) fail(say.WAIT_FORM);
+  },
+  held: (reader, words) => {
+    const form = say.HELD_FORM;
+    if (words[0] !== "at" || words[1] !== "most") fail(form);
+    reader.held = reader.time(words.slice(2).join(" "), form);
+  },
+  apart: (reader, words) => {
+    const form = say.APART_FORM;
+    if (words[0] !== "at" || words[1] !== "least") fail(form);
+    reader.apart = reader.time(words.slice(2).join(" "), form);
+  },
+  from: (reader, words) => {
+    const [state, of, ...file] = words;
+    if (!state || (words.length > 1 && (of !== "of" || file.length === 0))) {
+      fail(say.FROM_FORM);
+    }
+    if (reader.from) fail(say.FROM_ALREADY);
+    reader.from = { state, file: file.join(" ") };
+  },
+  begin: (reader, words) => {
+    const form = say.BEGIN_FORM;
+    if (words[0] !== "after") fail(form);
+    reader.begin = reader.time(words.slice(1).join(" "), form);
+  },
+  pace: (reader, words) => {
+    const form = say.PACE_FORM;
+    [reader.down, reader.up] = twoTimes(words, form);
+  },
+  note: (reader, words) => {
+    if (words.length === 0) fail(say.NOTE_FORM);
+    for (const word of words) reader.notes.push(placeOfNote(reader, word));
+    if (reader.notes.length > MOST_NOTES) fail(say.mostNoted(MOST_NOTES));
+  },
+};
+
+/**
+ * A place of `trace` that the board has.
+ * @param {Reader} reader
+ * @param {string} word
+ */
+function placeOfNote(reader, word) {
+  if (/^(lamps|src|ret)$/.test(word)) return word;
+  if (word === "pc") fail(say.NOT_PC);
+  const value = /^chain\d+$/.test(word) ? "?".repeat(10 * (reader.names.board.chains[Number(word.slice(5))] || { chips: 1 }).chips) : "0";
+  const way = /^rom\d+$/.test(word) ? "in " : /^ram\d+\.\d+$/.test(word) ? "out " : "";
+  const { places } = reader.condition(`${word} ${way}${value}`);
+  return places[0] || fail(say.noTrace(word));
+}
+
+/** `lamp open on for 1.1 s`: the condition, and how long it holds. */
+const FOR = /^(.*) for (\S+(?: \S+)?)$/;
+
+/**
+ * The lines that say what must hold, by their first words.
+ * @type {Record<string, (reader: Reader, rest: string, text: string) => Property>}
+ */
+const PROPERTIES = {
+  never: (reader, rest, text) => {
+    const [, condition, time] = FOR.exec(rest) || ["", rest, ""];
+    if (condition === "") fail(say.NEVER_FORM);
+    return time ? neverFor(text, reader.condition(condition), reader.time(time, say.FOR_FORM))
+      : never(text, reader.condition(condition));
+  },
+  always: (reader, rest, text) => always(text, reader.condition(rest)),
+  at: (reader, rest, text) => {
+    const [word, ...words] = rest.split(" ");
+    if (words.length === 0) fail(say.AT_FORM);
+    return at(text, reader.condition(words.join(" ")), reader.label(word));
+  },
+  after: (reader, rest, text) => {
+    const form = say.AFTER_FORM;
+    const found = /^press (\S+) within (.*)$/.exec(rest);
+    if (!found) fail(form);
+    const [, key, said] = /** @type {RegExpExecArray} */ (found);
+    const words = said.split(" ");
+    const { cycles, words: count } = durationOf(words, 0);
+    if (cycles === 0 || words.length === count) fail(form);
+    return afterPress(text, reader.input(key).name, reader.condition(words.slice(count).join(" ")), cycles);
+  },
+  every: (reader, rest, text) => {
+    const form = say.EVERY_FORM;
+    const words = rest.split(" ");
+    if (words.length < 2) fail(form);
+    return every(text, reader.label(words[words.length - 1]), reader.time(words.slice(0, -1).join(" "), form));
+  },
+  reach: (reader, rest, text) => {
+    if (/^@\S+$/.test(rest)) return reachAt(text, reader.label(rest));
+    const line = /^line (\d+)$/.exec(rest);
+    if (!line) return reach(text, reader.condition(rest));
+    const there = reader.instructions.find((each) => each.line === Number(line[1]));
+    return there ? reachAt(text, there.address) : fail(say.noInstructionIn(line[1]));
+  },
+  model: (reader, rest, text) => {
+    if (reader.command) fail(say.MODEL_ALREADY);
+    if (rest === "") fail(say.MODEL_FORM);
+    if (!reader.names.face.groups.some(({ kind }) => kind === "display")) {
+      fail(NO_DISPLAY);
+    }
+    if (hasScannedDisplay(reader.names.face)) {
+      fail(say.LIT_BY_TURNS);
+    }
+    reader.command = rest;
+    return model(text);
+  },
+};
+
+const ONLY_AFTER = /^(.+) only after (.+)$/;
+const ONCE = /^(@\S+) at most once for each press$/;
+
+/**
+ * @param {Reader} reader
+ * @param {string} text of a line
+ * @returns {Property | null} null for a line that is a setting
+ */
+function lineOf(reader, text) {
+  const after = ONLY_AFTER.exec(text);
+  if (after) {
+    const keys = after[2].split(/ *, */).map((each) => (/^press (\S+)$/.exec(each)
+      || fail(say.ONLY_AFTER_FORM))[1]);
+    return onlyAfter(text, reader.condition(after[1]), keys.map((key) => reader.input(key).name));
+  }
+  const label = ONCE.exec(text);
+  if (label) return once(text, reader.label(label[1]));
+  const [kind, ...words] = text.split(" ");
+  if (Object.prototype.hasOwnProperty.call(PROPERTIES, kind)) return PROPERTIES[kind](reader, words.join(" "), text);
+  if (!Object.prototype.hasOwnProperty.call(SETTINGS, kind)) fail(say.noForm(kind.slice(0, 30), say.FORMS));
+  SETTINGS[kind](reader, words);
+  return null;
+}
+
+/**
+ * A model is asked about keys.
+ * @param {Reader} reader
+ */
+function hasKeysForModel({ command, inputs }) {
+  return command === "" || inputs.some(({ isKey }) => isKey);
+}
+
+/**
+ * Where nothing is said of what may be pressed, that is all that the face has.
+ * @param {Reader} reader
+ * @param {string} text
+ */
+function complete(reader, text) {
+  const { face } = reader.names;
+  if (!/^[ \t]*(press|test)\b/m.test(text)) {
+    for (const input of keysOf(face)) reader.add(input);
+    if (face.test) reader.add(pinOf(face));
+  }
+  if (reader.notes.length === 0) reader.notes.push("lamps");
+  return reader.inputs.length > 0 || reader.canReset;
+}
+
+
+/**
+ * Reads a text of properties.
+ * @param {string} text
+ * @param {Subject} subject
+ * @returns {{ campaign: Campaign, faults: Fault[] }}
+ */
+export function readCampaign(text, subject) {
+  const reader = new Reader(subject);
+  /** @type {Fault[]} */
+  const faults = [];
+  let fromLine = 0;
+  text.replace(/^\uFEFF/, "").split(/\r?\n/).forEach((whole, index) => {
+    const line = whole.trim().replace(/\s+/g, " ");
+    if (line === "" || /^[#;]/.test(line)) return;
+    try {
+      const property = lineOf(reader, line);
+      if (reader.from && fromLine === 0) fromLine = index + 1;
+      if (property) reader.properties.push({ ...property, line: index + 1 });
+    } catch (fault) {
+      if (!(fault instanceof Unreadable)) throw fault;
+      faults.push({ line: index + 1, words: fault.message });
+    }
+  });
+  const last = Math.max(1, text.trimEnd().split("\n").length);
+  if (!complete(reader, text) && faults.length === 0) faults.push({ line: last, words: say.NOTHING_CHANGES });
+  if (faults.length === 0 && !hasKeysForModel(reader)) {
+    const { line } = reader.properties.find(({ form }) => form === "model") || { line: 1 };
+    faults.push({ line, words: say.MODEL_NEEDS_KEYS });
+  }
+  const { inputs, together, canReset, shortest, longest, held, apart, begin, down, up, notes, properties, command } = reader;
+  const campaign = { inputs, together, canReset, shortest, longest, held, apart, begin, down, up, notes, command,
+    from: reader.from && { ...reader.from, line: fromLine }, before: [], calls: { least: 0, most: 0 },
+    properties: [...properties, ...alwaysOn()] };
+  return { campaign, faults };
+}

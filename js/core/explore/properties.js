@@ -1,0 +1,270 @@
+// Properties: what must hold whatever is pressed, and when. Each one is told what happens on a walk, in the order of time, and tells when
+// it is broken (a goal: when it is reached). What it remembers of a walk is a list of numbers, so that a walk can go on from a state
+// that was kept.
+
+import * as say from "../../words/explore.js";
+
+/**
+ * @typedef {import("../debug/conditions.js").Condition} Condition
+ * @typedef {import("./inputs.js").Input} Input
+ *
+ * What happens: `values` are what the condition looks at, now; `label`: the counter comes to the address; `down`: an input goes down;
+ * `reset`; `end`: a wait is over; `call` and `return`: a subroutine's.
+ * @typedef {"values" | "label" | "down" | "reset" | "end" | "call" | "return"} Event
+ * @typedef {{ time: number, holds: boolean, input: string, isDown: number }} Moment cycles from power-on; whether the condition holds now;
+ *   the input that goes down; how many are down
+ *
+ * `from` begins a memory; `see` gives the time at which the property is broken, -1 where it is not; `mark` is what of its memory makes a
+ * state new; `address` is that of its label, -1 without one; `form` is what a test has to say of it.
+ * @typedef {{ form: Form, text: string, line: number, condition: Condition | null, address: number, limit: number, isGoal: boolean,
+ *   keys: string[], from: (time: number, isDown: number) => number[], see: (memory: number[], event: Event, moment: Moment) => number,
+ *   mark: (memory: number[]) => string, applies: (memory: number[]) => boolean }} Property
+ * @typedef {"never" | "always" | "never for" | "at" | "only after" | "every" | "after press" | "once" | "reach" | "reach at" | "model"
+ *   | "code" | "calls" | "returns"} Form
+ */
+
+const NOT = -1;
+/** The 4004 keeps three return addresses. */
+const DEEPEST = 3;
+
+/** @type {Pick<Property, "line" | "condition" | "address" | "limit" | "isGoal" | "keys" | "from" | "see" | "mark" | "applies">} */
+const PLAIN = {
+  line: 0, condition: null, address: NOT, limit: 0, isGoal: false, keys: [], from: () => [], see: () => NOT, mark: () => "",
+  applies: () => true,
+};
+
+/**
+ * A condition that is a lone label is told by the counter: it holds whenever the counter comes there.
+ * @param {Condition} condition
+ * @returns {Pick<Property, "condition" | "address">}
+ */
+function lookedAt(condition) {
+  return condition.address >= 0 ? { condition: null, address: condition.address } : { condition, address: NOT };
+}
+
+/**
+ * Whether a condition begins to hold, or is told to hold once more.
+ * @param {Event} event
+ * @param {Moment} moment
+ */
+const comes = (event, { holds }) => event === "label" || (event === "values" && holds);
+
+/** @type {Property["see"]} */
+const whereHolds = (_, event, moment) => (comes(event, moment) ? moment.time : NOT);
+/** @type {Property["see"]} */
+const whereFails = (_, event, { time, holds }) => (event === "values" && !holds ? time : NOT);
+
+/**
+ * @param {string} text
+ * @param {Condition} condition
+ * @returns {Property}
+ */
+export function never(text, condition) {
+  return { ...PLAIN, form: "never", text, ...lookedAt(condition), see: whereHolds };
+}
+
+/**
+ * @param {string} text
+ * @param {Condition} condition
+ * @returns {Property}
+ */
+export function always(text, condition) {
+  return { ...PLAIN, form: "always", text, condition, see: whereFails };
+}
+
+/**
+ * The condition never holds for so many cycles on end. It remembers since when it holds.
+ * @param {string} text
+ * @param {Condition} condition
+ * @param {number} limit
+ * @returns {Property}
+ */
+export function neverFor(text, condition, limit) {
+  return {
+    ...PLAIN, form: "never for", text, condition, limit, from: () => [NOT],
+    see: (memory, event, { time, holds }) => {
+      const [since] = memory;
+      if (event === "reset") memory[0] = NOT;
+      else if (since !== NOT && time - since >= limit) return since + limit;
+      else if (event === "values" && (since === NOT) === holds) memory[0] = holds ? time : NOT;
+      return NOT;
+    },
+  };
+}
+
+/**
+ * The condition holds whenever the counter comes to a label. It remembers whether it came there.
+ * @param {string} text
+ * @param {Condition} condition
+ * @param {number} address
+ * @returns {Property}
+ */
+export function at(text, condition, address) {
+  return {
+    ...PLAIN, form: "at", text, condition, address, from: () => [0], applies: ([came]) => came > 0,
+    see: (memory, event, { time, holds }) => {
+      if (event !== "label") return NOT;
+      memory[0] = 1;
+      return holds ? NOT : time;
+    },
+  };
+}
+
+/**
+ * The condition begins to hold only after these presses, in this order, since it held last. It remembers how many came, whether it holds,
+ * and whether it ever did.
+ * @param {string} text
+ * @param {Condition} condition
+ * @param {string[]} keys
+ * @returns {Property}
+ */
+export function onlyAfter(text, condition, keys) {
+  return {
+    ...PLAIN, form: "only after", text, ...lookedAt(condition), keys, from: () => [0, 0, 0], applies: ([, , ever]) => ever > 0,
+    mark: ([came]) => `${came}`,
+    see: (memory, event, moment) => {
+      if (event === "reset") memory.fill(0, 0, 2);
+      else if (event === "down" && moment.input === keys[memory[0]]) memory[0] += 1;
+      else if (comes(event, moment)) {
+        if (!memory[1] && memory[0] < keys.length) return moment.time;
+        memory[1] = memory[2] = 1;
+        // The counter goes on from a label at once.
+        if (event === "label") memory.fill(0, 0, 2);
+      } else if (event === "values" && memory[1]) memory.fill(0, 0, 2);
+      return NOT;
+    },
+  };
+}
+
+/**
+ * The counter comes to a label again and again, each time within so many cycles. It remembers when it was there last.
+ * @param {string} text
+ * @param {number} address
+ * @param {number} limit
+ * @returns {Property}
+ */
+export function every(text, address, limit) {
+  return {
+    ...PLAIN, form: "every", text, address, limit, from: (time) => [time],
+    see: (memory, event, { time }) => {
+      if (event !== "reset" && time - memory[0] > limit) return memory[0] + limit;
+      if (event === "label" || event === "reset") [memory[0]] = [time];
+      return NOT;
+    },
+  };
+}
+
+/**
+ * Once an input went down, the condition holds within so many cycles. It remembers since when that is waited for, and whether it was.
+ * @param {string} text
+ * @param {string} key
+ * @param {Condition} condition
+ * @param {number} limit
+ * @returns {Property}
+ */
+export function afterPress(text, key, condition, limit) {
+  return {
+    ...PLAIN, form: "after press", text, ...lookedAt(condition), limit, keys: [key], from: () => [NOT, 0, 0],
+    applies: ([, ever]) => ever > 0,
+    see: (memory, event, moment) => {
+      const [since] = memory;
+      const { time, holds, input } = moment;
+      if (event === "values") memory[2] = holds ? 1 : 0;
+      if (event === "reset" || (since !== NOT && comes(event, moment) && time <= since + limit)) memory[0] = NOT;
+      else if (since !== NOT && time > since + limit) return since + limit;
+      if (event === "down" && input === key) {
+        memory[1] = 1;
+        if (memory[0] === NOT && !memory[2]) [memory[0]] = [time];
+      }
+      return NOT;
+    },
+  };
+}
+
+/**
+ * The counter comes to a label at most once for each press. It remembers how many presses are left, and whether it came there.
+ * @param {string} text
+ * @param {number} address
+ * @returns {Property}
+ */
+export function once(text, address) {
+  return {
+    ...PLAIN, form: "once", text, address, from: (_, isDown) => [isDown, 0], applies: ([, came]) => came > 0,
+    see: (memory, event, { time, isDown }) => {
+      if (event === "reset") memory[0] = isDown;
+      else if (event === "down") memory[0] += 1;
+      else if (event === "label") {
+        memory[1] = 1;
+        memory[0] -= 1;
+        if (memory[0] < 0) return time;
+      }
+      return NOT;
+    },
+  };
+}
+
+/**
+ * A goal: a condition that can come to hold.
+ * @param {string} text
+ * @param {Condition} condition
+ * @returns {Property}
+ */
+export function reach(text, condition) {
+  return { ...PLAIN, form: "reach", text, condition, isGoal: true, see: whereHolds };
+}
+
+/**
+ * A goal: an address that the counter can come to.
+ * @param {string} text
+ * @param {number} address
+ * @returns {Property}
+ */
+export function reachAt(text, address) {
+  return { ...PLAIN, form: "reach at", text, address, isGoal: true, see: (_, event, { time }) => (event === "label" ? time : NOT) };
+}
+
+/**
+ * What a command says the display has to show; it is not told what happens.
+ * @param {string} text
+ * @returns {Property}
+ */
+export function model(text) {
+  return { ...PLAIN, form: "model", text };
+}
+
+/**
+ * How deep the calls are, kept in a memory of one number.
+ * @param {number[]} memory
+ * @param {Event} event
+ */
+function countCalls(memory, event) {
+  if (event === "reset") memory[0] = 0;
+  else if (event === "call") memory[0] += 1;
+  else if (event === "return") memory[0] -= 1;
+}
+
+/**
+ * What no program should do.
+ * @returns {Property[]}
+ */
+export function alwaysOn() {
+  return [
+    { ...PLAIN, form: "code", text: say.NO_OTHER_CODE },
+    {
+      ...PLAIN, form: "calls", text: say.NO_FOURTH_CALL, from: () => [0],
+      see: (memory, event, { time }) => {
+        countCalls(memory, event);
+        return memory[0] > DEEPEST ? time : NOT;
+      },
+    },
+    {
+      ...PLAIN, form: "returns", text: say.NO_LONE_RETURN, from: () => [0],
+      see: (memory, event, { time }) => {
+        countCalls(memory, event);
+        // A fourth call is told by itself: what comes back from it is another question.
+        memory[0] = Math.min(memory[0], DEEPEST);
+        return memory[0] < 0 ? time : NOT;
+      },
+    },
+  ];
+}

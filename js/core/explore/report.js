@@ -1,0 +1,159 @@
+// What a search has come to, and its output as TAP. Reports of searches with other seeds, by other processes or machines, are joined.
+
+import { counted } from "../bench/numbers.js";
+import { Coverage } from "./coverage.js";
+import { andMore } from "../../words/debug.js";
+import * as say from "../../words/explore.js";
+
+/**
+ * @typedef {import("./properties.js").Property} Property
+ * @typedef {import("./subject.js").Instruction} Instruction
+ *
+ * A find: its test, how many steps it has, how many cycles pass, and the seed by which it was found.
+ * @typedef {{ test: string, steps: number, cycles: number, seed: number }} Found
+ *
+ * A property, as it is told: `states` are how many states there are, where all of them were seen and it holds in each, else 0; `chains`
+ * are those of keys that a model was asked about.
+ * @typedef {{ text: string, line: number, isGoal: boolean, applied: boolean, states: number, chains: number, found: Found | null }} Told
+ *
+ * @typedef {{ form: "explore 1", names: { board: string, program: string, properties: string }, sums: string, properties: Told[],
+ *   seeds: number[], steps: number, states: number, seconds: number, covered: string, instructions: Instruction[],
+ *   isStopped: boolean }} Report
+ */
+
+/** @param {number} number */
+export const grouped = (number) => Math.round(number).toLocaleString("en");
+
+/**
+ * `1 step`, `1,204 steps`.
+ * @param {number} count
+ */
+export const stepsOf = (count) => counted(count, "step");
+
+/**
+ * The shorter one of two finds, by steps and then by time.
+ * @param {Found | null} one
+ * @param {Found | null} other
+ */
+function shorterOf(one, other) {
+  if (!one || !other) return one || other;
+  return one.steps < other.steps || (one.steps === other.steps && one.cycles <= other.cycles) ? one : other;
+}
+
+/**
+ * Joins reports of one campaign. Those of others are refused, by an empty answer.
+ * @param {Report[]} reports
+ * @returns {Report | null}
+ */
+export function joinReports(reports) {
+  const [first, ...others] = reports;
+  if (others.some(({ sums }) => sums !== first.sums)) return null;
+  const coverage = new Coverage();
+  for (const { covered } of reports) coverage.join(new Coverage(covered));
+  /** @type {(read: (report: Report) => number) => number} */
+  const sumOf = (read) => reports.reduce((sum, report) => sum + read(report), 0);
+  return {
+    ...first, covered: coverage.text, seeds: reports.flatMap(({ seeds }) => seeds),
+    steps: sumOf(({ steps }) => steps), seconds: sumOf(({ seconds }) => seconds),
+    states: Math.max(...reports.map(({ states }) => states)), isStopped: reports.some(({ isStopped }) => isStopped),
+    properties: first.properties.map((property, at) => {
+      const all = reports.map(({ properties }) => properties[at]);
+      return {
+        ...property, applied: all.some(({ applied }) => applied), states: Math.max(...all.map(({ states }) => states)),
+        chains: all.reduce((sum, { chains }) => sum + chains, 0),
+        found: all.map(({ found }) => found).reduce(shorterOf, null),
+      };
+    }),
+  };
+}
+
+/** @param {Told} property */
+export function isRight({ isGoal, found }) {
+  return isGoal === (found !== null);
+}
+
+/**
+ * What stands behind a property.
+ * @param {Told} property
+ * @param {Report} report
+ */
+export function remarkOf({ isGoal, applied, states, chains, found }, report) {
+  if (found) return `${isGoal ? "reached" : "broken"}, ${stepsOf(found.steps)}`;
+  if (states > 0) return isGoal ? say.neverInAll(grouped(states)) : say.holdsForAll(grouped(states));
+  if (chains > 0) return say.chainsOfKeys(grouped(chains));
+  return applied ? say.stepsAndStates(grouped(report.steps), grouped(report.states)) : say.NEVER_LOOKED_AT;
+}
+
+/**
+ * The line that a property stands at, with its file.
+ * @param {Told} property
+ * @param {Report} report
+ */
+export function lineOfProperty({ line }, { names }) {
+  return line > 0 ? `${names.properties}:${line}` : names.properties;
+}
+
+/** @param {string} text */
+const quoted = (text) => `"${text.replace(/\\/g, "\\\\").replace(/"/g, '\\"')}"`;
+
+/**
+ * The lines of a property.
+ * @param {Told} property
+ * @param {number} at
+ * @param {Report} report
+ */
+function linesOf(property, at, report) {
+  const { text, found } = property;
+  const name = text.replace(/\\/g, "\\\\").replace(/#/g, "\\#");
+  const lines = [`${isRight(property) ? "" : "not "}ok ${at + 1} - ${name} # ${remarkOf(property, report)}`];
+  if (!found) return lines;
+  const how = property.isGoal ? "reached" : "broken";
+  const words = say.foundBy(how, stepsOf(found.steps), grouped(found.cycles), found.seed);
+  lines.push("  ---", `  message: ${quoted(words)}`, `  at: ${quoted(lineOfProperty(property, report))}`, "  test: |");
+  return [...lines, ...found.test.trimEnd().split("\n").map((line) => `    ${line}`), "  ..."];
+}
+
+/** Lines are told up to so many. */
+const MOST_LINES = 40;
+
+/** @param {number[]} lines */
+function listed(lines) {
+  const more = lines.length - MOST_LINES;
+  return `${say.linesAre(lines.length, lines.slice(0, MOST_LINES).join(" "))}${more > 0 ? andMore(more) : ""}`;
+}
+
+/**
+ * What was run.
+ * @param {Report} report
+ */
+export function coverageLines({ covered, instructions }) {
+  const { run, all, ways, allWays, left, oneWay } = new Coverage(covered).summary(instructions);
+  const lines = [say.covered(say.partOf(run, all), say.partOf(ways, allWays))];
+  if (left.length > 0) lines.push(say.neverRun(listed(left)));
+  if (oneWay.length > 0) lines.push(say.alwaysOneWay(listed(oneWay)));
+  return lines;
+}
+
+/**
+ * @param {Report} report
+ */
+export function tapOf(report) {
+  const { properties, seeds, steps, seconds, states, isStopped } = report;
+  const lines = ["TAP version 13", `1..${properties.length}`];
+  properties.forEach((property, at) => lines.push(...linesOf(property, at, report)));
+  const rate = seconds > 0 ? say.aSecond(grouped(steps / seconds)) : "";
+  lines.push(...coverageLines(report).map((line) => `# ${line}`));
+  lines.push(say.figures(seeds, grouped(steps), seconds.toFixed(1), rate, grouped(states), isStopped));
+  return `${lines.join("\n")}\n`;
+}
+
+/**
+ * The tests of all finds, with where each comes from.
+ * @param {Report} report
+ */
+export function testsOfReport(report) {
+  const { names: { board, program } } = report;
+  const found = report.properties.filter((property) => property.found);
+  const head = say.foundByTool(board, program);
+  return head + found.map((property) => `\n# ${lineOfProperty(property, report)}\n${property.found ? property.found.test : ""}`).join("");
+}

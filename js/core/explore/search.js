@@ -1,0 +1,418 @@
+// The search: walks from states that were kept. Most of them are only looked at after each change. One that shows something new is counted;
+// it is looked at instruction by instruction where it runs something for the first time, where a property has to know more than that, or
+// seems broken, and so is one of some others.
+
+import { countWalk, followsFromLooks } from "./counting.js";
+import { Coverage } from "./coverage.js";
+import { KeptFiles } from "./kept_files.js";
+import { Looks } from "./looks.js";
+import { Told } from "./places.js";
+import { chooseStep, downAfter, downAtFirst, lineOf, linesOf, randomFrom } from "./walks.js";
+import { sinceAfter, sinceAtFirst, upToRandom } from "./walks.js";
+import { Watcher } from "./watching.js";
+import { MOST_ON } from "../debug/breakpoints.js";
+import { LONGEST_RUN, runLines } from "../engine/key_queue.js";
+
+/**
+ * @typedef {import("./campaign.js").Campaign} Campaign
+ * @typedef {import("./properties.js").Property} Property
+ * @typedef {import("./subject.js").Subject} Subject
+ * @typedef {import("./walks.js").WalkStep} WalkStep
+ * @typedef {import("./kept_files.js").KeptFile} KeptFile
+ *
+ * A state that was kept, with the steps that lead to it from another one, and how often the search went on from it.
+ * @typedef {{ kept: KeptFile, time: number, down: number[], since: number[], memories: number[][], parent: State | null, steps: WalkStep[],
+ *   depth: number, picked: number }} State `since` is how many cycles ago each input was changed
+ *
+ * What broke a property (or reached a goal): its number, the steps from power-on that were done before, and when it came.
+ * @typedef {{ property: number, steps: WalkStep[], time: number }} Find
+ *
+ * How a state looks after a step: the values of what is noted, and whether conditions hold, in the order of properties.
+ * @typedef {{ notes: string, holds: boolean[] }} Look
+ */
+
+const LONGEST_WALK = 16;
+/** A state is so many steps from power-on at most. */
+const DEEPEST = 120;
+const MOST_STATES = 20000;
+const MOST_LOOKS = 200000;
+/** One of so many walks is looked at instruction by instruction though it showed nothing new. */
+const WATCHED = 32;
+/** Of so many states that come into question the one is taken from which the search went on least often. */
+const CANDIDATES = 3;
+/** Half of all walks begin at one of the states that were kept last. */
+const LAST_STATES = 6;
+
+export class Search {
+  /**
+   * @param {Subject} subject
+   * @param {Campaign} campaign
+   * @param {number} seed
+   */
+  constructor(subject, campaign, seed) {
+    this.subject = subject;
+    this.campaign = campaign;
+    this.random = randomFrom(seed);
+    this.coverage = new Coverage();
+    this.watcher = new Watcher(subject, campaign, this.coverage);
+    const looked = campaign.properties.flatMap(({ condition }) => (condition ? condition.places : []));
+    this.places = new Looks([...campaign.notes, ...looked], subject.names.board);
+    this.notes = this.places.indexes(campaign.notes);
+    this.indexes = campaign.properties.map(({ condition }) => (condition ? this.places.indexes(condition.places) : []));
+    /** @type {number[]} the properties that are not broken so far */
+    this.open = campaign.properties.flatMap(({ form }, at) => (form === "model" ? [] : [at]));
+    /** @type {Set<number>} those that applied to something */
+    this.applied = new Set();
+    this.steps = 0;
+    this.walks = 0;
+    /** @type {Map<string, Look>} what rows of values say */
+    this.looks = new Map();
+    /** @type {Set<string>} */
+    this.seen = new Set();
+    /** Where all is begun with. */
+    this.start = this.startOf();
+    this.files = new KeptFiles(this.start.file);
+    const { file, time, down, memories } = this.start;
+    /** @type {State[]} */
+    this.states = [{ kept: this.files.keep(file), time, down, since: sinceAtFirst(campaign), memories, parent: null, steps: [], depth: 0,
+      picked: 0 }];
+  }
+
+  /** How many states were told apart. */
+  get stateCount() {
+    return this.seen.size;
+  }
+
+  /** @returns {import("./watching.js").Start} */
+  startOf() {
+    const { subject, campaign: { begin, properties } } = this;
+    const file = subject.file.slice();
+    const down = downAtFirst(this.campaign);
+    const { least, most } = this.campaign.calls;
+    const memories = properties.map(({ from, form }) => (
+      form === "calls" ? [least] : form === "returns" ? [most] : from(begin, down.length)));
+    if (begin > 0) {
+      subject.engine.serve(file, runLines(begin), file);
+      this.countCalls(memories);
+    }
+    return { file, time: begin, down, memories };
+  }
+
+  /**
+   * How many calls are open where all is begun with.
+   * @param {number[][]} memories
+   */
+  countCalls(memories) {
+    const { watcher, campaign: { begin }, subject: { file } } = this;
+    /** @type {WalkStep[]} */
+    const steps = [];
+    for (let left = begin; left > 0; left -= LONGEST_RUN) steps.push({ wait: Math.min(left, LONGEST_RUN), kind: "none", input: -1 });
+    const begun = memories.map((memory, at) => (watcher.calls.includes(at) ? memory : memory.map(() => 0)));
+    const start = { file, time: 0, down: [], memories: begun };
+    const { after } = watcher.watch(start, steps, []);
+    const last = after[after.length - 1];
+    for (const at of watcher.calls) memories[at] = last ? last.memories[at] : [0];
+  }
+
+  /**
+   * Walks for so many milliseconds, or until something is found.
+   * @param {number} milliseconds
+   * @returns {Find | null}
+   */
+  walkFor(milliseconds) {
+    const end = performance.now() + milliseconds;
+    do {
+      const find = this.walk();
+      if (find) return find;
+    } while (performance.now() < end);
+    return null;
+  }
+
+  /** @returns {Find | null} */
+  walk() {
+    const state = this.pick();
+    const steps = this.chooseSteps(state);
+    this.walks += 1;
+    this.steps += steps.length;
+    const file = this.fileOf(state);
+    const { fresh, isSuspect, looks } = this.look(file, state, steps);
+    const isWhole = isSuspect || this.walks % WATCHED === 1;
+    if (fresh.length === 0 && !isWhole) return null;
+    const start = { ...state, file };
+    const { broken, after } = isWhole ? this.watcher.watch(start, steps, this.open) : this.goAgain(start, steps, fresh, looks);
+    if (after.length > 0) this.note(after[after.length - 1].memories);
+    after.forEach(({ isNew }, at) => {
+      if (isNew && !fresh.includes(at)) fresh.push(at);
+    });
+    this.keep(state, file, steps, after, fresh.filter((at) => at < after.length).sort((one, other) => one - other));
+    if (!broken) return null;
+    return { property: broken.property, steps: [...pathOf(state), ...steps.slice(0, broken.step)], time: broken.time };
+  }
+
+  /**
+   * Goes along a walk once more, up to the last state that is new: what comes after it was looked at already. Where that is enough, it is
+   * counted; a walk that runs something for the first time is watched.
+   * @param {import("./watching.js").Start} start
+   * @param {WalkStep[]} steps
+   * @param {number[]} fresh the steps after which something is new; those that run something for the first time come to them
+   * @param {Look[]} looks
+   */
+  goAgain(start, steps, fresh, looks) {
+    const { campaign: { properties }, open, watcher } = this;
+    const part = steps.slice(0, Math.max(...fresh) + 1);
+    if (followsFromLooks(properties, open, fresh.map((at) => looks[at].holds))) {
+      const after = countWalk(this, start, part);
+      const ran = [...after.keys()].filter((at) => after[at].isNew);
+      if (ran.length === 0) return { broken: null, after };
+      for (const at of ran) if (!fresh.includes(at)) fresh.push(at);
+    }
+    return watcher.watch(start, part, open);
+  }
+
+  /** @param {State} state */
+  fileOf(state) {
+    return this.files.file(state.kept);
+  }
+
+  /** @param {number[][]} memories */
+  note(memories) {
+    memories.forEach((memory, at) => {
+      if (this.campaign.properties[at].applies(memory)) this.applied.add(at);
+    });
+  }
+
+  pick() {
+    const { states, random } = this;
+    const isLast = random() < 0.5;
+    let found = null;
+    for (let tries = 0; tries < CANDIDATES; tries++) {
+      const back = Math.floor(-Math.log(1 - random()) * LAST_STATES);
+      const state = states[isLast ? Math.max(0, states.length - 1 - back) : upToRandom(random, states.length)];
+      if (!found || state.picked < found.picked) found = state;
+    }
+    const state = /** @type {State} */ (found);
+    state.picked += 1;
+    return state;
+  }
+
+  /** @param {State} state */
+  chooseSteps(state) {
+    const steps = [];
+    let now = state.down;
+    let { since } = state;
+    for (let left = 1 + upToRandom(this.random, LONGEST_WALK); left > 0; left--) {
+      const step = chooseStep(this.campaign, now, since, this.random);
+      since = sinceAfter(since, step);
+      now = downAfter(now, step);
+      steps.push(step);
+    }
+    return steps;
+  }
+
+  /** The numbers of the open properties that are about labels. */
+  get ofLabels() {
+    return this.open.filter((at) => this.campaign.properties[at].address >= 0);
+  }
+
+  /**
+   * The labels at which a property may be broken, whatever came before: a run stops there. At most 32, as many as the bench takes.
+   * @returns {number[]}
+   */
+  get stops() {
+    const { properties } = this.campaign;
+    return [...new Set(this.ofLabels.map((at) => properties[at]).filter(stopsAtLabel).map(({ address }) => address))].slice(0, MOST_ON);
+  }
+
+  /**
+   * Looks at a walk after each of its changes: after which steps something is new, and whether a property seems to be broken.
+   * @param {Uint8Array} file
+   * @param {State} state
+   * @param {WalkStep[]} steps
+   */
+  look(file, state, steps) {
+    const { campaign, places, ofLabels, stops } = this;
+    const counts = ofLabels.some((at) => !stops.includes(campaign.properties[at].address));
+    const lines = steps.map((step) => (
+      `${counts ? `count ${step.wait}\n` : ""}run ${step.wait}\n${lineOf(campaign, step)}${places.lines}`)).join("");
+    const told = new Told(this.subject.engine.ask(file, stops.map((address) => `break ${address}\n`).join("") + lines).answers);
+    told.skip(stops.length);
+    /** @type {number[]} */
+    const fresh = [];
+    /** @type {Look[]} */
+    const looks = [];
+    const seem = new Seeming(this, state);
+    for (const [at, step] of steps.entries()) {
+      const begun = counts ? told.counts() : [];
+      if (told.takeRun().end !== "end") return { fresh, isSuspect: true, looks };
+      if (step.kind !== "none") told.skip(1);
+      const look = this.lookOf(places.row(told));
+      looks.push(look);
+      if (seem.isBroken(step, look, begun)) return { fresh, isSuspect: true, looks };
+      if (this.coverage.add(begun)) fresh.push(at);
+      if (this.isNew(look, seem.marks) && !fresh.includes(at)) fresh.push(at);
+    }
+    return { fresh, isSuspect: false, looks };
+  }
+
+  /**
+   * @param {string} row
+   * @returns {Look}
+   */
+  lookOf(row) {
+    const known = this.looks.get(row);
+    if (known) return known;
+    const values = row.split(" ");
+    const look = {
+      notes: this.notes.map((at) => values[at]).join(" "),
+      holds: this.campaign.properties.map(({ condition }, at) => (
+        condition !== null && condition.holds(this.indexes[at].map((each) => values[each])))),
+    };
+    if (this.looks.size >= MOST_LOOKS) this.looks.clear();
+    this.looks.set(row, look);
+    return look;
+  }
+
+  /**
+   * @param {Look} look
+   * @param {string} marks
+   */
+  isNew({ notes }, marks) {
+    const key = `${notes}${marks}`;
+    if (this.seen.has(key)) return false;
+    this.seen.add(key);
+    return true;
+  }
+
+  /**
+   * Keeps the states after some steps of a walk.
+   * @param {State} state
+   * @param {Uint8Array} file
+   * @param {WalkStep[]} steps
+   * @param {import("./watching.js").After[]} after
+   * @param {number[]} fresh
+   */
+  keep(state, file, steps, after, fresh) {
+    let [from, parent] = [0, state];
+    for (const at of fresh) {
+      if (this.states.length >= MOST_STATES || state.depth + at >= DEEPEST) return;
+      const part = steps.slice(from, at + 1);
+      this.subject.engine.serve(file, linesOf(this.campaign, part), file);
+      const { time, down, memories } = after[at];
+      const since = part.reduce(sinceAfter, parent.since);
+      parent = { kept: this.files.keep(file), time, down, since, memories, parent, steps: part,
+        depth: state.depth + at + 1, picked: 0 };
+      this.states.push(parent);
+      from = at + 1;
+    }
+  }
+
+  /**
+   * A property is done with: it was broken, or cannot be told about.
+   * @param {number} property
+   */
+  close(property) {
+    this.open = this.open.filter((at) => at !== property);
+  }
+}
+
+/**
+ * The steps from power-on to a state.
+ * @param {State} state
+ */
+function pathOf(state) {
+  /** @type {WalkStep[][]} */
+  const parts = [];
+  /** @type {State | null} */
+  let each = state;
+  while (each) {
+    parts.unshift(each.steps);
+    each = each.parent;
+  }
+  return parts.flat();
+}
+
+/**
+ * Whether a property may be broken wherever the counter comes to its label.
+ * @param {Property} property
+ */
+function stopsAtLabel({ form }) {
+  return form === "at" || form === "reach at" || form === "never";
+}
+
+/**
+ * What properties seem to be by looks alone. Of labels it is known how often one was come to in a wait, and not when.
+ */
+class Seeming {
+  /**
+   * @param {Search} search
+   * @param {State} state
+   */
+  constructor({ campaign, open }, { memories, time, down }) {
+    this.campaign = campaign;
+    this.time = time;
+    this.down = down;
+    this.asked = open.filter((at) => campaign.properties[at].address < 0 && campaign.properties[at].condition);
+    this.ofLabels = open.filter((at) => campaign.properties[at].address >= 0);
+    this.memories = memories.map((memory) => [...memory]);
+  }
+
+  /**
+   * @param {WalkStep} step
+   * @param {Look} look
+   * @param {import("../engine/tracing.js").Counted[]} begun how often each address was begun at
+   */
+  isBroken(step, { holds }, begun) {
+    const { campaign: { properties, inputs }, asked, memories } = this;
+    this.down = downAfter(this.down, step);
+    const input = step.kind === "down" ? inputs[step.input].name : "";
+    const moment = { time: this.time + step.wait, holds: false, input, isDown: this.down.length };
+    const isAtLabel = this.ofLabels.some((at) => {
+      const count = (begun.find(({ address }) => address === properties[at].address) || { begun: 0 }).begun;
+      return this.mayBreakAtLabel(properties[at], memories[at], moment, step, count);
+    });
+    this.time += step.wait;
+    return isAtLabel || asked.some((at) => {
+      const { see } = properties[at];
+      const memory = memories[at];
+      if (step.kind === "down" && see(memory, "down", moment) >= 0) return true;
+      if (step.kind === "reset" && see(memory, "reset", moment) >= 0) return true;
+      return see(memory, "values", { ...moment, holds: holds[at] }) >= 0;
+    });
+  }
+
+  /**
+   * @param {Property} property
+   * @param {number[]} memory
+   * @param {import("./properties.js").Moment} moment at the end of the wait
+   * @param {WalkStep} step
+   * @param {number} count how often its label was come to
+   */
+  mayBreakAtLabel(property, memory, moment, step, count) {
+    const { form, see, limit } = property;
+    if (stopsAtLabel(property)) return count > 0;
+    if (form === "after press" && memory[0] >= 0 && (count > 0 || moment.time > memory[0] + limit)) {
+      if (moment.time > memory[0] + limit) return true;
+      memory[0] = -1;
+    }
+    if (form === "every") {
+      // It was there last at the begin of a wait, or later.
+      if (moment.time - memory[0] > limit) return true;
+      if (count > 0) memory[0] = this.time;
+    }
+    const isCounted = form === "once" || form === "only after";
+    for (let times = 0; isCounted && times < count; times++) if (see(memory, "label", moment) >= 0) return true;
+    if (step.kind === "down") see(memory, "down", moment);
+    if (step.kind === "reset") see(memory, "reset", moment);
+    return false;
+  }
+
+  /** What of the memories makes a state new. */
+  get marks() {
+    let marks = "";
+    for (const at of [...this.asked, ...this.ofLabels]) {
+      const mark = this.campaign.properties[at].mark(this.memories[at]);
+      if (mark !== "") marks += `/${mark}`;
+    }
+    return marks;
+  }
+}

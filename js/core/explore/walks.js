@@ -1,0 +1,179 @@
+// Walks: waits, and what is changed after each of them.
+
+import { runLines } from "../engine/key_queue.js";
+
+/**
+ * @typedef {import("./campaign.js").Campaign} Campaign
+ *
+ * A wait of so many cycles, and then a change: an input of the campaign that goes down or up, a power cycle, or nothing.
+ * @typedef {{ wait: number, kind: "down" | "up" | "reset" | "none", input: number }} WalkStep
+ *
+ * @typedef {() => number} Random from 0 up to 1
+ */
+
+/**
+ * The same numbers from the same seed (mulberry32).
+ * @param {number} seed
+ * @returns {Random}
+ */
+export function randomFrom(seed) {
+  let state = seed >>> 0;
+  return () => {
+    state = (state + 0x6D2B79F5) >>> 0;
+    let mixed = Math.imul(state ^ (state >>> 15), state | 1);
+    mixed ^= mixed + Math.imul(mixed ^ (mixed >>> 7), mixed | 61);
+    return ((mixed ^ (mixed >>> 14)) >>> 0) / 4294967296;
+  };
+}
+
+/**
+ * @param {Random} random
+ * @param {number} below
+ */
+export function upToRandom(random, below) {
+  return Math.floor(random() * below);
+}
+
+/**
+ * The inputs that are down at power-on, by their numbers.
+ * @param {Campaign} campaign
+ */
+export function downAtFirst({ inputs }) {
+  return inputs.flatMap(({ isDown }, at) => (isDown ? [at] : []));
+}
+
+/** Of so many waits one is as long as it can be; the others are of all lengths, short ones as often as long ones. */
+const LONGEST_SHARE = 0.6;
+const RESET_SHARE = 0.02;
+
+/**
+ * @param {Campaign} campaign
+ * @param {Random} random
+ */
+function waitOf({ shortest, longest }, random) {
+  return random() < LONGEST_SHARE ? longest : Math.round(shortest * (longest / shortest) ** random());
+}
+
+/**
+ * The next step, where these inputs are down, and each was changed so many cycles ago. Where a key would be held for too long, it goes up.
+ * @param {Campaign} campaign
+ * @param {number[]} down
+ * @param {number[]} since
+ * @param {Random} random
+ * @returns {WalkStep}
+ */
+export function chooseStep(campaign, down, since, random) {
+  const wait = waitOf(campaign, random);
+  if (campaign.held === Infinity || down.length === 0) return chooseChange(campaign, down, since, wait, random);
+  const left = down.map((at) => campaign.held - since[at]);
+  const first = left.indexOf(Math.min(...left));
+  // What goes down now is up in time as well: a wait, and then a key at a time.
+  if (left[first] >= wait + campaign.shortest * down.length) return chooseChange(campaign, down, since, wait, random);
+  // Those that went down together go up one after the other, a cycle apart at least, and no wait is without a cycle.
+  const inTurn = [...left].sort((one, other) => one - other).map((cycles, turn) => cycles - turn);
+  return { wait: Math.max(1, Math.min(wait, ...inTurn)), kind: "up", input: down[first] };
+}
+
+/**
+ * @param {Campaign} campaign
+ * @param {number[]} down
+ * @param {number[]} since
+ * @param {number} wait
+ * @param {Random} random
+ * @returns {WalkStep}
+ */
+function chooseChange(campaign, down, since, wait, random) {
+  const { inputs, together, canReset, apart } = campaign;
+  if (canReset && random() < RESET_SHARE) return { wait, kind: "reset", input: -1 };
+  if (inputs.length === 0) return { wait, kind: "none", input: -1 };
+  const isFull = down.reduce((sum, at) => sum + Number(inputs[at].isKey), 0) >= together;
+  if (down.length > 0 && random() < 0.5) return { wait, kind: "up", input: down[upToRandom(random, down.length)] };
+  const up = inputs.flatMap(({ isKey }, at) => (down.includes(at) || (isKey && isFull) || since[at] + wait < apart ? [] : [at]));
+  if (up.length === 0 && down.length === 0) return { wait, kind: "none", input: -1 };
+  if (up.length === 0) return { wait, kind: "up", input: down[upToRandom(random, down.length)] };
+  return { wait, kind: "down", input: up[upToRandom(random, up.length)] };
+}
+
+/**
+ * How many cycles ago each input was changed last, at power-on.
+ * @param {Campaign} campaign
+ */
+export function sinceAtFirst({ inputs }) {
+  return inputs.map(({ isDown }) => (isDown ? 0 : Infinity));
+}
+
+/**
+ * The same after a step.
+ * @param {number[]} since
+ * @param {WalkStep} step
+ */
+export function sinceAfter(since, { wait, input }) {
+  return since.map((cycles, at) => (at === input ? 0 : cycles + wait));
+}
+
+/**
+ * What is down after a step.
+ * @param {number[]} down
+ * @param {WalkStep} step
+ */
+export function downAfter(down, { kind, input }) {
+  if (kind === "down") return [...down, input];
+  return kind === "up" ? down.filter((at) => at !== input) : down;
+}
+
+/**
+ * Whether each step changes something, from what is down at power-on, and no more keys are down, nor for longer, than may be.
+ * @param {Campaign} campaign
+ * @param {WalkStep[]} steps
+ */
+export function isSound(campaign, steps) {
+  let down = downAtFirst(campaign);
+  let since = sinceAtFirst(campaign);
+  for (const step of steps) {
+    if (step.kind === "down" && (down.includes(step.input) || since[step.input] + step.wait < campaign.apart)) return false;
+    if (step.kind === "up" && !down.includes(step.input)) return false;
+    if (step.wait > longestFrom(campaign, down, since)) return false;
+    since = sinceAfter(since, step);
+    down = downAfter(down, step);
+    if (down.filter((at) => campaign.inputs[at].isKey).length > campaign.together) return false;
+  }
+  return true;
+}
+
+/**
+ * How long it can be until something changes, so that nothing that is down is held for too long; without end where nothing is down.
+ * @param {Campaign} campaign
+ * @param {number[]} down
+ * @param {number[]} since
+ */
+function longestFrom({ held }, down, since) {
+  return Math.min(...down.map((at) => held - since[at]));
+}
+
+/**
+ * The same after steps from power-on.
+ * @param {Campaign} campaign
+ * @param {WalkStep[]} steps
+ */
+export function longestAfter(campaign, steps) {
+  return longestFrom(campaign, steps.reduce(downAfter, downAtFirst(campaign)), steps.reduce(sinceAfter, sinceAtFirst(campaign)));
+}
+
+/**
+ * The line that makes a step's change; "" for none.
+ * @param {Campaign} campaign
+ * @param {WalkStep} step
+ */
+export function lineOf({ inputs }, { kind, input }) {
+  if (kind === "none") return "";
+  return kind === "reset" ? "reset\n" : `${kind === "down" ? inputs[input].down : inputs[input].up}\n`;
+}
+
+/**
+ * The lines of steps.
+ * @param {Campaign} campaign
+ * @param {WalkStep[]} steps
+ */
+export function linesOf(campaign, steps) {
+  return steps.map((step) => runLines(step.wait) + lineOf(campaign, step)).join("");
+}

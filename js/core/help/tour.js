@@ -1,0 +1,112 @@
+// A first program in five steps: what each step says, what is typed in it, and when it is done. The page watches over it: a step is done
+// when what the bench answers shows it.
+
+import * as say from "../../words/help.js";
+
+/**
+ * What a step is judged by: the lamps (a `*` for each that is lit), how many different lamps were seen in this step, how many keys are
+ * down, and why a run ended last in this step (`break`, `watch`, "" for no end).
+ * @typedef {{ lamps: string, patterns: number, keysDown: number, end: string }} Seen
+ *
+ * A step: its title, what is to be done, the program that is typed ("" where it stays), and when it is done. A paragraph of a story has
+ * places that do something.
+ * @typedef {string | { words: string, act: import("./story.js").Act }} Part
+ * @typedef {{ title: string, words: (string | Part[])[], program: string, isDone: (seen: Seen) => boolean }} TourStep
+ */
+
+/**
+ * What it begins with.
+ * @type {import("../engine/examples.js").Example}
+ */
+export const FIRST_PROGRAM = {
+  ...say.FIRST_PROGRAM, board: say.TOUR_BOARD, program: "", tests: "", properties: "",
+  lines: "", project: "",
+};
+
+/** @type {TourStep[]} */
+export const TOUR = [
+  {
+    ...say.STEP_LAMP,
+    program: say.LAMP,
+    isDone: ({ lamps }) => lamps[0] === "*",
+  },
+  {
+    ...say.STEP_COUNT,
+    program: say.COUNT,
+    isDone: ({ patterns }) => patterns >= 4,
+  },
+  {
+    ...say.STEP_KEY,
+    program: say.KEY,
+    isDone: ({ lamps, keysDown }) => keysDown > 0 && lamps.includes("*"),
+  },
+  {
+    ...say.STEP_BREAKPOINT,
+    program: "",
+    isDone: ({ end }) => end === "break",
+  },
+  {
+    ...say.STEP_WATCH,
+    program: say.REMEMBER,
+    isDone: ({ end }) => end === "watch",
+  },
+];
+
+/**
+ * Whether a text is nothing of the user's own: none, or a program of a step.
+ * @param {string} text
+ */
+export function isOfTour(text) {
+  return text.trim() === "" || TOUR.some(({ program }) => program === text);
+}
+
+/** Watches over a step. */
+export class TourWatch {
+  /** @param {TourStep[]} steps */
+  constructor(steps = TOUR) {
+    this.steps = steps;
+    this.at = 0;
+    /** @type {Seen} */
+    this.seen = { lamps: "", patterns: 0, keysDown: 0, end: "" };
+    /** @type {Set<string>} */
+    this.patterns = new Set();
+    this.isDone = false;
+  }
+
+  /** @param {number} at the step that begins */
+  begin(at) {
+    this.at = at;
+    this.seen = { lamps: "", patterns: 0, keysDown: 0, end: "" };
+    this.patterns.clear();
+    this.isDone = false;
+  }
+
+  get step() {
+    return this.steps[this.at];
+  }
+
+  /**
+   * The lamps are others.
+   * @param {string} lamps
+   */
+  seeLamps(lamps) {
+    this.patterns.add(lamps);
+    this.see({ lamps, patterns: this.patterns.size });
+  }
+
+  /** @param {number} keysDown */
+  seeKeys(keysDown) {
+    this.see({ keysDown });
+  }
+
+  /** @param {string} end why a run ended */
+  seeEnd(end) {
+    this.see({ end });
+  }
+
+  /** @param {Partial<Seen>} news */
+  see(news) {
+    Object.assign(this.seen, news);
+    this.isDone = this.isDone || this.step.isDone(this.seen);
+  }
+}

@@ -1,0 +1,163 @@
+// Where a program's text stands in ROM, as the bench answers the line `map`: the address and the bytes of each line, and the names.
+
+import { readMap } from "../bench/answers.js";
+import { hex } from "../bench/numbers.js";
+import { ADDRESSES } from "../bench/rom_bytes.js";
+import * as say from "../../words/machine.js";
+
+/**
+ * A name with its value. A label is the address of a statement; any other name is a number of the program's own.
+ * @typedef {{ name: string, value: number, isLabel: boolean }} Name
+ */
+
+const LABEL = /^[ \t]*([A-Za-z_][A-Za-z0-9_]*)[ \t]*:/;
+const DATA = /^([ \t]*[A-Za-z_][A-Za-z0-9_]*[ \t]*:)?[ \t]*DB[ \t]/i;
+
+export class SourceMap {
+  /**
+   * @param {string[]} answers to `map`
+   * @param {string} text the program
+   */
+  constructor(answers, text) {
+    this.text = text;
+    /** @type {number[]} by line, from 1 */
+    this.addresses = [];
+    /** @type {number[]} how many bytes each line puts */
+    this.sizes = [];
+    /** @type {Map<string, Name>} in the order of the lines that define them */
+    this.names = new Map();
+    /** @type {Map<number, string[]>} */
+    this.labels = new Map();
+    /** The line that puts the byte at each address, 0 for none. */
+    this.lines = new Uint16Array(ADDRESSES);
+    this.sources = text.split("\n");
+    this.read(answers);
+    /** Each address's label, or the nearest one below it in the same stretch of bytes, by its address; -1 for none. */
+    this.owners = this.findOwners();
+  }
+
+  /** @param {string[]} answers */
+  read(answers) {
+    const labels = new Set(this.sources.map((line) => (LABEL.exec(line) || ["", ""])[1]));
+    const { lines, names } = readMap(answers);
+    for (const line of lines) this.addLine(line);
+    for (const { name, value } of names) this.addName({ name, value, isLabel: labels.has(name) });
+  }
+
+  /** @param {import("../bench/answers.js").MappedLine} mapped */
+  addLine({ line, address, size }) {
+    this.addresses[line] = address;
+    this.sizes[line] = size;
+    this.lines.fill(line, address, address + size);
+  }
+
+  /** @param {Name} name */
+  addName(name) {
+    this.names.set(name.name, name);
+    if (name.isLabel) this.labels.set(name.value, [...this.labelsAt(name.value), name.name]);
+  }
+
+  findOwners() {
+    const owners = new Int16Array(ADDRESSES);
+    let owner = -1;
+    for (let address = 0; address < ADDRESSES; address++) {
+      if (this.lines[address] === 0) owner = -1;
+      else if (this.labels.has(address)) owner = address;
+      owners[address] = owner;
+    }
+    return owners;
+  }
+
+  /** How many lines the program has. */
+  get count() {
+    return Math.max(0, this.addresses.length - 1);
+  }
+
+  /**
+   * The address of a line that puts bytes; undefined for any other line.
+   * @param {number} line
+   * @returns {number | undefined}
+   */
+  addressOf(line) {
+    return this.sizes[line] > 0 ? this.addresses[line] : undefined;
+  }
+
+  /**
+   * The line that puts the byte at an address; 0 where none does.
+   * @param {number} address
+   */
+  lineOf(address) {
+    return this.lines[address] || 0;
+  }
+
+  /**
+   * Whether an instruction of the program begins at an address.
+   * @param {number} address
+   */
+  beginsInstruction(address) {
+    const line = this.lineOf(address);
+    return line > 0 && this.addresses[line] === address && !DATA.test(this.sources[line - 1]);
+  }
+
+  /**
+   * Whether an address is inside an instruction of the program: a run that comes to its line does not begin anything there.
+   * @param {number} address
+   */
+  isInside(address) {
+    const line = this.lineOf(address);
+    return line > 0 && this.addresses[line] !== address && !DATA.test(this.sources[line - 1]);
+  }
+
+  /**
+   * The labels at an address, in the order of their lines.
+   * @param {number} address
+   */
+  labelsAt(address) {
+    return this.labels.get(address) || [];
+  }
+
+  /**
+   * An address by its label, `put`, or by the nearest one below it in the same stretch of bytes, `put + 2`; "" where there is none.
+   * @param {number} address
+   */
+  nameOf(address) {
+    const [own] = this.labelsAt(address);
+    if (own) return own;
+    const owner = address < ADDRESSES ? this.owners[address] : -1;
+    return owner < 0 ? "" : `${this.labelsAt(owner)[0]} + ${address - owner}`;
+  }
+
+  /**
+   * What a name means, in words; "" where the program has no such name.
+   * @param {string} word
+   */
+  meaningOf(word) {
+    const name = this.names.get(word);
+    if (!name) return "";
+    if (!name.isLabel) return `${word} = 0x${hex(name.value, 2)}, ${name.value}`;
+    const line = this.lineOf(name.value);
+    return say.addressOf(word, hex(name.value, 3), line > 0 ? say.inLine(line) : "");
+  }
+
+  /**
+   * The value of a name; undefined where the program has no such name.
+   * @param {string} name
+   * @returns {number | undefined}
+   */
+  valueOf(name) {
+    const found = this.names.get(name);
+    return found && found.value;
+  }
+
+  /**
+   * The value of a name in whatever case; undefined where the program has none, or more than one.
+   * @param {string} word
+   * @returns {number | undefined}
+   */
+  valueInAnyCase(word) {
+    const own = this.valueOf(word);
+    if (own !== undefined) return own;
+    const alike = [...this.names.keys()].filter((name) => name.toLowerCase() === word.toLowerCase());
+    return alike.length === 1 ? this.valueOf(alike[0]) : undefined;
+  }
+}

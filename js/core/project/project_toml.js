@@ -1,0 +1,136 @@
+// The project file, `mcs4.toml`: which files of a folder belong together. tools/lib/project_toml.awk reads the same, with the same words
+// of faults; checks/project compares both.
+
+import { readBoardText } from "../text/board_reader.js";
+import { SPEEDS } from "../time/speeds.js";
+import * as say from "../../words/server.js";
+
+/**
+ * @typedef {import("../text/board_reader.js").Key} Key
+ * @typedef {import("../text/board_reader.js").Value} Value
+ * @typedef {import("../text/text_fault.js").Fault} Fault
+ *
+ * A path as it stands in the text, with its place.
+ * @typedef {{ path: string, key: string, line: number, from: number, to: number }} NamedFile
+ *
+ * What a project file says; `speed` is "" where it says none.
+ * @typedef {{ board: NamedFile, program: NamedFile, tests: NamedFile[], properties: NamedFile[], speed: string }} ProjectNames
+ */
+
+export const PROJECT_FILE = "mcs4.toml";
+/** What a project file has at most, in bytes. */
+export const LONGEST_PROJECT_FILE = 16384;
+
+const SPEED_NAMES = SPEEDS.map(({ id }) => `"${id}"`);
+/** What each key is, in words. */
+const KEYS = new Map([
+  ["board", say.BOARD_IS],
+  ["program", say.PROGRAM_IS],
+  ["tests", say.TESTS_ARE],
+  ["properties", say.PROPERTIES_ARE],
+  ["speed", say.speedIs(SPEED_NAMES.slice(0, -1).join(", "), SPEED_NAMES[SPEED_NAMES.length - 1])],
+]);
+const LISTS = ["tests", "properties"];
+const NEEDED = ["board", "program"];
+
+/**
+ * @param {{ line: number, from: number, to: number }} range
+ * @param {string} words
+ * @returns {Fault}
+ */
+function faultAt({ line, from, to }, words) {
+  return { number: 0, line, from, to, words };
+}
+
+/**
+ * Why a text is no path in a project; "" where it is one.
+ * @param {string} key
+ * @param {string} path
+ */
+function faultOfPath(key, path) {
+  if (path === "") return say.emptyPath(key, KEYS.get(key));
+  // eslint-disable-next-line no-control-regex
+  if (/[\u0000-\u001f\u007f]/.test(path)) return say.controlCharacter(key);
+  if (path.includes("\\")) return say.backslash(key);
+  if (path.startsWith("/")) return say.noPath(path, key);
+  if (path.split("/").includes("..")) return say.outOfFolder(path, key);
+  return "";
+}
+
+/**
+ * @param {Key} key
+ * @returns {Fault[]}
+ */
+function faultsOfKey({ name, line, from, to, value }) {
+  const wanted = KEYS.get(name);
+  if (!wanted) return [faultAt({ line, from, to }, say.noKey(name))];
+  const { inner } = value;
+  const values = LISTS.includes(name) && Array.isArray(inner) ? inner : [value];
+  if (LISTS.includes(name) !== Array.isArray(inner)) return [faultAt(value, wanted)];
+  return values.flatMap((each) => {
+    if (typeof each.inner !== "string") return [faultAt(each, wanted)];
+    if (name === "speed") return SPEEDS.some(({ id }) => id === each.inner) ? [] : [faultAt(each, wanted)];
+    const words = faultOfPath(name, each.inner);
+    return words ? [faultAt(each, words)] : [];
+  });
+}
+
+/**
+ * Keys that stand there twice.
+ * @param {Key[]} keys
+ * @returns {Fault[]}
+ */
+function faultsOfTwice(keys) {
+  /** @type {Map<string, number>} */
+  const lines = new Map();
+  return keys.flatMap((key) => {
+    const before = lines.get(key.name);
+    if (before === undefined) lines.set(key.name, key.line);
+    return before === undefined || !KEYS.has(key.name) ? [] : [faultAt(key, say.alreadyIn(key.name, before))];
+  });
+}
+
+/**
+ * @param {Key[]} keys
+ * @param {string} name
+ * @returns {NamedFile[]}
+ */
+function filesOf(keys, name) {
+  const key = keys.find((each) => each.name === name);
+  if (!key) return [];
+  const values = Array.isArray(key.value.inner) ? key.value.inner : [key.value];
+  return values.map(({ inner, line, from, to }) => ({ path: String(inner), key: name, line, from, to }));
+}
+
+/**
+ * What a project file says, and its faults by rising lines; it says nothing where it has one.
+ * @param {string} text
+ * @returns {{ names: ProjectNames | null, faults: Fault[] }}
+ */
+export function readProjectToml(text) {
+  const { entries, others, keys, faults } = readBoardText(text.replace(/^\uFEFF/, ""));
+  // A list without anything counts among the boards' reader as one of tables.
+  const lists = keys.filter(({ value: { inner } }) => Array.isArray(inner) && inner.length === 0);
+  const found = [
+    ...faults.map((fault) => ({ ...fault, number: 0 })),
+    ...entries.map((entry) => faultAt(entry, say.NO_TABLES)),
+    ...[...others, ...lists].flatMap(faultsOfKey),
+    ...faultsOfTwice(keys),
+  ];
+  if (found.length === 0) {
+    const missing = NEEDED.filter((name) => !keys.some((key) => key.name === name));
+    found.push(...missing.map((name) => faultAt({ line: 1, from: 0, to: 0 }, say.missing(name, KEYS.get(name)))));
+  }
+  if (found.length > 0) return { names: null, faults: found.sort((one, other) => one.line - other.line) };
+  const [[board], [program], tests, properties] = ["board", "program", ...LISTS].map((name) => filesOf(keys, name));
+  const speed = keys.find(({ name }) => name === "speed");
+  return { names: { board, program, tests, properties, speed: speed ? String(speed.value.inner) : "" }, faults: [] };
+}
+
+/**
+ * All files that a project names, in their order.
+ * @param {ProjectNames} names
+ */
+export function filesNamed({ board, program, tests, properties }) {
+  return [board, program, ...tests, ...properties];
+}

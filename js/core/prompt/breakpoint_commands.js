@@ -1,0 +1,130 @@
+// Commands of breakpoints and watches.
+
+import { watchedPlaces } from "../bench/answers.js";
+import { addressTold, breakpointLines } from "./looks.js";
+import { instructionIn, refuse } from "./words_of_line.js";
+import * as say from "../../words/prompt.js";
+
+/**
+ * @typedef {import("./prompt.js").Act} Act
+ * @typedef {import("./prompt.js").Prompt} Prompt
+ */
+
+const BREAK = /^(.*?)(?:\s*\bfrom\s+(\d{1,9}))?(?:\s*\bif\s+(.+?))?(?:\s*\blog\s+"([^"]*)")?$/;
+const CHARACTER = /^ram\.[0-7]\.\w+$/i;
+
+export class BreakpointCommands {
+  /** @param {Prompt} prompt */
+  constructor(prompt) {
+    this.prompt = prompt;
+    /** The place that `continue` watches, "" for none; characters of RAM are watched by the bench. */
+    this.watched = "";
+  }
+
+  get list() {
+    return this.prompt.session.breakpoints;
+  }
+
+  /** @returns {Record<string, Act>} */
+  get acts() {
+    /** @type {(isOn: boolean) => Act} */
+    const turn = (isOn) => async (rest) => {
+      if (rest === "") refuse(say.WHICH_ONE);
+      for (const id of this.numbersOf(rest)) this.list.change(id, { isOn });
+      await this.apply();
+    };
+    return {
+      break: (rest) => this.add(rest),
+      delete: (rest) => this.remove(rest),
+      disable: turn(false),
+      enable: turn(true),
+      watch: (rest) => this.watch(rest),
+    };
+  }
+
+  /** The bench's own breakpoints are those of the list that always stop: those that a line of the bench has set or taken away, too. */
+  takeOwn() {
+    const { map, debugger: { session } } = this.prompt.session;
+    for (const address of session.breaks) {
+      if (!this.list.atAddress(address)) this.list.add({ line: map.lineOf(address), address });
+    }
+    const hard = this.list.placed.filter(({ condition, note, from }) => !condition && !note && from === 1);
+    for (const { id, address } of hard) if (!session.breaks.includes(address)) this.list.remove(id);
+  }
+
+  /** @param {string} rest */
+  async add(rest) {
+    const { session, machine, calls } = this.prompt;
+    const [, where, from = "1", condition = "", note = ""] = /** @type {RegExpExecArray} */ (BREAK.exec(rest));
+    const { line, address } = instructionIn(where, session);
+    const before = this.list.atAddress(address);
+    if (before) this.list.remove(before.id);
+    const made = this.list.add({ line, address, from: Math.max(1, Number(from)), condition, note });
+    const { faults } = await session.applyBreakpoints();
+    const fault = faults.find(([id]) => id === made.id);
+    if (fault) {
+      this.list.remove(made.id);
+      if (before) this.list.add(before);
+      await this.apply();
+      refuse(fault[1]);
+    }
+    await machine.stand();
+    const { address: placed } = this.list.get(made.id) || made;
+    calls.print(say.breakpointAt(made.id, addressTold(session, placed)));
+  }
+
+  async apply() {
+    await this.prompt.session.applyBreakpoints();
+    await this.prompt.machine.stand();
+  }
+
+  /** @param {string} rest */
+  numbersOf(rest) {
+    return rest.split(/\s+/).filter(Boolean).map((word) => {
+      const isThere = /^\d+$/.test(word) && this.list.get(Number(word));
+      return isThere ? Number(word) : refuse(say.noBreakpoint(word));
+    });
+  }
+
+  /** @param {string} rest */
+  async remove(rest) {
+    if (/[a-z]/i.test(rest)) return this.unwatch(rest);
+    const ids = rest === "" ? this.list.all.map(({ id }) => id) : this.numbersOf(rest);
+    for (const id of ids) this.list.remove(id);
+    return this.apply();
+  }
+
+  /** @param {string} rest */
+  async watch(rest) {
+    const { prompt, watched } = this;
+    const place = prompt.placeOfWords(rest, "watch");
+    if (CHARACTER.test(place)) {
+      await prompt.serve(`watch ${place.slice("ram.".length).replace(".", " ")}`);
+      prompt.calls.print(say.isWatched(place));
+      return;
+    }
+    if (watched !== "" && watched !== place) {
+      refuse(say.oneIsWatched(watched));
+    }
+    this.watched = place;
+    prompt.calls.print(say.watchedByContinue(place));
+  }
+
+  /** @param {string} rest */
+  async unwatch(rest) {
+    const place = this.prompt.placeOfWords(rest, "delete");
+    if (CHARACTER.test(place)) await this.prompt.serve(`unwatch ${place.slice("ram.".length).replace(".", " ")}`);
+    else if (this.watched === place) this.watched = "";
+    else refuse(say.notWatched(place));
+  }
+
+  /** What is watched. */
+  get watches() {
+    const [answer] = this.prompt.session.debugger.session.ask("watches\n");
+    return [...watchedPlaces(answer), ...(this.watched ? [say.byContinue(this.watched)] : [])].join("\n") || say.NOTHING_WATCHED;
+  }
+
+  get told() {
+    return breakpointLines(this.prompt.session);
+  }
+}

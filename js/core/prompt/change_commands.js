@@ -1,0 +1,75 @@
+// Commands that change the session while time stands: keys, values, the program.
+
+import { placeOf } from "../bench/places.js";
+import { setPlace } from "../adapter/setting.js";
+import { addressIn, refuse } from "./words_of_line.js";
+import * as say from "../../words/prompt.js";
+
+/**
+ * @typedef {import("./prompt.js").Act} Act
+ * @typedef {import("./prompt.js").Prompt} Prompt
+ */
+
+
+export class ChangeCommands {
+  /** @param {Prompt} prompt */
+  constructor(prompt) {
+    this.prompt = prompt;
+  }
+
+  /** @returns {Record<string, Act>} */
+  get acts() {
+    const { prompt } = this;
+    return {
+      hold: (rest) => this.moveKeys("press", rest, "hold"),
+      release: (rest) => this.moveKeys("release", rest, "release"),
+      set: (rest) => this.set(rest),
+      load: () => this.load(),
+      reset: async () => {
+        await prompt.serve("reset");
+        prompt.tellStop("");
+      },
+      bench: async (rest) => {
+        const { words, changes } = await prompt.lines.serve(rest || refuse(say.BENCH_FORM));
+        prompt.calls.print(words);
+        if (changes) await prompt.machine.stand();
+      },
+    };
+  }
+
+  /**
+   * @param {"press" | "release"} word
+   * @param {string} rest
+   * @param {string} command
+   */
+  async moveKeys(word, rest, command) {
+    for (const key of this.prompt.keys.read(rest, command)) await this.prompt.serve(key[word]);
+  }
+
+  /** @param {string} rest */
+  async set(rest) {
+    const { session, machine } = this.prompt;
+    const [, left = "", right] = /^([^=\s]+)\s*(?:=|\s)\s*(.+)$/.exec(rest) || [];
+    if (right === undefined) refuse(say.SET_FORM);
+    const place = left.toLowerCase();
+    const isPlace = placeOf(place) || /^(pc|test|p[0-7]|rom\.\w+)$/.test(place);
+    if (!isPlace) refuse(say.cannotBeSet(left, say.SET_PLACES));
+    const address = place === "pc" ? addressIn(right, session) : undefined;
+    await setPlace(session, place, address === undefined ? right : String(address));
+    await machine.stand();
+    if (place === "pc") this.prompt.tellStop("");
+  }
+
+  async load() {
+    const { calls, session, lines, machine } = this.prompt;
+    const text = calls.source();
+    if (text === null) return refuse(say.NO_FILE);
+    const refusal = await session.setProgram(text.replace(/^\uFEFF/, "").replace(/\r\n?/g, "\n"));
+    if (refusal) {
+      const where = refusal.line ? `, line ${refusal.line}` : "";
+      refuse(`no ${refusal.number}${where}: ${lines.words.ofRefusal(refusal.number)}`);
+    }
+    await machine.stand();
+    return this.prompt.tellStop(say.SOURCE_IN_ROM);
+  }
+}

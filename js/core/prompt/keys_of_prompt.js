@@ -1,0 +1,71 @@
+// Keys as they are named at a prompt: by the board's face, or as row.column.
+
+import { readBoard } from "../bench/answers.js";
+import { keysOf } from "../testing/test_text.js";
+import { refuse } from "./words_of_line.js";
+import * as say from "../../words/prompt.js";
+
+/**
+ * @typedef {import("../debug/debug_session.js").DebugSession} DebugSession
+ * @typedef {{ name: string, key: string, press: string, release: string }} NamedKey `press` and `release` are lines
+ */
+
+export class KeysOfPrompt {
+  /**
+   * @param {DebugSession} session
+   * @param {import("../board/face.js").Face} face
+   */
+  constructor(session, face) {
+    this.session = session;
+    this.named = keysOf(face);
+  }
+
+  /** The names of all keys: those that have none are told by row and column. */
+  get names() {
+    const { rows, columns } = readBoard(this.session.debugger.session.lookQuestions.board);
+    const taken = new Set([...this.named.values()].map(({ press }) => press));
+    const others = [];
+    for (let at = 0; at < rows * columns; at++) {
+      const key = [Math.floor(at / columns), at % columns];
+      if (!taken.has(`press ${key.join(" ")}`)) others.push(key.join("."));
+    }
+    return [...this.named.keys(), ...others];
+  }
+
+  told() {
+    const down = this.session.debugger.session.ask("ports\n").find((line) => line.startsWith("keys ")) || "keys -";
+    const { names } = this;
+    if (names.length === 0) return say.NO_KEYS;
+    return `${names.join(" ")}\n${down === "keys -" ? say.NONE_DOWN : say.down(down.slice(5))}`;
+  }
+
+  /**
+   * @param {string} word
+   * @returns {NamedKey | null}
+   */
+  find(word) {
+    const named = this.named.get(word);
+    if (named) return { name: word, key: named.press.replace(/^press /, ""), press: named.press, release: named.release };
+    const [, row, column] = /^(\d+)\.(\d+)$/.exec(word) || [];
+    const { rows, columns } = readBoard(this.session.debugger.session.lookQuestions.board);
+    if (row === undefined || Number(row) >= rows || Number(column) >= columns) return null;
+    const key = `${Number(row)} ${Number(column)}`;
+    return { name: word, key, press: `press ${key}`, release: `release ${key}` };
+  }
+
+  /**
+   * The keys that words name; a word that is none is taken letter by letter.
+   * @param {string} text
+   * @param {string} command
+   */
+  read(text, command) {
+    if (text === "") refuse(say.keyForm(command));
+    /** @type {(word: string) => NamedKey} */
+    const found = (word) => {
+      const { names } = this;
+      const why = names.length === 0 ? say.NO_KEYS : say.noKey(word, names.join(" "));
+      return this.find(word) || refuse(why);
+    };
+    return text.split(/\s+/).flatMap((word) => (this.find(word) ? [word] : [...word])).map(found);
+  }
+}

@@ -1,0 +1,146 @@
+// Commands that show what stands in the session, and change nothing.
+
+import { valueOfExpression } from "../adapter/values.js";
+import { LAST_ADDRESS } from "../bench/numbers.js";
+import { commandOf, helpOf } from "./command_table.js";
+import * as looks from "./looks.js";
+import { addressIn, countIn, instructionIn, refuse } from "./words_of_line.js";
+import { MADE_OF_ROM } from "../../words/adapter.js";
+import * as say from "../../words/prompt.js";
+
+/**
+ * @typedef {import("./prompt.js").Act} Act
+ * @typedef {import("./prompt.js").Prompt} Prompt
+ */
+
+const MOST_SHOWN = 4096;
+/** So many lines of the source are listed. */
+const LISTED = 10;
+export const INFOS = ["registers", "ram", "ports", "keys", "breakpoints", "watches", "display", "names", "source", "session"];
+
+export class LookCommands {
+  /** @param {Prompt} prompt */
+  constructor(prompt) {
+    this.prompt = prompt;
+    /** @type {string[]} what is printed at each stop */
+    this.displays = [];
+    /** The line of the source that was listed last, 0 for none since the last stop. */
+    this.listed = 0;
+  }
+
+  /** @returns {Record<string, Act>} */
+  get acts() {
+    const { calls, machine, session } = this.prompt;
+    return {
+      lamps: () => calls.print(machine.shown.now() || say.NO_LAMPS),
+      print: (rest) => calls.print(this.value(rest || refuse(say.PRINT_FORM))),
+      display: (rest) => this.display(rest),
+      undisplay: (rest) => this.undisplay(rest),
+      x: (rest) => this.examine(rest),
+      list: (rest) => this.list(rest),
+      info: (rest) => calls.print(this.info(rest)),
+      view: (rest) => this.view(rest),
+      backtrace: () => calls.print(looks.frameLines(session)),
+      help: (rest) => {
+        if (rest !== "" && !commandOf(rest).command) refuse(commandOf(rest).words);
+        calls.print(helpOf(rest));
+      },
+      quit: () => {
+        this.prompt.isEnded = true;
+      },
+    };
+  }
+
+  /** @param {string} rest also as gdb's layout and tui have it */
+  view(rest) {
+    const { view } = this.prompt.calls;
+    if (!/^(|on|off|enable|disable|src|regs|asm|split)$/.test(rest)) refuse(say.VIEW_FORM);
+    if (!view) {
+      refuse(say.VIEW_NEEDS_TERMINAL);
+      return;
+    }
+    const words = rest === "" ? view.toggle() : view.turn(!/^(off|disable)$/.test(rest));
+    if (words) refuse(words);
+  }
+
+  /** @param {string} what */
+  value(what) {
+    return valueOfExpression(what, this.prompt.known);
+  }
+
+  /** @param {string} what */
+  valueOrFault(what) {
+    try {
+      return this.value(what);
+    } catch (thrown) {
+      return thrown instanceof Error ? thrown.message : String(thrown);
+    }
+  }
+
+  /** @param {number} [from] those from one on */
+  tellDisplays(from = 0) {
+    this.displays.slice(from).forEach((what, at) => this.prompt.calls.print(`${from + at + 1}: ${what} = ${this.valueOrFault(what)}`));
+  }
+
+  /** @param {string} rest */
+  display(rest) {
+    if (rest === "") return this.tellDisplays();
+    this.value(rest);
+    this.displays.push(rest);
+    return this.tellDisplays(this.displays.length - 1);
+  }
+
+  /** @param {string} rest */
+  undisplay(rest) {
+    const numbers = rest.split(/\s+/).filter(Boolean).map(Number);
+    const isWrong = numbers.some((each) => !(each >= 1 && each <= this.displays.length));
+    if (isWrong) refuse(say.NO_DISPLAY);
+    this.displays = rest === "" ? [] : this.displays.filter((_, at) => !numbers.includes(at + 1));
+  }
+
+  /** @param {string} rest */
+  examine(rest) {
+    const { calls, session } = this.prompt;
+    const [, count = "", where = ""] = /^(?:\/(\d*)[a-z]?)?\s*(.*)$/.exec(rest) || [];
+    const many = countIn(count, MOST_SHOWN);
+    if (/^ram\./i.test(where)) return calls.print(looks.characterLines(session, where, many));
+    const address = where === "" ? session.address : addressIn(where, session);
+    if (address === undefined || address > LAST_ADDRESS) return refuse(say.noPlaceOfMemory(where));
+    return calls.print(looks.codeLines(session, address, many));
+  }
+
+  /** @param {string} rest */
+  list(rest) {
+    const { calls, session } = this.prompt;
+    const count = looks.linesOfSource(session);
+    let from = this.listed + 1;
+    if (rest !== "" || this.listed === 0) {
+      const line = /^\d+$/.test(rest) ? Number(rest) : instructionIn(rest, session).line;
+      if (line === 0) refuse(say.NO_LINE_THERE);
+      from = Math.max(1, line - LISTED / 2);
+    }
+    if (from > count) refuse(say.sourceHas(count));
+    calls.print(looks.sourceLines(session, from, from + LISTED - 1));
+    this.listed = Math.min(count, from + LISTED - 1);
+  }
+
+  /** @param {string} rest */
+  info(rest) {
+    const { session, keys, launched, breakpoints } = this.prompt;
+    /** @type {Record<string, () => string>} */
+    const kinds = {
+      registers: () => looks.registerLines(session),
+      ram: () => looks.ramLines(session),
+      ports: () => looks.portLines(session),
+      keys: () => keys.told(),
+      breakpoints: () => breakpoints.told,
+      watches: () => breakpoints.watches,
+      display: () => this.displays.map((what, at) => `${at + 1}: ${what}`).join("\n") || say.NOTHING_DISPLAYED,
+      names: () => looks.nameLines(session),
+      source: () => say.linesOf(launched.program || MADE_OF_ROM, looks.linesOfSource(session)),
+      session: () => (launched.kept ? say.SESSION_FILE : say.IN_MEMORY),
+    };
+    const found = INFOS.filter((kind) => rest !== "" && kind.startsWith(rest));
+    return kinds[found.length === 1 ? found[0] : refuse(say.infoShows(INFOS.join(", ")))]();
+  }
+}

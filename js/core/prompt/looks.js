@@ -1,0 +1,166 @@
+// What a prompt shows of a session: the source round a line, registers, RAM, ports, ROM, calls, breakpoints.
+
+import { counted, hex, numberOf, upTo } from "../bench/numbers.js";
+import { linesOfBreakpoints } from "../debug/breakpoint_lines.js";
+import { Standing } from "../debug/standing.js";
+import { wordsOfAddress } from "../../words/stops.js";
+import { framesOf } from "../adapter/frames.js";
+import { rowsAt } from "../adapter/disassembly.js";
+import { refuse } from "./words_of_line.js";
+import * as say from "../../words/prompt.js";
+
+/** @typedef {import("../debug/debug_session.js").DebugSession} DebugSession */
+
+/** @param {DebugSession} session */
+function standingOf(session) {
+  return new Standing(session.debugger.session.look());
+}
+
+/**
+ * A text with blanks in the place of its tabs, of which each ends at a multiple of eight.
+ * @param {string} text
+ */
+function withoutTabs(text) {
+  return text.split("\t").reduce((line, part) => line.padEnd(line.length + 8 - (line.length % 8)) + part);
+}
+
+/**
+ * A line of the source with its address; `>` where the next instruction stands, `*` where a breakpoint is on.
+ * @param {DebugSession} session
+ * @param {number} line
+ */
+export function sourceLine(session, line) {
+  const { map, breakpoints } = session;
+  const address = map.addressOf(line);
+  const here = line === session.line ? ">" : " ";
+  const stop = breakpoints.all.some((each) => each.line === line && each.isOn) ? "*" : " ";
+  const written = address === undefined ? "   " : hex(address, 3);
+  const text = withoutTabs((session.program.split("\n")[line - 1] || "").replace(/\r$/, ""));
+  return `${here}${stop}${String(line).padStart(4)}  ${written}  ${text}`.trimEnd();
+}
+
+/**
+ * How many lines the source has.
+ * @param {DebugSession} session
+ */
+export function linesOfSource({ program }) {
+  return program.replace(/\n$/, "").split("\n").length;
+}
+
+/**
+ * @param {DebugSession} session
+ * @param {number} from
+ * @param {number} to
+ */
+export function sourceLines(session, from, to) {
+  const last = Math.min(to, linesOfSource(session));
+  if (from > last) refuse(say.sourceHas(linesOfSource(session)));
+  return upTo(last - from + 1).map((at) => sourceLine(session, from + at)).join("\n");
+}
+
+/**
+ * The instruction that comes next: its line of the source, else its code.
+ * @param {DebugSession} session
+ */
+export function hereLine(session) {
+  return session.line > 0 ? sourceLine(session, session.line) : codeLines(session, session.address, 1);
+}
+
+/**
+ * Instructions of ROM from an address on.
+ * @param {DebugSession} session
+ * @param {number} address
+ * @param {number} count
+ */
+export function codeLines(session, address, count) {
+  const rows = rowsAt(session, address, 0, count).filter(({ bytes }) => bytes !== "");
+  return rows.map((row) => {
+    const label = row.name ? `${row.name}: ` : "";
+    const mark = row.address === session.address ? ">" : " ";
+    return `${mark} ${hex(row.address, 3)} ${row.bytes.padEnd(5)} ${label}${row.words}`;
+  }).join("\n");
+}
+
+/** @param {DebugSession} session */
+export function registerLines(session) {
+  const { registers } = standingOf(session);
+  const pairs = upTo(8).map((at) => `P${at} ${registers.registers[2 * at]}${registers.registers[2 * at + 1]}`).join("  ");
+  const { accumulator, carry, bank, test, owed } = registers;
+  const owing = owed === "1" ? "  owed 1" : "";
+  return `acc ${accumulator}  cy ${carry}  pc ${session.counterWords}  dcl ${bank}  test ${test}${owing}\n${pairs}`;
+}
+
+/** @param {DebugSession} session */
+export function ramLines(session) {
+  const { ram } = standingOf(session);
+  const lines = [...ram].flatMap(([bank, { registers, ports }]) => [
+    ...[...registers].map(([name, { characters, status }]) => {
+      const [, chip, register] = name.split(".").map(Number);
+      return `ram.${bank}.0x${hex(chip * 64 + register * 16, 2)}  ${characters}  status ${status}`;
+    }),
+    ...[...ports].map(([name, out]) => `ram${name} out ${out}`),
+  ]);
+  return lines.length > 0 ? lines.join("\n") : say.NO_RAM;
+}
+
+/** @param {DebugSession} session */
+export function portLines(session) {
+  return session.debugger.session.ask("ports\n").slice(1).join("\n");
+}
+
+/**
+ * How many calls wait for their return.
+ * @param {DebugSession} session
+ */
+export function callsOpen(session) {
+  return framesOf(session).length - 1;
+}
+
+/**
+ * @param {DebugSession} session
+ * @param {number} address
+ */
+export function addressTold(session, address) {
+  return wordsOfAddress(hex(address, 3), session.map);
+}
+
+/** @param {DebugSession} session */
+export function frameLines(session) {
+  return framesOf(session).map(({ address, line, name }, at) => (
+    `#${at}  ${hex(address, 3)}  ${name}${line > 0 ? `, line ${line}` : ""}${at > 0 ? say.THE_CALL : ""}`)).join("\n");
+}
+
+/** @param {DebugSession} session */
+export function nameLines({ map }) {
+  const names = [...map.names.values()];
+  if (names.length === 0) return say.NO_NAMES;
+  return names.map(({ name, value, isLabel }) => (
+    `${name.padEnd(16)}${isLabel ? hex(value, 3) : hex(value, 2).padStart(3)}${isLabel ? `  line ${map.lineOf(value)}` : ""}`)).join("\n");
+}
+
+/** @param {DebugSession} session */
+export function breakpointLines({ breakpoints }) {
+  const { all, kept } = breakpoints;
+  if (all.length === 0) return say.NO_BREAKPOINTS;
+  const lines = linesOfBreakpoints(kept);
+  return all.map(({ id, hits }, at) => (
+    `${id}  ${lines[at].slice("break ".length)}${hits > 0 ? `, ${counted(hits, "hit")}` : ""}`)).join("\n");
+}
+
+/**
+ * Bytes of ROM with their instructions, or characters of RAM: `0x00F`, `show`, `ram.0.0x10`.
+ * @param {DebugSession} session
+ * @param {string} text
+ * @param {number} count
+ */
+export function characterLines(session, text, count) {
+  const [, bank, at] = /^ram\.([0-7])\.(\w+)$/i.exec(text) || [];
+  const first = numberOf(at || "");
+  if (bank === undefined || !(first <= 255)) refuse(say.noPlaceOfRam(text));
+  const standing = standingOf(session);
+  const values = upTo(Math.min(count, 256 - first)).map((more) => standing.character(Number(bank), first + more));
+  const lacking = values.findIndex((value) => value === "");
+  if (lacking === 0) refuse(say.noRamAt(text));
+  const known = lacking < 0 ? values : values.slice(0, lacking);
+  return `ram.${bank}.0x${hex(first, 2)}  ${known.join("")}`;
+}

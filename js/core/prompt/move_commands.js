@@ -1,0 +1,118 @@
+// Commands that let time pass, or go back: one move at a time, whose end is awaited and told.
+
+import { callsOpen } from "./looks.js";
+import { backOver, pressed } from "./moves.js";
+import { countIn, cyclesIn, instructionIn, refuse } from "./words_of_line.js";
+import * as say from "../../words/prompt.js";
+import { standsAt } from "../../words/stops.js";
+
+/**
+ * @typedef {import("./prompt.js").Act} Act
+ * @typedef {import("./prompt.js").Prompt} Prompt
+ * @typedef {import("../debug/goals.js").Goal} Goal
+ * @typedef {import("../engine/going_back.js").BackGoal} BackGoal
+ */
+
+const MOST_STEPS = 1000000;
+
+export class MoveCommands {
+  /** @param {Prompt} prompt */
+  constructor(prompt) {
+    this.prompt = prompt;
+  }
+
+  /** @returns {Record<string, Act>} */
+  get acts() {
+    const { machine } = this.prompt;
+    /** @type {(goal: BackGoal) => Act} */
+    const back = (goal) => (rest) => this.repeat(rest, () => machine.back(goal));
+    return {
+      "next": (rest) => this.repeat(rest, () => machine.go({ kind: "over" })),
+      "step": (rest) => {
+        const count = countIn(rest, MOST_STEPS);
+        return this.move(() => (count === 1 ? machine.into() : machine.go({ kind: "count", count })));
+      },
+      "finish": (rest) => this.finish(rest),
+      "until": (rest) => {
+        if (rest === "") refuse(say.UNTIL_FORM);
+        const { address } = instructionIn(rest, this.prompt.session);
+        return this.move(() => machine.go({ kind: "here", address }));
+      },
+      "continue": (rest) => this.goOn(rest),
+      "run": (rest) => {
+        const cycles = cyclesIn(rest);
+        return this.move(() => machine.begin(() => this.prompt.session.pass(cycles, (_, tally) => machine.between(tally)), () => true));
+      },
+      "reverse-step": back({ kind: "instruction" }),
+      "reverse-next": (rest) => this.repeat(rest, () => machine.begin(async () => (
+        machine.wentBack(await backOver(this.prompt.session, () => machine.between()), "goal")), () => false)),
+      "reverse-continue": (rest) => {
+        if (rest !== "") refuse(say.REVERSE_FORM);
+        return this.move(() => machine.back({ kind: "arrival", place: this.prompt.watched }));
+      },
+      "back": (rest) => {
+        if (rest === "") return this.move(() => machine.back({ kind: "stop" }));
+        const place = this.prompt.placeOfWords(rest, "back");
+        return this.move(() => machine.back({ kind: "change", place }));
+      },
+      "forward": () => this.move(() => machine.forward()),
+      "press": (rest) => this.press(rest),
+    };
+  }
+
+  /** @param {() => void} act */
+  async move(act) {
+    this.prompt.tellStop(await this.prompt.moved(act));
+  }
+
+  /**
+   * A move so many times, up to one that ends otherwise.
+   * @param {string} rest
+   * @param {() => void} act
+   */
+  async repeat(rest, act) {
+    const { prompt } = this;
+    let words = "";
+    for (let left = countIn(rest, MOST_STEPS); left > 0; left--) {
+      words = await prompt.moved(act);
+      if (prompt.ended.reason !== "step" || prompt.machine.isToPause) break;
+    }
+    prompt.tellStop(words);
+  }
+
+  /** @param {string} rest */
+  finish(rest) {
+    if (rest !== "") refuse(say.FINISH_FORM);
+    if (callsOpen(this.prompt.session) === 0) refuse(say.NO_CALL_WAITS);
+    return this.move(() => this.prompt.machine.go({ kind: "out" }));
+  }
+
+  /** @param {string} rest */
+  goOn(rest) {
+    if (rest !== "") refuse(say.CONTINUE_FORM);
+    const { session, watched, calls, machine } = this.prompt;
+    const stops = session.breakpoints.countOn > 0 || watched !== "" || session.debugger.session.ask("watches\n")[0] !== "watches -";
+    if (!stops && !calls.isByHand) refuse(say.NOTHING_STOPS);
+    return this.move(() => machine.go(watched === "" ? null : { kind: "change", place: watched }));
+  }
+
+  /** @param {string} rest */
+  async press(rest) {
+    const { prompt } = this;
+    const { machine, session } = prompt;
+    const keys = prompt.keys.read(rest, "press");
+    for (const [at, { key }] of keys.entries()) {
+      let why = "";
+      const words = await prompt.moved(() => machine.begin(async () => {
+        const stop = await pressed(session, key, (_, tally) => machine.between(tally));
+        ({ why } = stop);
+        return stop;
+      }, () => true));
+      if (why === "passed") continue;
+      const left = keys.slice(at + 1).map(({ name }) => name).join(" ");
+      prompt.tellStop(left === "" ? words : say.notPressed(words, left));
+      return;
+    }
+    prompt.tellStop(standsAt(session.counterWords));
+  }
+}

@@ -1,0 +1,52 @@
+// Moves that a prompt has beside those of the debugger: back past a subroutine, keys that are pressed while time passes.
+
+import { DOWN_CYCLES } from "../engine/key_queue.js";
+import { isCall, isReturn } from "../engine/rom_codes.js";
+import * as say from "../../words/prompt.js";
+
+/**
+ * @typedef {import("../debug/debug_session.js").DebugSession} DebugSession
+ * @typedef {import("../debug/debugger.js").GoesOn} GoesOn
+ */
+
+/** A program has so long for a key once it is up again, as with tools/keys. */
+const AFTER_CYCLES = 16000;
+
+/**
+ * The byte of ROM that comes next.
+ * @param {DebugSession} session
+ */
+function codeHere(session) {
+  return parseInt(session.debugger.session.ask(`list ${session.address} 1\n`)[0].slice(4, 6), 16);
+}
+
+/**
+ * An instruction back; from behind a return to the call that led there, by the changes of the return addresses.
+ * @param {DebugSession} session
+ * @param {GoesOn} goesOn
+ */
+export async function backOver(session, goesOn) {
+  let went = await session.back({ kind: "instruction" }, goesOn);
+  let depth = went.isDone && isReturn(codeHere(session)) ? 1 : 0;
+  while (depth > 0) {
+    went = await session.back({ kind: "change", place: "ret" }, goesOn);
+    const words = say.backInSubroutine(session.counterWords);
+    if (!went.isDone) return { ...went, words, isDone: true };
+    const code = codeHere(session);
+    depth += Number(isReturn(code)) - Number(isCall(code));
+  }
+  return { ...went, words: went.isDone ? say.backAt(session.counterWords) : went.words };
+}
+
+/**
+ * A key is down for a while, and up; time passes meanwhile, up to a stop.
+ * @param {DebugSession} session
+ * @param {string} key `0 2`, or `test 0`
+ * @param {GoesOn} goesOn
+ */
+export function pressed(session, key, goesOn) {
+  const { queue } = session.debugger.session;
+  queue.press(key);
+  queue.release(key);
+  return session.pass(DOWN_CYCLES + AFTER_CYCLES, goesOn);
+}

@@ -1,0 +1,82 @@
+// What stands behind a command: places in the program, counts, times.
+
+import { LAST_ADDRESS, hex, numberOf } from "../bench/numbers.js";
+import { wholeDuration } from "../debug/durations.js";
+import { instructionOfAddress, instructionOfLine } from "../debug/breakpoints.js";
+import { ADDRESS_RANGE } from "../../words/adapter.js";
+import * as say from "../../words/prompt.js";
+
+/**
+ * @typedef {import("../debug/debug_session.js").DebugSession} DebugSession
+ * @typedef {{ line: number, address: number }} InProgram `line` is 0 where the program has none there
+ */
+
+/** What a command refuses, in words. */
+export class Refused extends Error {}
+
+/**
+ * @param {string} words
+ * @returns {never}
+ */
+export function refuse(words) {
+  throw new Refused(words);
+}
+
+
+/**
+ * The address that a label with a number behind it says, or an address itself; undefined where it is none.
+ * @param {string} text
+ * @param {DebugSession} session
+ */
+export function addressIn(text, { map }) {
+  const [, word, more = "0"] = /^[@*]?\s*([A-Za-z0-9_]+)\s*(?:\+\s*(\w+))?$/.exec(text) || [];
+  if (word === undefined) return undefined;
+  const begin = /^0x/i.test(word) ? numberOf(word) : map.valueInAnyCase(word);
+  const address = begin === undefined ? NaN : begin + numberOf(more);
+  return Number.isNaN(address) ? undefined : address;
+}
+
+/**
+ * An instruction of the program; without words where time stands. A line without bytes is the next one that has some.
+ * @param {string} text
+ * @param {DebugSession} session
+ * @returns {InProgram}
+ */
+export function instructionIn(text, session) {
+  const words = text.trim().replace(/^[^\s:]*\.[A-Za-z0-9]+:/, "");
+  if (words === "") return { line: session.line, address: session.address };
+  if (/^\d+$/.test(words)) {
+    const { line, address } = instructionOfLine(Number(words), session.map);
+    if (address < 0) refuse(say.noInstructionIn(words));
+    return { line, address };
+  }
+  const address = addressIn(words, session);
+  if (address === undefined) refuse(say.notInProgram(words, say.FORMS_IN_PROGRAM));
+  if (address > LAST_ADDRESS) refuse(ADDRESS_RANGE);
+  return { line: instructionOfAddress(address, session.map).line, address };
+}
+
+/**
+ * A count that may be left out, and is 1 then.
+ * @param {string} text
+ * @param {number} most
+ */
+export function countIn(text, most) {
+  const count = text.trim() === "" ? 1 : Number(text);
+  if (!/^\s*\d*\s*$/.test(text) || count < 1 || count > most) refuse(say.countIs(most.toLocaleString("en"), text.trim()));
+  return count;
+}
+
+/**
+ * A time, in cycles.
+ * @param {string} text
+ */
+export function cyclesIn(text) {
+  const cycles = wholeDuration(text.trim().split(/\s+/));
+  return cycles > 0 ? cycles : refuse(say.noTime(text.trim() || say.NOTHING));
+}
+
+/** @param {number} address */
+export function addressTold(address) {
+  return `0x${hex(address, 3)}`;
+}

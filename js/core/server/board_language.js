@@ -1,0 +1,146 @@
+// What an editor asks of a board's text, answered by the modules that the page's own editor has.
+
+import { Face } from "../board/face.js";
+import { AllFaultsOfTexts, faultsOfFace } from "../text/all_faults.js";
+import { wordAt } from "../text/assembly.js";
+import { readBoardText } from "../text/board_reader.js";
+import { completeBoard } from "../text/board_completion.js";
+import { commentAt } from "../text/text_fault.js";
+import { helpForBoard } from "../text/text_help.js";
+import { tomlWords } from "../text/toml_words.js";
+import { BoardReferences } from "./board_references.js";
+import { REQUEST_FAILED, ProtocolError, rangeOf } from "./protocol.js";
+import * as say from "../../words/server.js";
+
+/**
+ * @typedef {import("./open_text.js").OpenText} OpenText
+ * @typedef {import("./protocol.js").Position} Position
+ * @typedef {import("./text_bench.js").TextBench} TextBench
+ * @typedef {import("./token_codes.js").ColouredWord} ColouredWord
+ */
+
+/** Kinds of symbols, and of what completes a word. */
+const OBJECT = 19;
+const OF_PROPERTY = 10;
+
+export class BoardLanguage {
+  /**
+   * @param {TextBench} bench
+   * @param {Map<string, Map<string, string>>} tables of the manual
+   * @param {(number: number) => string} wordsOf gives the words of a refusal
+   */
+  constructor(bench, tables, wordsOf) {
+    this.tables = tables;
+    this.all = new AllFaultsOfTexts({
+      refuse: async (_, part) => bench.refuseBoard(part),
+      map: async () => [],
+      roms: async () => new Set(),
+      boardFault: async (sent, number) => bench.boardFault(sent, number),
+    }, new Map(), wordsOf);
+  }
+
+  /**
+   * @param {OpenText} open
+   * @param {() => boolean} isWanted
+   */
+  async faults({ text }, isWanted) {
+    const found = await this.all.ofBoard(text, isWanted);
+    return found && { ...found, faults: [...found.faults, ...faultsOfFace(text)] };
+  }
+
+  /**
+   * @param {OpenText} open
+   * @param {Position} position
+   */
+  hover({ lines, text }, { line, character }) {
+    if (character > commentAt(lines[line], "#")) return null;
+    const words = helpForBoard(lines, line, character, this.tables);
+    const word = wordAt(lines[line], character);
+    if (words && word) return { words, range: rangeOf(line + 1, word.from, word.to) };
+    const references = new BoardReferences(text);
+    const value = references.valueAt(line + 1, character);
+    const told = value ? references.wordsOf(value, new Face(text)) : "";
+    return value && told ? { words: told, range: rangeOf(value.line, value.from, value.to) } : null;
+  }
+
+  /**
+   * The chip that a line is one of, or the chain that is named.
+   * @param {OpenText} open
+   * @param {Position} position
+   */
+  definition({ text }, { line, character }) {
+    const references = new BoardReferences(text);
+    const value = references.valueAt(line + 1, character);
+    const part = value && references.partOf(value);
+    return part ? rangeOf(part.line, part.from, part.to) : null;
+  }
+
+  /**
+   * All that hangs on the chip or chain that is meant here.
+   * @param {OpenText} open
+   * @param {Position} position
+   * @param {boolean} withDefinition
+   */
+  references({ text }, { line, character }, withDefinition) {
+    const references = new BoardReferences(text);
+    const value = references.valueAt(line + 1, character);
+    const part = (value && references.partOf(value)) || references.partAt(line + 1);
+    if (!part) return [];
+    const found = references.values.filter((each) => references.partOf(each) === part);
+    return [...(withDefinition ? [part] : []), ...found].map((each) => rangeOf(each.line, each.from, each.to));
+  }
+
+  renamed() {
+    return null;
+  }
+
+  /** @returns {import("./protocol.js").TextEdit[]} */
+  rename() {
+    throw new ProtocolError(REQUEST_FAILED, say.NO_BOARD_NAMES);
+  }
+
+  /**
+   * @param {OpenText} open
+   * @param {Position} position
+   */
+  completion({ lines }, { line, character }) {
+    const found = completeBoard(lines, line, character, this.tables);
+    return { ...found, list: found.list.map((each) => ({ ...each, kind: OF_PROPERTY })) };
+  }
+
+  /**
+   * The parts of the board, each up to the next one.
+   * @param {OpenText} open
+   */
+  symbols({ lines, text }) {
+    const { entries, lamps, nameOf } = new BoardReferences(text);
+    const face = new Face(text);
+    return entries.map((entry, at) => {
+      const told = face.lamps.get(lamps.indexOf(entry));
+      const last = entry.keys.reduce((most, { line, value }) => Math.max(most, line, value.line), entry.line);
+      const range = { start: rangeOf(entry.line, entry.from, 0).start, end: rangeOf(last, 0, lines[last - 1].length).end };
+      const selectionRange = rangeOf(entry.line, entry.from, entry.to);
+      return { name: nameOf(entry, at), kind: OBJECT, detail: told ? told.text : "", range, selectionRange };
+    });
+  }
+
+  /**
+   * @param {OpenText} open
+   * @returns {ColouredWord[]}
+   */
+  colours({ lines, text }) {
+    const headers = new Set(readBoardText(text).entries.map(({ line }) => line));
+    /** @type {ColouredWord[]} */
+    const comments = lines.map((each, line) => ({ line, from: commentAt(each, "#"), to: each.length, type: "comment" }));
+    const words = tomlWords(lines);
+    return [...comments, ...words.flatMap(({ kind, text: word, line, from, to }, at) => {
+      if (kind !== "bare" && kind !== "string") return [];
+      const before = words[at - 1] ? words[at - 1].text : "";
+      const isHeader = headers.has(line) && before === "[" && /^\s*\[/.test(lines[line - 1]);
+      const isKey = words[at + 1] && words[at + 1].text === "=" && words[at + 1].kind === "mark";
+      const typeOfValue = kind === "string" ? "string" : /^[+-]?\d/.test(word) ? "number" : "";
+      const type = isHeader ? "class" : isKey ? "property" : typeOfValue;
+      return type ? [{ line: line - 1, from, to, type }] : [];
+    })];
+  }
+}

@@ -1,0 +1,104 @@
+// The parts of a board in its text, and the values that name them: a lamp's line leads to its chip.
+
+import { readBoardText } from "../text/board_reader.js";
+import * as say from "../../words/server.js";
+
+/**
+ * @typedef {import("../text/board_reader.js").Entry} Entry
+ * @typedef {import("../text/board_reader.js").Value} Value
+ * @typedef {Value & { key: string, entry: Entry }} KeyedValue a value that is no array, with its key and its table
+ */
+
+const LINE = /^(rom|ram|chain)(\d+)\.(\d+)(?:\.(\d+))?$/;
+/** @type {Record<string, string>} the key by which parts are told apart */
+const NUMBERS = { rom: "chip", ram: "bank" };
+
+/**
+ * What a table has by a name.
+ * @param {Entry} entry
+ * @param {string} name
+ */
+function valueOf({ keys }, name) {
+  const key = keys.find((each) => each.name === name);
+  return key && key.value.inner;
+}
+
+export class BoardReferences {
+  /** @param {string} text */
+  constructor(text) {
+    const { entries } = readBoardText(text);
+    this.entries = entries;
+    this.chains = entries.filter(({ table }) => table === "chain");
+    this.lamps = entries.filter(({ table }) => table === "lamp");
+    /** @type {KeyedValue[]} */
+    this.values = entries.flatMap((entry) => entry.keys.flatMap(({ name, value }) => {
+      const inner = Array.isArray(value.inner) ? value.inner : [value];
+      return inner.map((each) => ({ ...each, key: name, entry }));
+    }));
+    this.nameOf = this.nameOf.bind(this);
+  }
+
+  /**
+   * The value at a place; null where none stands.
+   * @param {number} line from 1
+   * @param {number} at
+   */
+  valueAt(line, at) {
+    return this.values.find((value) => value.line === line && value.from <= at && at <= value.to) || null;
+  }
+
+  /**
+   * The chip or chain that a value names; null where it names none.
+   * @param {KeyedValue} value
+   * @returns {Entry | null}
+   */
+  partOf({ inner, key, entry }) {
+    if (entry.table === "[keys]" && key === "chain") return this.chains[Number(inner)] || null;
+    const found = LINE.exec(String(inner));
+    if (!found || key === "port") return null;
+    const [, kind, number] = found;
+    if (kind === "chain") return this.chains[Number(number)] || null;
+    return this.entries.find((each) => each.table === kind && valueOf(each, NUMBERS[kind]) === Number(number)) || null;
+  }
+
+  /**
+   * The chip or chain in whose text a line stands; null where none does.
+   * @param {number} line from 1
+   */
+  partAt(line) {
+    const stands = (/** @type {Entry} */ entry) => line >= entry.line && entry.keys.some((key) => line <= key.line);
+    return this.entries.filter((entry) => ["rom", "ram", "chain"].includes(entry.table) && stands(entry)).pop() || null;
+  }
+
+  /**
+   * What a part is called: by its number.
+   * @param {Entry} entry
+   * @param {number} at
+   */
+  nameOf(entry, at) {
+    const kind = entry.table.replace(/[[\]]/g, "");
+    const number = NUMBERS[kind] && valueOf(entry, NUMBERS[kind]);
+    if (number !== undefined) return `${kind} ${kind === "ram" ? "bank " : ""}${number}`;
+    if (entry.table === "[keys]") return "keys";
+    return `${kind} ${this.entries.slice(0, at).filter(({ table }) => table === entry.table).length}`;
+  }
+
+  /**
+   * What line a value names, whose lamp it is, and where its chip stands; "" where it names none.
+   * @param {KeyedValue} value
+   * @param {import("../board/face.js").Face} face
+   */
+  wordsOf(value, face) {
+    const found = LINE.exec(String(value.inner));
+    if (!found || value.key === "port") return "";
+    const [name, kind, first, second, third] = found;
+    const what = kind === "rom" ? say.lineOfRom(second, first)
+      : kind === "chain" ? say.bitOfChain(second, first)
+        : say.lineOfRam(third, second, first);
+    const lamp = this.lamps.indexOf(value.entry);
+    const told = face.lamps.get(lamp);
+    const ofLamp = lamp < 0 ? "" : `, lamp ${lamp}${told ? ` (${told.text})` : ""}`;
+    const part = this.partOf(value);
+    return `${name}: ${what}${ofLamp}${part ? say.standsIn(kind === "chain", part.line) : ""}.`;
+  }
+}

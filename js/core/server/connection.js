@@ -1,0 +1,153 @@
+// Requests, answers and notifications over a stream, in the order of the protocol: first `initialize`, last `shutdown` and `exit`.
+
+import { MessageReader, fieldOf, framed } from "./framing.js";
+import { CANCELLED, INTERNAL_ERROR, INVALID_REQUEST, METHOD_NOT_FOUND, NOT_INITIALIZED, PARSE_ERROR, ProtocolError } from "./protocol.js";
+import { IT_WAS_CANCELLED } from "../../words/bench.js";
+import * as say from "../../words/server.js";
+
+/**
+ * @typedef {number | string | null} Id
+ * @typedef {(params: any) => unknown} Act gives the result, or a promise of it
+ *
+ * What is served: requests and notifications by their methods, and what is done at the end.
+ * @typedef {{ requests: Record<string, Act>, notifications: Record<string, Act> }} Served
+ */
+
+const ERROR = 1;
+
+/** @param {any} id */
+function isId(id) {
+  return typeof id === "string" || typeof id === "number" || id === null;
+}
+
+export class Connection {
+  /**
+   * @param {(bytes: Uint8Array) => void} write
+   * @param {(status: number) => void} end the process
+   */
+  constructor(write, end) {
+    this.write = write;
+    this.end = end;
+    this.reader = new MessageReader();
+    /** @type {Served} */
+    this.served = { requests: {}, notifications: {} };
+    /** @type {"new" | "open" | "shut"} */
+    this.state = "new";
+    /** @type {Set<Id>} requests that are not answered yet */
+    this.waiting = new Set();
+  }
+
+  /** @param {Uint8Array} bytes */
+  take(bytes) {
+    for (const received of this.reader.take(bytes)) {
+      if ("text" in received) this.takeText(received.text);
+      else this.refuse(null, new ProtocolError(INVALID_REQUEST, say.messageTooLong(received.tooLong)));
+    }
+  }
+
+  /** @param {string} text */
+  takeText(text) {
+    let message;
+    try {
+      message = JSON.parse(text);
+    } catch {
+      this.refuse(null, new ProtocolError(PARSE_ERROR, say.NOT_JSON));
+      return;
+    }
+    const [id, method] = [fieldOf(message, "id"), fieldOf(message, "method")];
+    // An answer to something: nothing is ever asked of the client.
+    if (method === undefined && isId(id) && ("result" in message || "error" in message)) return;
+    if (typeof method !== "string" || fieldOf(message, "jsonrpc") !== "2.0" || !(id === undefined || isId(id))) {
+      const words = say.MESSAGE_FORM;
+      this.refuse(isId(id) ? id : null, new ProtocolError(INVALID_REQUEST, words));
+    } else if (id === undefined) this.notified(method, message.params);
+    else this.request(id, method, message.params);
+  }
+
+  /**
+   * Why a request is not taken now; null where it is.
+   * @param {string} method
+   */
+  faultOfOrder(method) {
+    if (this.state === "shut") return new ProtocolError(INVALID_REQUEST, say.EXIT_AFTER_SHUTDOWN);
+    if (this.state === "new" && method !== "initialize") return new ProtocolError(NOT_INITIALIZED, say.INITIALIZE_FIRST);
+    if (this.state === "open" && method === "initialize") return new ProtocolError(INVALID_REQUEST, say.INITIALIZE_ONCE);
+    return null;
+  }
+
+  /**
+   * @param {Id} id
+   * @param {string} method
+   * @param {any} params
+   */
+  async request(id, method, params) {
+    const fault = this.faultOfOrder(method);
+    const act = Object.prototype.hasOwnProperty.call(this.served.requests, method) && this.served.requests[method];
+    if (fault || !act) {
+      this.refuse(id, fault || new ProtocolError(METHOD_NOT_FOUND, say.noMethod(method)));
+      return;
+    }
+    this.waiting.add(id);
+    try {
+      const result = await act(params);
+      if (method === "initialize") this.state = "open";
+      if (method === "shutdown") this.state = "shut";
+      if (this.waiting.delete(id)) this.send({ id, result: result === undefined ? null : result });
+    } catch (thrown) {
+      if (this.waiting.delete(id)) this.refuse(id, thrown);
+    }
+  }
+
+  /**
+   * @param {string} method
+   * @param {any} params
+   */
+  async notified(method, params) {
+    if (method === "exit") {
+      this.end(this.state === "shut" ? 0 : 1);
+      return;
+    }
+    if (method === "$/cancelRequest") {
+      const id = fieldOf(params, "id");
+      if (this.waiting.delete(id)) this.refuse(id, new ProtocolError(CANCELLED, IT_WAS_CANCELLED));
+      return;
+    }
+    const act = Object.prototype.hasOwnProperty.call(this.served.notifications, method) && this.served.notifications[method];
+    if (this.state !== "open" || !act) return;
+    try {
+      await act(params);
+    } catch (thrown) {
+      this.tell(`${method}: ${thrown instanceof Error ? thrown.message : String(thrown)}`);
+    }
+  }
+
+  /**
+   * Tells a fault that no request has.
+   * @param {string} words
+   */
+  tell(words) {
+    this.notify("window/logMessage", { type: ERROR, message: words });
+  }
+
+  /**
+   * @param {string} method
+   * @param {object} params
+   */
+  notify(method, params) {
+    this.send({ method, params });
+  }
+
+  /**
+   * @param {Id} id
+   * @param {unknown} thrown
+   */
+  refuse(id, thrown) {
+    const code = thrown instanceof ProtocolError ? thrown.code : INTERNAL_ERROR;
+    this.send({ id, error: { code, message: thrown instanceof Error ? thrown.message : String(thrown) } });
+  }
+
+  /** @param {object} message */
+  send(message) {
+    this.write(framed({ jsonrpc: "2.0", ...message }));
+  }
+}

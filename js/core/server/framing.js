@@ -1,0 +1,106 @@
+// Messages as they go over a stream: a head that says how many bytes follow, and these; and what stands in one.
+
+import * as say from "../../words/server.js";
+
+/** Longer messages are not read. */
+export const LONGEST_MESSAGE = 16777216;
+const LONGEST_HEAD = 4096;
+const SIZE = /^content-length[ \t]*:[ \t]*(\d{1,12})[ \t]*$/i;
+
+/**
+ * What comes out of a stream: a message, or that one was left out for its size.
+ * @typedef {{ text: string } | { tooLong: number }} Received
+ */
+
+/** What comes is not of the protocol, and where its next message begins is not known. */
+export class StreamLost extends Error {}
+
+/** @param {string} head */
+function sizeIn(head) {
+  const sizes = head.split("\r\n").map((line) => SIZE.exec(line)).filter((each) => each !== null);
+  if (sizes.length !== 1) throw new StreamLost(say.HEAD_FORM);
+  return Number(/** @type {RegExpExecArray} */ (sizes[0])[1]);
+}
+
+export class MessageReader {
+  constructor() {
+    this.decoder = new TextDecoder();
+    this.head = "";
+    /** How many bytes of the message are still to come; -1 in a head. */
+    this.lacking = -1;
+    /** @type {Uint8Array | null} takes the message; null where it is left out */
+    this.body = null;
+    this.size = 0;
+  }
+
+  /**
+   * The messages that are whole by these bytes.
+   * @param {Uint8Array} bytes
+   * @returns {Received[]}
+   */
+  take(bytes) {
+    /** @type {Received[]} */
+    const received = [];
+    for (let at = 0; at < bytes.length;) {
+      if (this.lacking < 0) at = this.takeHead(bytes, at);
+      const count = Math.min(Math.max(this.lacking, 0), bytes.length - at);
+      if (this.body && count > 0) this.body.set(bytes.subarray(at, at + count), this.size - this.lacking);
+      at += count;
+      if (this.lacking < 0) break;
+      this.lacking -= count;
+      if (this.lacking === 0) received.push(this.end());
+    }
+    return received;
+  }
+
+  /**
+   * Reads on in a head; gives the place after it.
+   * @param {Uint8Array} bytes
+   * @param {number} begun
+   */
+  takeHead(bytes, begun) {
+    for (let at = begun; at < bytes.length; at++) {
+      this.head += String.fromCharCode(bytes[at]);
+      if (this.head.endsWith("\r\n\r\n")) {
+        this.size = sizeIn(this.head);
+        this.lacking = this.size;
+        this.body = this.size <= LONGEST_MESSAGE ? new Uint8Array(this.size) : null;
+        this.head = "";
+        return at + 1;
+      }
+      if (this.head.length > LONGEST_HEAD) throw new StreamLost(say.headTooLong(LONGEST_HEAD));
+    }
+    return bytes.length;
+  }
+
+  /** @returns {Received} */
+  end() {
+    const { body, size } = this;
+    this.lacking = -1;
+    this.body = null;
+    return body ? { text: this.decoder.decode(body) } : { tooLong: size };
+  }
+}
+
+/**
+ * A message as bytes.
+ * @param {object} message
+ */
+export function framed(message) {
+  const encoder = new TextEncoder();
+  const body = encoder.encode(JSON.stringify(message));
+  const head = encoder.encode(`Content-Length: ${body.length}\r\n\r\n`);
+  const bytes = new Uint8Array(head.length + body.length);
+  bytes.set(head);
+  bytes.set(body, head.length);
+  return bytes;
+}
+
+/**
+ * What an object of a message has by a name; undefined where it is none.
+ * @param {any} value
+ * @param {string} name
+ */
+export function fieldOf(value, name) {
+  return typeof value === "object" && value !== null && !Array.isArray(value) ? value[name] : undefined;
+}

@@ -1,0 +1,86 @@
+// What the bench says of texts, for a server: on sessions in memory, of which none is kept.
+
+import { readBoard, refusalOf } from "../bench/answers.js";
+import { findBoardFault } from "../bench/board_fault.js";
+import { sentText } from "../text/text_fault.js";
+import { ALL_ROMS, readProgram } from "../engine/program_check.js";
+
+/**
+ * @typedef {import("../bench/answers.js").Refusal} Refusal
+ * @typedef {import("../engine/engine.js").Engine} Engine
+ * @typedef {import("../engine/program_check.js").Program} Program
+ *
+ * A session with a board, and the numbers of its ROMs.
+ * @typedef {{ text: string | null, file: Uint8Array, roms: Set<number> }} Wired
+ */
+
+export class TextBench {
+  /** @param {Engine} engine */
+  constructor(engine) {
+    this.engine = engine;
+    this.empty = engine.begin();
+    this.wired = this.wire(null);
+    /** @type {Program | null} the one that was read last */
+    this.program = null;
+  }
+
+  /**
+   * A session with a board; where its text is refused, or there is none, with all ROMs.
+   * @param {string | null} text
+   * @returns {Wired}
+   */
+  wire(text) {
+    const file = this.engine.begin();
+    const isRefused = text === null || this.engine.serve(file, `wire\n${sentText(text, "#")}.\n`, file).answers.some(refusalOf);
+    if (isRefused) this.engine.serve(file, ALL_ROMS, file);
+    const roms = new Set(readBoard(this.engine.ask(file, "board\n").answers).roms.map(({ chip }) => chip));
+    return { text, file, roms };
+  }
+
+  /**
+   * Programs are tried on this board from now on.
+   * @param {string | null} text
+   */
+  setBoard(text) {
+    if (this.wired.text !== text) this.wired = this.wire(text);
+  }
+
+  /**
+   * @param {Uint8Array} file
+   * @param {string} lines
+   */
+  refusal(file, lines) {
+    return refusalOf(this.engine.ask(file, lines).answers[0]);
+  }
+
+  /** @param {string} text of a board, as it is sent */
+  refuseBoard(text) {
+    return this.refusal(this.empty, `wire\n${text}.\n`);
+  }
+
+  /** @param {string} text of a program, as it is sent */
+  refuseProgram(text) {
+    return this.refusal(this.wired.file, `asm\n${text}.\n`);
+  }
+
+  /**
+   * @param {string} text of a board, as it is sent
+   * @param {number} number
+   */
+  boardFault(text, number) {
+    return findBoardFault(text, number, (part) => {
+      const refusal = this.refuseBoard(part);
+      return refusal ? refusal.number : 0;
+    });
+  }
+
+  /**
+   * What the bench makes of a program.
+   * @param {string} sent
+   * @returns {Program}
+   */
+  read(sent) {
+    if (!this.program || this.program.text !== sent) this.program = readProgram(this.engine, sent);
+    return this.program;
+  }
+}

@@ -1,0 +1,125 @@
+// What a file holds that is chosen or dropped: a project, a session, a board, a program, tests, properties, lines for the bench, or an
+// image of ROM. Its first bytes tell it, and else its name.
+
+import { readInputs } from "../bench/inputs.js";
+import { PROJECT_FILE } from "../project/project_toml.js";
+import { NotAnImage, readBytes, readHex } from "../bench/rom_image.js";
+import { LONGEST_KEPT } from "../text/text_fault.js";
+import { isProject } from "./project_file.js";
+import * as say from "../../words/session.js";
+
+/**
+ * Texts of a file: null where it has none of that kind. `lines` are those for the bench that are left.
+ * @typedef {{ board: string | null, program: string | null, tests: string | null, properties: string | null, lines: string }} FileTexts
+ *
+ * @typedef {{ kind: "project" } | { kind: "session" } | { kind: "texts", texts: FileTexts } | { kind: "image", bytes: Int16Array }} Opened
+ */
+
+/** A file is nothing that the bench has, in words. */
+export class NotForTheBench extends Error {}
+
+/** What a session file begins with. */
+const SESSION_NAME = "MCS4BEN1";
+const IMAGES = /\.(bin|rom)$/i;
+const HEX_FILES = /\.(hex|ihx|ihex)$/i;
+const BOARDS = /\.toml$/i;
+const TESTS = /\.test$/i;
+const PROPERTIES = /\.props$/i;
+const PROGRAMS = /\.(asm|s|src|a4|4004)$/i;
+/** Texts whose kind is found by what stands in them. */
+const TEXTS = /(^[^.]*|\.(txt|text))$/i;
+
+/**
+ * @param {string} why
+ * @returns {NotForTheBench}
+ */
+function refusal(why) {
+  return new NotForTheBench(say.opens(why));
+}
+
+/**
+ * A text as UTF-8 has it, or else of one byte a letter; null where it is none.
+ * @param {Uint8Array} bytes
+ */
+function textOf(bytes) {
+  // Any other control character is in no text.
+  if (bytes.some((byte) => byte < 32 && ![9, 10, 12, 13, 26].includes(byte))) return null;
+  try {
+    return new TextDecoder("utf-8", { fatal: true }).decode(bytes);
+  } catch {
+    return new TextDecoder("windows-1252").decode(bytes);
+  }
+}
+
+/**
+ * The texts among lines for the bench, the last one of each kind, and the lines that are left.
+ * @param {string} script
+ * @returns {FileTexts}
+ */
+function textsOfLines(script) {
+  const inputs = readInputs(script);
+  /** @type {(kind: string) => string | null} */
+  const last = (kind) => {
+    const found = inputs.filter((input) => input.kind === kind).pop();
+    return found ? found.text.map((line) => `${line}\n`).join("") : null;
+  };
+  const left = inputs.filter(({ kind }) => kind !== "wire" && kind !== "asm");
+  const lines = left.map(({ line, text }) => [line, ...text, ...(text.length > 0 ? ["."] : [])].map((each) => `${each}\n`).join(""));
+  return { board: last("wire"), program: last("asm"), tests: null, properties: null, lines: lines.join("") };
+}
+
+/**
+ * @param {string} name
+ * @param {string} text
+ * @returns {FileTexts}
+ */
+function readTexts(name, text) {
+  const alone = { board: null, program: null, tests: null, properties: null, lines: "" };
+  if (BOARDS.test(name)) return { ...alone, board: text };
+  if (TESTS.test(name)) return { ...alone, tests: text };
+  if (PROPERTIES.test(name)) return { ...alone, properties: text };
+  if (PROGRAMS.test(name)) return { ...alone, program: text };
+  if (/^[ \t]*(wire|asm)[ \t]*\r?$/m.test(text)) return textsOfLines(text);
+  if (/^([ \t]*([#;].*)?\r?\n)*[ \t]*test[ \t]+[^01\s]/.test(text)) return { ...alone, tests: text };
+  if (/^[ \t]*\[\[?(rom|ram|chain|keys|lamp)\]\]?/m.test(text)) return { ...alone, board: text };
+  return { ...alone, program: text };
+}
+
+/**
+ * @param {string} name of the file
+ * @param {string} text
+ * @returns {Opened}
+ */
+function openText(name, text) {
+  if (name === PROJECT_FILE) throw new NotForTheBench(say.NAMES_FILES);
+  if (![HEX_FILES, BOARDS, PROGRAMS, TESTS, PROPERTIES, TEXTS].some((ending) => ending.test(name)) && !/^\s*(:|S)[0-9A-F]{9}/i.test(text)) {
+    throw refusal(say.NOT_A_KIND);
+  }
+  if (HEX_FILES.test(name) || /^\s*:[0-9A-F]{10}/i.test(text)) return { kind: "image", bytes: readHex(text) };
+  if (/^\s*S[0-9][0-9A-F]{8}/.test(text)) {
+    throw new NotAnImage(say.S_RECORDS);
+  }
+  const texts = readTexts(name, text);
+  for (const each of [texts.board, texts.program, texts.tests, texts.properties]) {
+    if (each === null || each.length <= LONGEST_KEPT) continue;
+    const [size, most] = [each.length, LONGEST_KEPT].map((count) => count.toLocaleString("en"));
+    throw new NotForTheBench(say.tooLong(size, most));
+  }
+  return { kind: "texts", texts };
+}
+
+/**
+ * What a file holds; it throws where that is nothing for the bench.
+ * @param {string} name of the file
+ * @param {Uint8Array} bytes
+ * @returns {Opened}
+ */
+export function openedFile(name, bytes) {
+  if (isProject(bytes)) return { kind: "project" };
+  const begin = new TextDecoder("latin1").decode(bytes.subarray(0, SESSION_NAME.length));
+  if (begin === SESSION_NAME || /\.mcs$/i.test(name)) return { kind: "session" };
+  if (IMAGES.test(name)) return { kind: "image", bytes: readBytes(bytes) };
+  const text = textOf(bytes);
+  if (text !== null && text.trim() !== "") return openText(name, text);
+  throw refusal(text === null ? say.NOT_A_TEXT : say.EMPTY);
+}

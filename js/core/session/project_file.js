@@ -1,0 +1,272 @@
+// A project: the session's file, its name and the texts of the editors in one file, which is a text. tools/project takes it apart
+// and puts it together, to the byte as here; the manual ("A project file") says what each line of it is.
+
+import { checksum } from "./checksum.js";
+import { shortName } from "./names.js";
+import { hex } from "../bench/numbers.js";
+import { breakpointOfLine, linesOfBreakpoints, mostBreakpoints } from "../debug/breakpoint_lines.js";
+import { LONGEST_KEPT } from "../text/text_fault.js";
+import * as say from "../../words/session.js";
+
+/**
+ * @typedef {{ name: string, boardText: string, programText: string, testText?: string, propertiesText?: string }} Texts without tests
+ *   or properties the file has no text of them
+ * @typedef {import("../debug/breakpoints.js").KeptBreakpoint} KeptBreakpoint
+ * @typedef {Texts & { file: Uint8Array, breakpoints?: KeptBreakpoint[] }} Project
+ * @typedef {"wire" | "asm" | "test" | "properties"} Word the line before a text
+ */
+
+const FIRST_LINE = "fethsaim project 1";
+/** A text ends at a line with a dot alone, as one that is sent to the bench does. */
+const DOT = ".";
+const LAST_LINE = "end";
+const SUM_LINE = /^cksum \d+$/;
+/** So many bytes stand in a line of the session; a line of zeros is left out. */
+const BYTES_OF_LINE = 16;
+/** No project has more bytes: its texts and its session have far less. */
+export const LONGEST_PROJECT = 4 << 20;
+
+/** Why bytes are no project, in words. */
+export class NotAProject extends Error {}
+
+/** One of its texts is longer than any that the editors take. */
+export class TextTooLong extends NotAProject {}
+
+/**
+ * Which text is too long for a project and for a link, in words; "" where none is.
+ * @param {{ boardText: string, programText: string, testText?: string, propertiesText?: string }} texts
+ */
+export function wordsOfLength({ boardText, programText, testText = "", propertiesText = "" }) {
+  const named = [[say.BOARD_TEXT, boardText], [say.SOURCE_TEXT, programText], [say.TESTS_TEXT, testText],
+    [say.PROPERTIES_TEXT, propertiesText]];
+  const [what, text] = named.find(([, each]) => each.length > LONGEST_KEPT) || named[0];
+  const [size, most] = [text.length, LONGEST_KEPT].map((count) => count.toLocaleString("en"));
+  return text.length > LONGEST_KEPT ? say.textTooLong(what, size, most) : "";
+}
+
+// --- writing ---
+
+/**
+ * The lines of a text. In a line of dots alone one more dot stands in the file, so that none of them ends the text.
+ * @param {Word} word
+ * @param {string} text
+ */
+function linesOfText(word, text) {
+  const lines = text.split("\n");
+  if (lines[lines.length - 1] === "") lines.pop();
+  return [word, ...lines.map((line) => (/^\.+$/.test(line) ? `.${line}` : line)), DOT];
+}
+
+/**
+ * A line is told to have no end where the last one of a text has none.
+ * @param {Word} word
+ * @param {string} text
+ */
+function unended(word, text) {
+  return text === "" || text.endsWith("\n") ? [] : [`unended ${word}`];
+}
+
+/** @param {Uint8Array} file */
+function linesOfFile(file) {
+  const lines = [];
+  for (let at = 0; at < file.length; at += BYTES_OF_LINE) {
+    const bytes = file.subarray(at, at + BYTES_OF_LINE);
+    if (bytes.some((byte) => byte !== 0)) {
+      const digits = Array.from(bytes, (byte) => byte.toString(16).padStart(2, "0")).join("");
+      lines.push(`${hex(at, 5).toLowerCase()} ${digits}`);
+    }
+  }
+  return [`session ${file.length}`, ...lines, DOT];
+}
+
+/**
+ * A carriage return before the end of a line says nothing, to the bench neither.
+ * @param {string} text
+ */
+function plainLines(text) {
+  return text.replace(/\r(?=\n|$)/g, "");
+}
+
+/**
+ * The lines of a name and its texts, and of breakpoints, where it has some.
+ * @param {Texts & { breakpoints?: KeptBreakpoint[] }} texts
+ */
+export function linesOfTexts({ name, boardText, programText, testText = "", propertiesText = "", breakpoints = [] }) {
+  const [board, program, tests, properties] = [boardText, programText, testText, propertiesText].map(plainLines);
+  const head = [`name ${name.replace(/\s+/g, " ").trim()}`, ...unended("wire", board), ...unended("asm", program),
+    ...unended("test", tests), ...unended("properties", properties), ...linesOfBreakpoints(breakpoints)];
+  return [...head, ...linesOfText("wire", board), ...linesOfText("asm", program), ...(tests === "" ? [] : linesOfText("test", tests)),
+    ...(properties === "" ? [] : linesOfText("properties", properties))];
+}
+
+/**
+ * The text of a project.
+ * @param {Project} project
+ */
+export function projectText(project) {
+  const rest = `${[say.ABOUT_PROJECT, ...linesOfTexts(project), ...linesOfFile(project.file), LAST_LINE].join("\n")}\n`;
+  return `${FIRST_LINE}\ncksum ${checksum(new TextEncoder().encode(rest))}\n${rest}`;
+}
+
+// --- reading ---
+
+/**
+ * Whether bytes begin as those of a project do.
+ * @param {Uint8Array} bytes
+ */
+export function isProject(bytes) {
+  return /^\uFEFF?fethsaim project /.test(new TextDecoder("utf-8", { ignoreBOM: true }).decode(bytes.subarray(0, 40)));
+}
+
+/** The lines of a project, one after the other. */
+export class Lines {
+  /** @param {string} text */
+  constructor(text) {
+    this.all = text.split("\n");
+    this.at = 0;
+  }
+
+  get next() {
+    return this.all[this.at];
+  }
+
+  take() {
+    const line = this.all[this.at];
+    this.at += 1;
+    return line;
+  }
+
+  /**
+   * @param {string} wanted
+   * @returns {NotAProject}
+   */
+  fault(wanted) {
+    return new NotAProject(say.hasToBe(this.at + 1, wanted));
+  }
+
+  /**
+   * The lines from a word on up to a dot.
+   * @param {string} word
+   */
+  upToDot(word) {
+    if (this.next !== word) throw this.fault(`\`${word}\``);
+    const end = this.all.indexOf(DOT, this.at + 1);
+    if (end < 0) throw new NotAProject(say.noEnd(word));
+    const lines = this.all.slice(this.at + 1, end);
+    this.at = end + 1;
+    return lines;
+  }
+}
+
+/**
+ * Its first two lines are looked at, and its last one.
+ * @param {string} text
+ */
+function checkWhole(text) {
+  const first = text.slice(0, text.indexOf("\n"));
+  const version = /^fethsaim project (\d+)$/.exec(first);
+  if (!version) throw new NotAProject(say.NO_PROJECT);
+  if (first !== FIRST_LINE) throw new NotAProject(say.otherVersion(version[1]));
+  if (!text.endsWith(`\n${LAST_LINE}\n`)) throw new NotAProject(say.cutOff(LAST_LINE));
+  const found = /^[^\n]*\ncksum (\d+)\n/.exec(text);
+  if (!found) return;
+  const sum = checksum(new TextEncoder().encode(text.slice(found[0].length)));
+  if (sum !== Number(found[1])) {
+    throw new NotAProject(say.OTHER_CHECKSUM);
+  }
+}
+
+/**
+ * The lines up to the first text: its name, which texts have a last line without an end, and breakpoints.
+ * @param {Lines} lines
+ */
+function readHead(lines) {
+  let name = "";
+  const open = new Set();
+  /** @type {KeptBreakpoint[]} */
+  const breakpoints = [];
+  while (lines.next !== "wire") {
+    const [isOfHead, word, rest] = /^(name|unended) (.+)$|^#/.exec(lines.next) || [];
+    const breakpoint = breakpointOfLine(lines.next || "");
+    if (breakpoint) breakpoints.push(breakpoint);
+    else if (isOfHead === undefined) throw lines.fault(say.ONE_OF_HEAD);
+    if (word === "name") name = shortName(rest);
+    if (word === "unended") open.add(rest);
+    lines.take();
+  }
+  return { name, open, breakpoints };
+}
+
+/**
+ * @param {Lines} lines
+ * @param {Word} word
+ * @param {Set<string>} open
+ */
+function readText(lines, word, open) {
+  const text = lines.upToDot(word).map((line) => `${/^\.\.+$/.test(line) ? line.slice(1) : line}\n`).join("");
+  return open.has(word) ? text.slice(0, -1) : text;
+}
+
+/**
+ * A name and its texts, and breakpoints, where it has some. Texts that the bench would never take are not even looked at.
+ * @param {Lines} lines
+ * @returns {Texts & { breakpoints?: KeptBreakpoint[] }}
+ */
+export function readTexts(lines) {
+  const { name, open, breakpoints } = readHead(lines);
+  const [boardText, programText] = [readText(lines, "wire", open), readText(lines, "asm", open)];
+  const [testText, propertiesText] = (/** @type {Word[]} */ (["test", "properties"])).map((word) => (
+    lines.next === word ? readText(lines, word, open) : ""));
+  const texts = { name, boardText, programText, testText, propertiesText };
+  const words = wordsOfLength(texts);
+  if (words) throw new TextTooLong(words);
+  return breakpoints.length > 0 ? { ...texts, breakpoints: mostBreakpoints(breakpoints) } : texts;
+}
+
+/**
+ * @param {Lines} lines
+ * @param {number} size how many bytes a session file has
+ */
+function readFile(lines, size) {
+  const first = lines.at + 2;
+  const file = new Uint8Array(size);
+  let end = 0;
+  lines.upToDot(`session ${size}`).forEach((line, at) => {
+    const found = /^([0-9a-f]{5}) ([0-9a-f]{32})$/.exec(line);
+    const address = found ? parseInt(found[1], 16) : 0;
+    if (!found || address % BYTES_OF_LINE !== 0 || address < end || address >= size) {
+      throw new NotAProject(say.notOfSession(first + at));
+    }
+    file.set((found[2].match(/../g) || []).map((digits) => parseInt(digits, 16)), address);
+    end = address + BYTES_OF_LINE;
+  });
+  return file;
+}
+
+/**
+ * What is in a project; it throws where bytes are none.
+ * @param {Uint8Array} bytes
+ * @param {number} size how many bytes a session file has
+ * @returns {Project}
+ */
+export function readProject(bytes, size) {
+  if (bytes.length > LONGEST_PROJECT) throw new NotAProject(say.TOO_MANY_BYTES);
+  const text = decoded(bytes);
+  checkWhole(text);
+  const lines = new Lines(text);
+  lines.take();
+  if (SUM_LINE.test(lines.next)) lines.take();
+  const texts = readTexts(lines);
+  const file = readFile(lines, size);
+  if (lines.take() !== LAST_LINE || lines.at !== lines.all.length - 1) throw lines.fault(say.END_OF_FILE);
+  return { ...texts, file };
+}
+
+/** @param {Uint8Array} bytes */
+function decoded(bytes) {
+  try {
+    return plainLines(new TextDecoder("utf-8", { fatal: true }).decode(bytes));
+  } catch {
+    throw new NotAProject(say.NOT_UTF8);
+  }
+}

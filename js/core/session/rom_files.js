@@ -1,0 +1,67 @@
+// ROM in files: an image of a file comes into ROM, and what stands in ROM goes into one.
+
+import { readBoard } from "../bench/answers.js";
+import { counted, hex } from "../bench/numbers.js";
+import { NONE, PAGES, PAGE_BYTES, bytesOf, listsOf } from "../bench/rom_bytes.js";
+import { hexOf } from "../bench/rom_image.js";
+import { textsOfBytes } from "../text/assembling.js";
+import * as say from "../../words/session.js";
+
+/**
+ * What it calls: answers to questions; lines are served, which gives the first answer, or null where they failed; time is stopped.
+ * @typedef {{ ask: (lines: string) => Promise<string[]>, act: (lines: string) => Promise<string | null>,
+ *   stop: () => Promise<void> }} RomCalls
+ */
+
+/** The board lacks a ROM, in words. */
+export class LacksRom extends Error {}
+
+export class RomFiles {
+  /** @param {RomCalls} calls */
+  constructor(calls) {
+    this.calls = calls;
+  }
+
+  /** The numbers of the ROMs that the board has. */
+  async chips() {
+    return readBoard(await this.calls.ask("board\n")).roms.map(({ chip }) => chip);
+  }
+
+  /**
+   * Puts the bytes of an image into ROM; nothing else changes. Gives what was done, in words; "" where it failed, which is told.
+   * @param {string} name of the file
+   * @param {Int16Array} bytes
+   */
+  async load(name, bytes) {
+    const chips = await this.chips();
+    const lacked = bytes.findIndex((byte, at) => byte !== NONE && !chips.includes(Math.floor(at / PAGE_BYTES)));
+    if (lacked >= 0) {
+      const chip = Math.floor(lacked / PAGE_BYTES);
+      throw new LacksRom(say.lacksRom(chip, hex(lacked, 3)));
+    }
+    await this.calls.stop();
+    const answer = await this.calls.act(textsOfBytes(bytes).map((text) => `asm\n${text}.\n`).join(""));
+    const first = bytes.findIndex((byte) => byte !== NONE);
+    const count = bytes.filter((byte) => byte !== NONE).length;
+    const stand = count === 1 ? "stands" : "stand";
+    return answer === null ? "" : say.bytesInRom(counted(count, "byte"), name, stand, hex(first, 3));
+  }
+
+  /** The bytes of all ROMs that the board has. A list goes on behind the end of a ROM. */
+  async bytes() {
+    const chips = await this.chips();
+    const listed = bytesOf(await this.calls.ask(listsOf(PAGES.filter((page) => chips.includes(page)))));
+    return listed.map((byte, at) => (chips.includes(Math.floor(at / PAGE_BYTES)) ? byte : NONE));
+  }
+
+  /** What stands in ROM, in Intel HEX. */
+  async hex() {
+    return (await this.chips()).length === 0 ? "" : hexOf(await this.bytes());
+  }
+
+  /** What stands in ROM, byte by byte from 000 up to the end of the last ROM; where there is none it reads as 0. */
+  async image() {
+    const end = (Math.max(-1, ...(await this.chips())) + 1) * PAGE_BYTES;
+    return Uint8Array.from((await this.bytes()).subarray(0, end), (byte) => Math.max(0, byte));
+  }
+}

@@ -1,0 +1,181 @@
+// What the runs of tests do, counted by the bench (`count`, `trace`) before each of them is done: how often each instruction is begun and
+// jumps, the cycles of each, how long each call takes until it comes back, and how long a lamp takes after a key. tools/lib/cover.awk and
+// profile.awk count the same.
+
+import { ADDRESSES } from "../bench/rom_bytes.js";
+import { readTraced } from "../engine/tracing.js";
+import { cyclesOf, isCall, isReturn } from "../engine/rom_codes.js";
+
+/**
+ * @typedef {import("../engine/tracing.js").Answers} Answers
+ * @typedef {import("../engine/tracing.js").Counted} Counted
+ * @typedef {{ times: number, withCalls: number, longest: number }} Calls those of one routine
+ * @typedef {{ presses: number, answered: number, first: number, last: number }} KeyTimes the longest until the first lamp that changed,
+ *   and until the last one before the next key
+ * @typedef {{ at: number, entered: number }} Entered a routine, and when it was entered
+ */
+
+/** The 4004 keeps three return addresses. */
+export const MOST_LEVELS = 3;
+
+export class Account {
+  /** @param {Uint8Array} codes what stands in ROM */
+  constructor(codes) {
+    this.codes = codes;
+    this.runs = new Float64Array(ADDRESSES);
+    this.taken = new Float64Array(ADDRESSES);
+    this.own = new Float64Array(ADDRESSES);
+    /** Cycles of instructions that were begun before a test. */
+    this.begunBefore = 0;
+    this.total = 0;
+    /** @type {Map<number, Calls>} by the addresses of the routines */
+    this.calls = new Map();
+    /** @type {Map<string, KeyTimes>} in the order of their first presses */
+    this.keys = new Map();
+    /** @type {Entered[]} */
+    this.open = [];
+    /** The key that was pressed last, whose lamps are waited for. */
+    this.waiting = { key: "", pressed: 0, first: 0, last: 0 };
+  }
+
+  begin() {
+    this.open = [];
+    this.waiting.key = "";
+  }
+
+  /**
+   * What is asked before a run of so many cycles.
+   * @param {number} cycles
+   */
+  questions(cycles) {
+    return `count ${cycles}\ntrace ${cycles} ret\n${this.waiting.key === "" ? "" : `trace ${cycles} lamps\n`}`;
+  }
+
+  /**
+   * @param {Answers} answers
+   * @param {number} elapsed the cycles of the test before the run
+   * @param {() => Answers} askAll asks for all instructions of the run
+   */
+  take(answers, elapsed, askAll) {
+    const links = this.count(answers.takeCounts());
+    const told = answers.takeTrace().lines;
+    if (this.waiting.key !== "") this.followLamps(answers.takeTrace().lines, elapsed);
+    // A JMS or a BBL after which the return addresses are those of before has no line.
+    this.followLinks(told.length === links ? told : askAll().takeTrace().lines, elapsed);
+  }
+
+  /**
+   * Counts what a run begins; gives how many JMS and BBL are among it.
+   * @param {Counted[]} counts
+   */
+  count(counts) {
+    let links = 0;
+    for (const { address, begun, jumped } of counts) {
+      const code = this.codes[address];
+      this.runs[address] += begun;
+      this.taken[address] += Math.max(0, jumped);
+      this.own[address] += cyclesOf(code) * begun;
+      if (isCall(code)) this.callsOf(this.targetOf(address)).times += begun;
+      if (isCall(code) || isReturn(code)) links += begun;
+    }
+    return links;
+  }
+
+  /**
+   * Where a JMS goes.
+   * @param {number} address
+   */
+  targetOf(address) {
+    return (this.codes[address] % 16) * 256 + this.codes[(address + 1) % ADDRESSES];
+  }
+
+  /**
+   * @param {number} at
+   * @returns {Calls}
+   */
+  callsOf(at) {
+    const found = this.calls.get(at) || { times: 0, withCalls: 0, longest: 0 };
+    this.calls.set(at, found);
+    return found;
+  }
+
+  /**
+   * From one routine into another, and back. Of four calls one inside the other the first one has no way back.
+   * @param {string[]} lines
+   * @param {number} elapsed
+   */
+  followLinks(lines, elapsed) {
+    for (const line of lines) {
+      const { cycles, address } = readTraced(line);
+      const code = this.codes[address];
+      if (isCall(code)) {
+        if (this.open.length === MOST_LEVELS) this.open.shift();
+        this.open.push({ at: this.targetOf(address), entered: elapsed + cycles + 2 });
+      } else if (isReturn(code) && this.open.length > 0) this.leave(elapsed + cycles + 1);
+    }
+  }
+
+  /**
+   * Leaves the routine that was entered last. One that is called within itself counts once; one that a test ends before is not entered.
+   * @param {number} time
+   */
+  leave(time) {
+    const left = this.open.pop();
+    if (!left || this.open.some(({ at }) => at === left.at)) return;
+    const cycles = Math.max(0, time - left.entered);
+    const calls = this.callsOf(left.at);
+    calls.withCalls += cycles;
+    calls.longest = Math.max(calls.longest, cycles);
+  }
+
+  /**
+   * What writes a port takes one cycle.
+   * @param {string[]} lines
+   * @param {number} elapsed
+   */
+  followLamps(lines, elapsed) {
+    if (lines.length === 0) return;
+    const [first, last] = [lines[0], lines[lines.length - 1]].map((line) => elapsed + readTraced(line).cycles + 1);
+    if (this.waiting.first === 0) this.waiting.first = first;
+    this.waiting.last = last;
+  }
+
+  /**
+   * A key went down.
+   * @param {string} key
+   * @param {number} elapsed
+   */
+  pressed(key, elapsed) {
+    this.endKey();
+    this.waiting = { key, pressed: elapsed, first: 0, last: 0 };
+  }
+
+  endKey() {
+    const { key, pressed, first, last } = this.waiting;
+    if (key === "") return;
+    const times = this.keys.get(key) || { presses: 0, answered: 0, first: 0, last: 0 };
+    this.keys.set(key, times);
+    times.presses += 1;
+    if (first > 0) {
+      times.answered += 1;
+      times.first = Math.max(times.first, first - pressed);
+      times.last = Math.max(times.last, last - pressed);
+    }
+    this.waiting.key = "";
+  }
+
+  /**
+   * The last instruction was not done to its end: its last cycle was never one of this test.
+   * @param {number} address
+   */
+  cutShort(address) {
+    this.own[address] -= 1;
+  }
+
+  /** @param {number} elapsed the cycles of the test */
+  end(elapsed) {
+    while (this.open.length > 0) this.leave(elapsed);
+    this.endKey();
+    this.total += elapsed;
+  }
+}

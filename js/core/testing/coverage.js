@@ -1,0 +1,65 @@
+// Which lines of a program were run, by the counts of an account: each with its count and, for a conditional jump, its ways.
+
+import { hasWays } from "../engine/rom_codes.js";
+import * as say from "../../words/testing.js";
+
+/**
+ * @typedef {import("../machine/source_map.js").SourceMap} SourceMap
+ * @typedef {import("./account.js").Account} Account
+ * @typedef {{ line: number, count: number, isJump: boolean, taken: number }} Covered a line that is an instruction
+ * @typedef {{ from: number, to: number }} Stretch lines below each other that were never run
+ * @typedef {{ lines: Covered[], instructions: number, run: number, ways: number, waysRun: number, never: Stretch[] }} Coverage
+ */
+
+/**
+ * The lines that are instructions; one of bytes (DB) counts where it was run.
+ * @param {Account} account
+ * @param {SourceMap} map
+ * @returns {Covered[]}
+ */
+function coveredLines({ codes, runs, taken }, map) {
+  /** @type {Covered[]} */
+  const lines = [];
+  for (let line = 1; line <= map.count; line++) {
+    const address = map.addressOf(line);
+    if (address === undefined || !(map.beginsInstruction(address) || runs[address] > 0)) continue;
+    const isJump = map.sizes[line] === 2 && hasWays(codes[address]);
+    lines.push({ line, count: runs[address], isJump, taken: isJump ? taken[address] : 0 });
+  }
+  return lines;
+}
+
+/**
+ * @param {Account} account
+ * @param {SourceMap} map
+ * @returns {Coverage}
+ */
+export function coverageOf(account, map) {
+  const lines = coveredLines(account, map);
+  const jumps = lines.filter(({ isJump }) => isJump);
+  /** @type {Stretch[]} */
+  const never = [];
+  let isOpen = false;
+  for (const { line, count } of lines) {
+    if (count === 0 && isOpen) never[never.length - 1].to = line;
+    else if (count === 0) never.push({ from: line, to: line });
+    isOpen = count === 0;
+  }
+  return {
+    lines, never,
+    instructions: lines.length,
+    run: lines.filter(({ count }) => count > 0).length,
+    ways: 2 * jumps.length,
+    waysRun: jumps.reduce((sum, { taken, count }) => sum + Number(taken > 0) + Number(count > taken), 0),
+  };
+}
+
+/**
+ * A part of all, in words: `20 of 21 instructions were run (95.2 %)`.
+ * @param {Coverage} coverage
+ */
+export function wordsOfCoverage({ instructions, run, ways, waysRun }) {
+  /** @type {(part: number, all: number) => string} */
+  const percent = (part, all) => (all > 0 ? ` (${((100 * part) / all).toFixed(1)} %)` : "");
+  return say.covered([run, instructions, waysRun, ways], percent(run, instructions), percent(waysRun, ways));
+}

@@ -1,0 +1,70 @@
+// Which label a session under test has passed last, and when: all that was done in the test is done once more, and counted by pieces.
+
+import { LONGEST_RUN } from "../engine/key_queue.js";
+import { Answers, readTraced } from "../engine/tracing.js";
+import * as say from "../../words/testing.js";
+
+/**
+ * @typedef {import("../debug/conditions.js").Condition} Condition
+ * @typedef {import("../machine/source_map.js").SourceMap} SourceMap
+ * @typedef {import("./test_session.js").Done} Done
+ * @typedef {import("./test_session.js").TestSession} TestSession
+ * @typedef {{ address: number, cycles: number }} Passed after so many cycles of the test
+ */
+
+/**
+ * What was done in a test, in pieces as long as the bench takes.
+ * @param {Done[]} done
+ * @returns {Generator<Done>}
+ */
+function* piecesOf(done) {
+  for (const { line, cycles } of done) {
+    if (line !== "run") yield { line, cycles: 0 };
+    for (let left = cycles; left > 0; left -= LONGEST_RUN) yield { line: "run", cycles: Math.min(left, LONGEST_RUN) };
+  }
+}
+
+/**
+ * The last time that one of some addresses was passed; null where none was.
+ * @param {TestSession} session
+ * @param {Set<number>} addresses
+ * @returns {Passed | null}
+ */
+export function lastPassed({ engine, begun, all }, addresses) {
+  const file = begun.slice();
+  const before = begun.slice();
+  let [found, elapsed, from] = [0, 0, 0];
+  for (const { line, cycles } of piecesOf(all)) {
+    if (cycles === 0) {
+      engine.serve(file, `${line}\n`, file);
+      continue;
+    }
+    const counts = new Answers(engine.ask(file, `count ${cycles}\n`).answers).takeCounts();
+    if (counts.some(({ address }) => addresses.has(address))) {
+      before.set(file);
+      [found, from] = [cycles, elapsed];
+    }
+    engine.serve(file, `run ${cycles}\n`, file);
+    elapsed += cycles;
+  }
+  if (found === 0) return null;
+  const { lines } = new Answers(engine.ask(before, `trace ${found}\n`).answers).takeTrace();
+  const last = [...lines].reverse().map(readTraced).find(({ address }) => addresses.has(address));
+  return last ? { address: last.address, cycles: from + last.cycles } : null;
+}
+
+/**
+ * @param {TestSession} session
+ * @param {SourceMap} map
+ * @param {Condition} condition that was awaited
+ */
+export function wordsOfPassed(session, map, { address, text }) {
+  const labels = [...map.names.values()].filter(({ isLabel }) => isLabel);
+  const any = lastPassed(session, new Set(labels.map(({ value }) => value)));
+  const ago = (/** @type {Passed} */ { cycles }) => say.cyclesAgo(session.elapsed - cycles);
+  const named = any && labels.find(({ value }) => value === any.address);
+  const last = any && named ? say.lastLabel(named.name, ago(any)) : "";
+  if (address < 0) return last;
+  const own = lastPassed(session, new Set([address]));
+  return say.wasPassed(last, text.startsWith("@") ? text : `pc ${address}`, own ? say.passedLast(ago(own)) : say.NOT_PASSED);
+}

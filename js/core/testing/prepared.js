@@ -1,0 +1,71 @@
+// What tests are run on: a session in memory with the texts of a board and a program, and their names; or what is refused of them.
+
+import { readBoard, refusalOf } from "../bench/answers.js";
+import { matchAnswers, readInputs } from "../bench/inputs.js";
+import { Face } from "../board/face.js";
+import { missingOf } from "../board/face_board.js";
+import { SourceMap } from "../machine/source_map.js";
+import { faultsOfLines, sentText } from "../text/text_fault.js";
+import { romCodes } from "../engine/rom_codes.js";
+
+/**
+ * @typedef {import("../debug/conditions.js").Names} Names
+ * @typedef {import("../engine/engine.js").Engine} Engine
+ * @typedef {{ boardText: string, programText: string }} Texts
+ *
+ * What is wrong with a text: its line (0 where none is known), and why; `number` is that of a refusal by the bench, 0 for none.
+ * @typedef {{ text: "board" | "program" | "tests" | "properties", line: number, number: number, words: string }} TextFault
+ * @typedef {{ file: Uint8Array, names: Names & { map: SourceMap }, codes: Uint8Array }} Prepared the session, the names, and what
+ *   stands in ROM
+ */
+
+/**
+ * What cannot be right with the names of keys and lamps, and with the displays.
+ * @param {Face} face
+ * @param {import("../bench/answers.js").Board} board
+ * @returns {TextFault[]}
+ */
+function faultsOfNames(face, board) {
+  const found = [...face.faults, ...missingOf(face, board)].filter(({ isRefused }) => isRefused);
+  return found.map(({ line, words }) => ({ text: "board", line, number: 0, words }));
+}
+
+/**
+ * @param {"board" | "program"} name
+ * @param {string} text
+ * @returns {TextFault[]}
+ */
+function faultsOfText(name, text) {
+  return faultsOfLines(text, name === "board" ? "#" : ";").map(({ line, number, words }) => ({ text: name, line, number, words }));
+}
+
+/**
+ * @param {"board" | "program"} name
+ * @param {string} answer
+ * @returns {TextFault[]}
+ */
+function refusedBy(name, answer) {
+  const refusal = refusalOf(answer);
+  return refusal ? [{ text: name, line: refusal.line, number: refusal.number, words: "" }] : [];
+}
+
+/**
+ * @param {Engine} engine
+ * @param {Texts} texts
+ * @returns {{ prepared: Prepared | null, faults: TextFault[] }}
+ */
+export function prepare(engine, { boardText, programText }) {
+  const unsent = [...faultsOfText("board", boardText), ...faultsOfText("program", programText)];
+  if (unsent.length > 0) return { prepared: null, faults: unsent };
+  const file = engine.begin();
+  const program = sentText(programText, ";");
+  const lines = `wire\n${sentText(boardText, "#")}.\nasm\n${program}.\n`;
+  const [wired, loaded] = engine.serve(file, lines, file).answers;
+  const refused = [...refusedBy("board", wired), ...refusedBy("program", loaded)];
+  if (refused.length > 0) return { prepared: null, faults: refused.slice(0, 1) };
+  const questions = `board\nmap\n${program}.\n`;
+  const [board, map] = matchAnswers(readInputs(questions), engine.ask(file, questions).answers);
+  const names = { face: new Face(boardText), board: readBoard(board), map: new SourceMap(map, program) };
+  const faults = faultsOfNames(names.face, names.board);
+  return { prepared: faults.length > 0 ? null : { file, names, codes: romCodes(engine, file) }, faults };
+}

@@ -1,0 +1,302 @@
+// Runs tests: each on a session of its own in memory, as tools/test does. Without a document: the page's worker and node call it.
+
+import { counted, hex } from "../bench/numbers.js";
+import { itemsOf, valueIn } from "../bench/state_line.js";
+import { LONGEST_RUN } from "../engine/key_queue.js";
+import { Answers, readTraced, valuesOf } from "../engine/tracing.js";
+import { cyclesOf } from "../engine/rom_codes.js";
+import { lastInstructions } from "./last_instructions.js";
+import { wordsOfPassed } from "./last_passed.js";
+import { Paper } from "./paper.js";
+import { TestSession } from "./test_session.js";
+import { keysOf } from "./test_text.js";
+import * as say from "../../words/testing.js";
+
+/**
+ * @typedef {import("./account.js").Account} Account
+ * @typedef {import("../debug/conditions.js").Condition} Condition
+ * @typedef {import("../engine/engine.js").Engine} Engine
+ * @typedef {import("./prepared.js").Prepared} Prepared
+ * @typedef {import("./test_text.js").Action} Action
+ * @typedef {import("./test_text.js").ChosenKey} ChosenKey
+ * @typedef {import("./test_text.js").Key} Key
+ * @typedef {import("./test_text.js").Step} Step
+ * @typedef {import("./test_text.js").Test} Test
+ *
+ * What is wrong: the line of the step with its text, and why; what the session was by then: the cycles of the test, lamps and registers
+ * as `state` tells them, the last instructions; and the bytes of its file, null where it was not begun.
+ * @typedef {{ line: number, text: string, words: string, cycles: number, lamps: string, registers: string, trace: string[],
+ *   file: Uint8Array | null }} Failure
+ * @typedef {{ name: string, line: number, cycles: number, failure: Failure | null }} Outcome
+ */
+
+/** How long a key is down (43 ms) and up (173 ms) by `keys`, in cycles. */
+const DOWN = 4000;
+/** How often it is looked for what an eye sees. */
+const LOOK_CYCLES = 1000;
+const UP = 16000;
+
+/** The tests of a text on one board with one program. */
+export class TestRun {
+  /**
+   * @param {Engine} engine
+   * @param {Prepared} prepared
+   * @param {Account} account
+   * @param {() => Promise<void>} breathe
+   * @param {import("../board/face.js").Printer | null} [printer] that tests ask for
+   */
+  constructor(engine, prepared, account, breathe, printer = null) {
+    this.engine = engine;
+    this.prepared = prepared;
+    this.account = account;
+    this.breathe = breathe;
+    this.printer = printer;
+    /** @type {Map<string, { file: Uint8Array, codes: number[] }>} the states that were saved, and what was printed by then */
+    this.states = new Map();
+    this.down = DOWN;
+    this.up = UP;
+  }
+
+  /**
+   * @param {Test} test
+   * @param {string} savedBy the name of the test that saves the state which it begins with
+   * @returns {Promise<Outcome>}
+   */
+  async run({ name, line, from, steps }, savedBy) {
+    const begun = from === "" ? { file: this.prepared.file, codes: [] } : this.states.get(from);
+    if (!begun) {
+      const words = say.stateNotThere(from, savedBy);
+      const [step] = steps;
+      const failure = { line: step.line, text: step.text, words, cycles: 0, lamps: "", registers: "", trace: [], file: null };
+      return { name, line, cycles: 0, failure };
+    }
+    this.account.codes = this.prepared.codes;
+    const paper = this.printer && new Paper(this.printer, begun.codes);
+    const session = new TestSession(this.engine, begun.file, this.account, this.breathe, paper);
+    // Another test may have put other bytes into ROM.
+    if (from !== "") session.readCodes();
+    this.down = DOWN;
+    this.up = UP;
+    const failure = await this.runSteps(session, steps, []);
+    session.end();
+    return { name, line, cycles: session.elapsed, failure };
+  }
+
+  /**
+   * @param {TestSession} session
+   * @param {Step[]} steps
+   * @param {string[]} within where they stand, the innermost first: what is repeated, and shared steps
+   * @returns {Promise<Failure | null>}
+   */
+  async runSteps(session, steps, within) {
+    for (const { line, text, action } of steps) {
+      if ("steps" in action) {
+        const failure = await this.runInner(session, action, line, within);
+        if (failure) return failure;
+        continue;
+      }
+      const words = await this.do(session, action);
+      const where = within.length > 0 ? `; in ${within.join(", in ")}` : "";
+      if (words !== "") return { line, text, words: words + where, ...this.toldOf(session) };
+    }
+    return null;
+  }
+
+  /**
+   * @param {TestSession} session
+   * @param {Extract<Action, { steps: Step[] }>} action
+   * @param {number} line
+   * @param {string[]} within
+   */
+  async runInner(session, action, line, within) {
+    if (action.kind === "do") return this.runSteps(session, action.steps, [say.stepsOfLine(action.name, line), ...within]);
+    for (let turn = 1; turn <= action.times; turn++) {
+      const failure = await this.runSteps(session, action.steps, [say.turnOf(turn, action.times, line), ...within]);
+      if (failure) return failure;
+      await this.breathe();
+    }
+    return null;
+  }
+
+  /**
+   * What a session is where a test has failed.
+   * @param {TestSession} session
+   */
+  toldOf(session) {
+    const [state] = session.ask("state\n");
+    const registers = ["acc", "cy", "pc", "dcl", "test", "r"].map((key) => `${key} ${valueIn(state, key)}`).join(" ");
+    return {
+      cycles: session.elapsed, lamps: itemsOf(valueIn(state, "lamps")).join(""), file: session.file.slice(),
+      registers: `${registers} ret ${itemsOf(valueIn(state, "ret")).join(" ")}`,
+      trace: lastInstructions(session, this.prepared.names),
+    };
+  }
+
+  /**
+   * Does a step; gives what is wrong, "" for nothing.
+   * @param {TestSession} session
+   * @param {Exclude<Action, { steps: Step[] }>} action
+   * @returns {Promise<string>}
+   */
+  async do(session, action) {
+    if (action.kind === "run") return this.advance(session, action.cycles);
+    if (action.kind === "until") return this.until(session, action.condition, action.cycles);
+    if (action.kind === "expect") return session.look(action.condition).told;
+    if ("keys" in action) return this.doKeys(session, action.keys, action.kind);
+    if (action.kind === "set") {
+      session.command(action.command);
+      if (action.changesRom) session.readCodes();
+    }
+    if (action.kind === "reset") session.command("reset");
+    if (action.kind === "mark") session.marked = session.elapsed;
+    if (action.kind === "pace") [this.down, this.up] = [action.down, action.up];
+    if (action.kind === "save") this.states.set(action.state, { file: session.file.slice(), codes: session.codes });
+    return "";
+  }
+
+  /**
+   * @param {TestSession} session
+   * @param {number} cycles
+   */
+  async advance(session, cycles) {
+    const stop = await session.run(cycles);
+    return stop === "code" ? say.runStopped(session.elapsed, this.wordsOfCode(session)) : "";
+  }
+
+  /** @param {TestSession} session stands before a code that is no instruction */
+  wordsOfCode({ counter }) {
+    return say.beforeCode(this.named(counter));
+  }
+
+  /** @param {number} address */
+  named(address) {
+    const name = this.prepared.names.map.nameOf(address);
+    return `${hex(address, 3)}${name && ` (${name})`}`;
+  }
+
+  /**
+   * The key that a value names now; or why there is none, in words.
+   * @param {TestSession} session
+   * @param {ChosenKey} chosen
+   * @returns {{ key: Key | undefined, words: string }}
+   */
+  choose(session, { word, place, probe, keys }) {
+    const value = parseInt(valuesOf(new Answers(session.ask(`trace 1 ${probe}\n`)).takeTrace().row)[0], 16);
+    const what = say.isAnd(place, value);
+    if (keys.length > 0) return { key: keys[value], words: say.hasKeys(what, word, counted(keys.length, "key")) };
+    const own = keysOf(this.prepared.names.face);
+    const digit = hex(value, 1);
+    const key = own.get(String(value)) || own.get(digit);
+    return { key, words: say.hasNoKey(what, value, value > 9 ? say.norKey(digit) : "") };
+  }
+
+  /**
+   * @param {TestSession} session
+   * @param {(Key | ChosenKey)[]} keys
+   * @param {"keys" | "press" | "release"} kind
+   */
+  async doKeys(session, keys, kind) {
+    for (const each of keys) {
+      const { key, words } = "word" in each ? this.choose(session, each) : { key: each, words: "" };
+      if (!key) return words;
+      const { name, press, release } = key;
+      if (kind !== "release") {
+        session.command(press);
+        this.account.pressed(name, session.elapsed);
+      }
+      const down = kind === "keys" ? await this.advance(session, this.down) : "";
+      if (down !== "") return down;
+      if (kind !== "press") session.command(release);
+      const up = kind === "keys" ? await this.advance(session, this.up) : "";
+      if (up !== "") return up;
+    }
+    return "";
+  }
+
+  /**
+   * Runs till a condition holds at the end of an instruction. At a label a run goes on, to the next time that it is reached.
+   * @param {TestSession} session
+   * @param {Condition} condition
+   * @param {number} within
+   */
+  async until(session, condition, within) {
+    const begun = session.elapsed;
+    const isLabel = condition.address >= 0;
+    if (!isLabel && session.look(condition).holds) return "";
+    const end = begun + within;
+    const stop = isLabel ? await this.untilLabel(session, condition, end) : await this.untilChange(session, condition, end);
+    const { holds, told } = session.look(condition);
+    if (holds) return "";
+    if (stop === "code") return say.runStoppedAt(session.elapsed - begun, this.wordsOfCode(session), told);
+    return say.didNotCome(within, told, wordsOfPassed(session, this.prepared.names.map, condition));
+  }
+
+  /**
+   * Up to a breakpoint.
+   * @param {TestSession} session
+   * @param {Condition} condition
+   * @param {number} end
+   */
+  async untilLabel(session, { address }, end) {
+    const set = (/** @type {string} */ word) => this.engine.serve(session.file, `${word} ${address}\n`, session.file);
+    let stop = "end";
+    set("break");
+    while (session.elapsed < end && stop === "end") {
+      stop = await session.run(Math.min(end - session.elapsed, LONGEST_RUN));
+    }
+    set("unbreak");
+    return stop;
+  }
+
+  /**
+   * What the condition is about is traced; first for a short time, since it may come soon.
+   * @param {TestSession} session
+   * @param {Condition} condition
+   * @param {number} end
+   */
+  async untilChange(session, condition, end) {
+    if (condition.needs.includes("seen") || condition.needs.includes("printed")) return this.untilSeen(session, condition, end);
+    let stop = "end";
+    // What no trace tells (TEST, a cycle that is owed) can change with the first cycle alone.
+    let piece = condition.places.length > 0 ? 1000 : 1;
+    for (; session.elapsed < end && stop === "end"; piece = piece < 10000 ? piece * 10 : LONGEST_RUN) {
+      const most = end - session.elapsed;
+      piece = Math.min(piece, most);
+      const cycles = condition.places.length > 0 ? this.cyclesToChange(session, condition, piece, most) : 0;
+      stop = await session.run(cycles || piece);
+      if (cycles > 0 || (piece === 1 && session.look(condition).holds)) break;
+    }
+    return stop;
+  }
+
+  /**
+   * What an eye sees of a display whose digits are lit by turns, and what is printed: it is looked at every so many cycles.
+   * @param {TestSession} session
+   * @param {Condition} condition
+   * @param {number} end
+   */
+  async untilSeen(session, condition, end) {
+    let stop = "end";
+    while (session.elapsed < end && stop === "end") {
+      stop = await session.run(Math.min(LOOK_CYCLES, end - session.elapsed));
+      if (session.look(condition).holds) break;
+    }
+    return stop;
+  }
+
+  /**
+   * How long it takes, at most so many cycles, until the condition holds; 0 where it does not within a piece.
+   * @param {TestSession} session
+   * @param {Condition} condition
+   * @param {number} piece
+   * @param {number} most
+   */
+  cyclesToChange(session, condition, piece, most) {
+    const { lines } = new Answers(session.ask(`trace ${piece} ${condition.places.join(" ")}\n`)).takeTrace();
+    for (const line of lines) {
+      const { cycles, address, row } = readTraced(line);
+      if (condition.holds(valuesOf(row))) return Math.min(most, cycles + cyclesOf(this.account.codes[address]));
+    }
+    return 0;
+  }
+}

@@ -1,0 +1,385 @@
+// A text of tests, as tools/lib/test_text.awk reads it: its tests with their steps, and what cannot be right in it. Without a document.
+// The manual ("The lines of a test") has the language.
+
+import { durationOf, wholeDuration } from "../debug/durations.js";
+import { testConditionOf } from "../debug/conditions.js";
+import { readSetting } from "./setting.js";
+import * as say from "../../words/testing.js";
+
+/**
+ * @typedef {import("../debug/conditions.js").Condition} Condition
+ * @typedef {import("../debug/conditions.js").Names} Names
+ * @typedef {{ line: number, words: string }} Fault
+ * @typedef {{ name: string, press: string, release: string }} Key with the commands that move it
+ *
+ * A key that a value names: the word of the line, the place, its word of `trace`, and the keys for the values from 0 on; without these, the
+ * key whose name is the value.
+ * @typedef {{ word: string, place: string, probe: string, keys: Key[] }} ChosenKey
+ *
+ * What a step does.
+ * @typedef {{ kind: "from" | "save", state: string } | { kind: "press" | "release" | "keys", keys: (Key | ChosenKey)[] }
+ *   | { kind: "pace", down: number, up: number } | { kind: "run", cycles: number }
+ *   | { kind: "until", condition: Condition, cycles: number } | { kind: "expect", condition: Condition }
+ *   | { kind: "mark" | "reset" } | { kind: "set", command: string, changesRom: boolean }
+ *   | { kind: "repeat", times: number, steps: Step[] } | { kind: "do", name: string, steps: Step[] }} Action
+ * @typedef {{ line: number, text: string, action: Action }} Step
+ *
+ * Shared steps, with how many lines are done by them, what is repeated as often as it is.
+ * @typedef {{ name: string, line: number, steps: Step[], lines: number }} Shared
+ * @typedef {{ name: string, line: number, from: string, steps: Step[] }} Test `from` is the state that it begins with, "" for none
+ * @typedef {{ tests: Test[], faults: Fault[] }} TestText
+ */
+
+/** What is repeated is done so often at most, and all of a test comes to so many lines. */
+const MOST_TIMES = 100000;
+const MOST_LINES = 1000000;
+
+/** What is wrong with a line. */
+class BadLine extends Error {}
+
+/**
+ * @param {string} words
+ * @returns {never}
+ */
+function fail(words) {
+  throw new BadLine(words);
+}
+
+/**
+ * The names of a board's keys with the commands that move them, in the order of the face; last what is at TEST.
+ * @param {import("../board/face.js").Face} face
+ * @returns {Map<string, Key>}
+ */
+export function keysOf(face) {
+  /** @type {Map<string, Key>} */
+  const keys = new Map();
+  for (const [key, { text: name }] of face.keys) {
+    if (name !== "") keys.set(name, { name, press: `press ${key}`, release: `release ${key}` });
+  }
+  if (face.test && !keys.has(face.test.name)) {
+    const { name, level } = face.test;
+    keys.set(name, { name, press: `test ${level}`, release: `test ${1 - level}` });
+  }
+  return keys;
+}
+
+class TestReader {
+  /** @param {Names} names */
+  constructor(names) {
+    this.names = names;
+    this.keys = keysOf(names.face);
+    /** @type {Test[]} */
+    this.tests = [];
+    /** @type {Fault[]} */
+    this.faults = [];
+    /** @type {Map<string, Test>} by which test each state is saved */
+    this.savedBy = new Map();
+    /** @type {Map<string, Shared>} */
+    this.shared = new Map();
+    /** @type {Shared | null} the shared steps that are being read, null in a test */
+    this.sharing = null;
+    /** @type {Step[]} the steps that the next one is added to */
+    this.steps = [];
+    /** @type {{ line: number, times: number, outer: Step[] }[]} what is repeated and has no end yet, the outermost first */
+    this.repeats = [];
+    /** How many lines are done by the test, or by the shared steps, so far. */
+    this.lines = 0;
+    this.hasBegun = false;
+  }
+
+  /** @returns {Test} the one that is being read */
+  get test() {
+    return this.tests[this.tests.length - 1];
+  }
+
+  /** @param {string} text */
+  read(text) {
+    const lines = text.replace(/^\uFEFF/, "").replace(/\r(?=\n|$)/g, "").split("\n").map((line) => line.replace(/^[ \t]+|[ \t]+$/g, ""));
+    for (let at = 0; at < lines.length; at++) {
+      const line = this.withoutComment(lines[at]);
+      if (line === "") continue;
+      try {
+        this.readLine(line, at + 1);
+      } catch (fault) {
+        if (!(fault instanceof BadLine)) throw fault;
+        this.faults.push({ line: at + 1, words: fault.message });
+        // What is no text of tests has no lines of one.
+        if (!this.hasBegun && /^[\t -~]*$/.test(lines[at])) return;
+      }
+    }
+    this.closeRepeats();
+    if (this.tests.length === 0 && this.faults.length === 0) this.faults.push({ line: 1, words: say.NO_TEST });
+  }
+
+  /**
+   * From a mark with blanks around it on, but in the name of a test, and where a key has the mark as its name.
+   * @param {string} line
+   */
+  withoutComment(line) {
+    if (/^[#;]/.test(line)) return "";
+    if (/^test[ \t]/.test(line)) return line;
+    const hasKeys = /^(press|release|keys)[ \t]/.test(line);
+    const mark = [...line.matchAll(/[ \t]+([#;])(?=[ \t]|$)/g)].find(([, name]) => !hasKeys || !this.keys.has(name));
+    return mark ? line.slice(0, mark.index) : line;
+  }
+
+  /**
+   * @param {string} text
+   * @param {number} line
+   */
+  readLine(text, line) {
+    if (/[^\t -~]/.test(text)) fail(say.NOT_ASCII);
+    const words = text.split(/[ \t]+/);
+    if (words[0] === "test" || words[0] === "steps") {
+      this.begin();
+      if (words[0] === "steps") this.beginShared(words, line);
+      else this.beginTest(text.replace(/^test[ \t]*/, ""), line);
+    } else if (!this.hasBegun) {
+      fail(say.beginsWithTest(text.slice(0, 60)));
+    } else if (words[0] === "end") {
+      this.endRepeat(words);
+    } else {
+      this.readStep(words, text, line);
+    }
+  }
+
+  /** A test, or shared steps, begin: what came before has ended. */
+  begin() {
+    this.closeRepeats();
+    this.hasBegun = true;
+    this.lines = 0;
+  }
+
+  /**
+   * @param {string} name
+   * @param {number} line
+   */
+  beginTest(name, line) {
+    this.sharing = null;
+    this.steps = [];
+    this.tests.push({ name, line, from: "", steps: this.steps });
+    if (name === "") fail(say.TEST_NAME);
+  }
+
+  /**
+   * @param {string[]} words
+   * @param {number} line
+   */
+  beginShared(words, line) {
+    const name = words.length === 2 ? words[1] : "";
+    const before = this.shared.get(name);
+    this.steps = [];
+    this.sharing = { name, line, steps: this.steps, lines: 0 };
+    this.shared.set(name, this.sharing);
+    if (name === "") fail(say.STEPS_NAME);
+    if (before) fail(say.stepsAlready(name, before.line));
+  }
+
+  // --- what is repeated ---
+
+  closeRepeats() {
+    for (const { line } of this.repeats.splice(0)) this.faults.push({ line, words: say.NO_END });
+  }
+
+  /** @param {string[]} words */
+  endRepeat(words) {
+    const open = this.repeats.pop();
+    if (open) this.steps = open.outer;
+    if (words.length > 1) fail(say.END_FORM);
+    if (!open) fail(say.NO_REPEAT);
+  }
+
+  /**
+   * So many lines more are done, as often as what is repeated here.
+   * @param {number} more
+   */
+  addLines(more) {
+    const before = this.lines;
+    this.lines += this.repeats.reduce((product, { times }) => product * times, more);
+    if (this.sharing) this.sharing.lines = this.lines;
+    if (before <= MOST_LINES && this.lines > MOST_LINES) fail(say.TOO_MANY_LINES);
+  }
+
+  /**
+   * @param {string[]} words
+   * @param {string} text
+   * @param {number} line
+   */
+  readStep(words, text, line) {
+    /** @type {Step} */
+    const step = { line, text, action: { kind: "mark" } };
+    this.steps.push(step);
+    if (words[0] === "repeat") {
+      const isCount = words.length === 2 && /^\d{1,6}$/.test(words[1]) && Number(words[1]) >= 1 && Number(words[1]) <= MOST_TIMES;
+      const times = isCount ? Number(words[1]) : 1;
+      const outer = this.steps;
+      this.steps = [];
+      step.action = { kind: "repeat", times, steps: this.steps };
+      this.repeats.push({ line, times, outer });
+      if (!isCount) fail(say.REPEAT_FORM);
+    } else if (words[0] === "do") {
+      step.action = this.readDo(words);
+    } else {
+      this.addLines(1);
+      step.action = this.readAction(words);
+    }
+  }
+
+  /**
+   * Shared steps are known from their end on, so none lead to themselves.
+   * @param {string[]} words
+   * @returns {Action}
+   */
+  readDo(words) {
+    if (words.length !== 2) fail(say.DO_FORM);
+    const [, name] = words;
+    if (this.sharing && this.sharing.name === name) fail(say.stepsOfThemselves(name));
+    const there = [...this.shared.keys()].filter((each) => each !== "" && (!this.sharing || each !== this.sharing.name));
+    const found = this.shared.get(name);
+    if (!found) {
+      const which = say.stepsThere(there.join(" "), name);
+      return fail(say.noSteps(name, which));
+    }
+    this.addLines(found.lines);
+    return { kind: "do", name, steps: found.steps };
+  }
+
+  /**
+   * @param {string[]} words
+   * @returns {Action}
+   */
+  readAction(words) {
+    const [kind, ...rest] = words;
+    if (kind === "from" || kind === "save") return this.readState(kind, rest);
+    if (kind === "press" || kind === "release" || kind === "keys") return this.readKeys(kind, rest);
+    if (kind === "pace") return readPace(rest);
+    if (kind === "run") return { kind, cycles: wholeDuration(rest) || fail(say.RUN_FORM) };
+    if (kind === "until") return this.readUntil(rest);
+    if (kind === "expect") return { kind, condition: this.readCondition(rest) };
+    if (kind === "set") return { kind, ...readSetting(rest, this.names, fail) };
+    if (kind === "mark" || kind === "reset") return rest.length === 0 ? { kind } : fail(say.standsAlone(kind));
+    return fail(say.noForm(kind.slice(0, 30), say.FIRST_WORDS));
+  }
+
+  /**
+   * @param {"from" | "save"} kind
+   * @param {string[]} words
+   * @returns {Action}
+   */
+  readState(kind, words) {
+    const [state] = words;
+    if (words.length !== 1) fail(say.stateForm(kind));
+    if (kind === "save" && this.repeats.length > 0) fail(say.SAVED_ONCE);
+    if (this.sharing) fail(say.noStates(kind));
+    const before = this.savedBy.get(state);
+    if (kind === "save") {
+      if (before) fail(say.savedBefore(state, before.name));
+      this.savedBy.set(state, this.test);
+      return { kind, state };
+    }
+    if (this.test.steps.length > 1 || this.repeats.length > 0) fail(say.FROM_FORM);
+    const there = this.savedBy.size > 0 ? say.statesThere([...this.savedBy.keys()].join(" ")) : "";
+    if (!before) fail(say.noSuchState(state, there));
+    if (before === this.test) fail(say.OWN_STATE);
+    this.test.from = state;
+    return { kind, state };
+  }
+
+  /**
+   * Names of keys; for `keys` a word that is none is taken letter by letter.
+   * @param {"press" | "release" | "keys"} kind
+   * @param {string[]} words
+   * @returns {Action}
+   */
+  readKeys(kind, words) {
+    if (words.length === 0) fail(say.keysForm(kind, kind === "keys"));
+    const keys = words.flatMap((word) => {
+      const key = this.keys.get(word) || this.chosenKey(word);
+      if (key) return [key];
+      return kind === "keys" ? [...word].map((letter) => this.keys.get(letter) || this.noKey(letter, word)) : [this.noKey(word, word)];
+    });
+    return { kind, keys };
+  }
+
+  /**
+   * A word that names a key by a value: `{r4}` the one whose name the value is, `{r4:red,green}` one of these; null where it is none.
+   * @param {string} word
+   * @returns {ChosenKey | null}
+   */
+  chosenKey(word) {
+    const [, inner] = /^\{([^{}]+)\}$/.exec(word) || [];
+    if (inner === undefined) return null;
+    const [, place, list] = /^([^:]*)(?::(.*))?$/.exec(inner) || ["", ""];
+    if (!/^(acc|cy|dcl|r[0-9]+|(ram|st)\.[0-9A-Za-z.]+)$/.test(place) || list === "") return fail(say.CHOICE_FORM);
+    const keys = list === undefined ? [] : list.split(",").map((name) => this.keys.get(name) || this.noKey(name, name));
+    const [probe] = this.readCondition([place, "0"]).places;
+    return { word, place, probe, keys };
+  }
+
+  /**
+   * @param {string} name
+   * @param {string} word in which it stands
+   * @returns {never}
+   */
+  noKey(name, word) {
+    const there = [...this.keys.keys()].join(" ");
+    const what = word.length > name.length ? say.nor(name, word) : name;
+    return fail(say.noKey(what, there));
+  }
+
+  /** @param {string[]} words */
+  readCondition(words) {
+    const { condition, fault } = testConditionOf(words, this.names);
+    return condition || fail(fault);
+  }
+
+  /**
+   * @param {string[]} words
+   * @returns {Action}
+   */
+  readUntil(words) {
+    const within = words.slice(0, -1).lastIndexOf("within");
+    if (within < 1) fail(say.UNTIL_FORM);
+    const cycles = wholeDuration(words.slice(within + 1));
+    if (cycles < 1) fail(say.WITHIN_FORM);
+    const condition = this.readCondition(words.slice(0, within));
+    if (condition.needs.includes("cycles")) fail(say.NO_CYCLES);
+    return { kind: "until", condition, cycles };
+  }
+}
+
+/**
+ * @param {string[]} words
+ * @returns {Action}
+ */
+function readPace(words) {
+  const down = durationOf(words, 0);
+  const up = durationOf(words, down.words);
+  const isWhole = down.cycles > 0 && up.cycles > 0 && down.words + up.words === words.length;
+  return isWhole ? { kind: "pace", down: down.cycles, up: up.cycles }
+    : fail(say.PACE_FORM);
+}
+
+/**
+ * What steps do, without shared steps: the lines of these stand in the place of `do`.
+ * @param {Step[]} steps
+ * @returns {{ text: string, action: Action }[]}
+ */
+export function ownLines(steps) {
+  return steps.flatMap(({ text, action }) => {
+    if (action.kind === "do") return ownLines(action.steps);
+    if (action.kind !== "repeat") return [{ text, action }];
+    return [{ text, action }, ...ownLines(action.steps), { text: "end", action }];
+  });
+}
+
+/**
+ * @param {string} text
+ * @param {Names} names of the board and the program
+ * @returns {TestText}
+ */
+export function readTests(text, names) {
+  const reader = new TestReader(names);
+  reader.read(text);
+  return { tests: reader.tests, faults: reader.faults };
+}

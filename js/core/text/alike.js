@@ -1,0 +1,45 @@
+// Words that are meant by one that is nearly so.
+
+import * as say from "../../words/text.js";
+
+/**
+ * How many letters have to be put in, taken away, changed, or changed with their neighbour to make one word of the other.
+ * @param {string} one
+ * @param {string} other
+ */
+export function distance(one, other) {
+  /** @type {number[][]} */
+  const rows = [[...Array(other.length + 1).keys()]];
+  for (let i = 1; i <= one.length; i++) {
+    const row = [i];
+    for (let j = 1; j <= other.length; j++) {
+      const isSame = one[i - 1] === other[j - 1];
+      row[j] = Math.min(rows[i - 1][j] + 1, row[j - 1] + 1, rows[i - 1][j - 1] + (isSame ? 0 : 1));
+      if (i > 1 && j > 1 && one[i - 1] === other[j - 2] && one[i - 2] === other[j - 1]) row[j] = Math.min(row[j], rows[i - 2][j - 2] + 1);
+    }
+    rows.push(row);
+  }
+  return rows[one.length][other.length];
+}
+
+/**
+ * The words that are most like another one, at most two; none where none is much like it.
+ * @param {string} wanted
+ * @param {Iterable<string>} words
+ * @returns {string[]}
+ */
+export function mostAlike(wanted, words) {
+  const most = wanted.length <= 4 ? 1 : 2;
+  const low = wanted.toLowerCase();
+  const found = [...words].map((word) => ({ word, far: distance(low, word.toLowerCase()) })).filter(({ far }) => far <= most);
+  const least = Math.min(...found.map(({ far }) => far));
+  return found.filter(({ far }) => far === least).slice(0, 2).map(({ word }) => word);
+}
+
+/**
+ * A question for the words that may be meant; "" where there is none.
+ * @param {string[]} words
+ */
+export function meant(words) {
+  return words.length === 0 ? "" : `; ${words.join(say.OR)}?`;
+}

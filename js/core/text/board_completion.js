@@ -1,0 +1,122 @@
+// What a word of a board's text that is being typed can become: a part with all its keys, a key, or a value, of the lines that the board
+// has so far.
+
+import { MOST, linesOf } from "../bench/board_form.js";
+import { upTo } from "../bench/numbers.js";
+import { partsWithLines, readBoardText } from "./board_reader.js";
+import { alone, fitting } from "./completion.js";
+import { tableAt } from "./text_help.js";
+import { commentAt } from "./text_fault.js";
+import * as say from "../../words/text.js";
+
+/**
+ * @typedef {import("./completion.js").Completion} Completion
+ * @typedef {import("./completion.js").Fitting} Fitting
+ * @typedef {import("../bench/board_form.js").BoardLine} BoardLine
+ */
+
+/** What stands before the caret where a value is typed: its key, an array that is open, a quote that is open, and the value so far. */
+const VALUE = /(\w+)\s*=\s*(?:\[(?:[^\][\]"]|"[^"\n]*")*)?("?)([\w.]*)$/;
+
+/**
+ * What a line is, in words.
+ * @param {BoardLine} line
+ */
+function wordsOfLine({ name, kind, isInput }) {
+  const [first, second, third] = name.match(/\d+/g) || [];
+  if (kind === "rom") return say.lineOfRom(isInput, second, first);
+  return kind === "ram" ? say.lineOfRam(third, second, first) : say.bitOfChain(second, first);
+}
+
+/** The parts of a board's text, as far as it can be read. */
+class Parts {
+  /** @param {string} text */
+  constructor(text) {
+    const { roms, banks, chains } = partsWithLines(readBoardText(text).entries);
+    this.chips = upTo(MOST.rom).filter((number) => !roms.some(({ chip }) => chip === number));
+    this.banks = upTo(MOST.ram).filter((number) => !banks.some(({ bank }) => bank === number));
+    this.chains = upTo(chains.length);
+    const lines = linesOf({ roms, banks, chains });
+    this.inputs = lines.filter(({ isInput }) => isInput);
+    this.bits = lines.filter(({ kind }) => kind === "bit");
+    this.outputs = lines.filter(({ kind, isInput }) => kind !== "bit" && !isInput);
+  }
+
+  /**
+   * What a key can have as its value; the names of lines and ports stand in quotes.
+   * @param {string} table
+   * @param {string} key
+   * @returns {{ list: Fitting[], isQuoted: boolean }}
+   */
+  values(table, key) {
+    const lines = (/** @type {BoardLine[]} */ all) => (
+      { list: all.map((line) => ({ text: line.name, what: wordsOfLine(line) })), isQuoted: true });
+    const numbers = (/** @type {number[]} */ list) => ({ list: alone(list.map(String)), isQuoted: false });
+    switch (`${table}.${key}`) {
+      case "rom.chip": return numbers(this.chips);
+      case "ram.bank": return numbers(this.banks);
+      case "rom.port": return { list: [{ text: "iiii", what: say.INPUT_LINES }, { text: "0000", what: say.OUTPUT_LINES }], isQuoted: true };
+      case "chain.clock": case "chain.data": return lines(this.outputs);
+      case "lamp.line": return lines([...this.outputs, ...this.bits]);
+      case "keys.columns": return lines(this.inputs);
+      case "keys.chain": return numbers(this.chains);
+      default: return numbers([]);
+    }
+  }
+
+  /**
+   * Each part, with all its keys, as one that can be wired where the board has the lines for it.
+   * @returns {Fitting[]}
+   */
+  templates() {
+    const [input] = this.inputs;
+    const [clock = "", data = ""] = this.outputs.map(({ name }) => name);
+    return [
+      { text: `[[rom]]\nchip = ${this.chips[0]}\nport = "0000"`, what: say.ROM_WITH_PORT },
+      { text: `[[ram]]\nbank = ${this.banks[0]}\nchips = 1`, what: say.BANK_OF_RAM },
+      { text: `[[chain]]\nclock = "${clock}"\ndata = "${data}"\nchips = 1`, what: say.CHAIN_OF_REGISTERS },
+      { text: `[keys]\nchain = 0\nfirst = 0\nrows = 4\ncolumns = ["${input ? input.name : ""}"]`, what: say.KEY_MATRIX },
+      { text: `[[lamp]]\nline = "${clock}"`, what: say.A_LAMP },
+    ].filter(({ text }) => !text.includes("undefined"));
+  }
+}
+
+/**
+ * The words that fit a value.
+ * @param {string} text
+ * @param {number} at
+ * @param {RegExpExecArray} value
+ * @param {{ list: Fitting[], isQuoted: boolean }} values
+ * @returns {Completion}
+ */
+function completeValue(text, at, value, { list, isQuoted }) {
+  const isOpen = value[2] !== "";
+  if (isOpen && !isQuoted) return { from: at, to: at, list: [] };
+  const close = isQuoted && text[at] !== "\"" ? "\"" : "";
+  const open = isQuoted && !isOpen ? "\"" : "";
+  const { from, to, list: found } = fitting(text, at, list, /[\w.]*$/);
+  return { from, to, list: found.map((each) => ({ ...each, text: `${open}${each.text}${close}` })) };
+}
+
+/**
+ * @param {string[]} lines
+ * @param {number} line from 0
+ * @param {number} at
+ * @param {Map<string, Map<string, string>>} tables
+ * @returns {Completion}
+ */
+export function completeBoard(lines, line, at, tables) {
+  const text = lines[line];
+  const before = text.slice(0, at);
+  if (commentAt(before, "#") < before.length) return { from: at, to: at, list: [] };
+  if (/^\s*\[+\w*$/.test(before)) return fitting(text, at, alone([...tables.keys()]));
+  const table = tableAt(lines, line);
+  const parts = new Parts(lines.map((each, number) => (number === line ? "" : each)).join("\n"));
+  // An array may have begun some lines before.
+  const begun = lines.slice(Math.max(0, line - 9), line).map((each) => each.slice(0, commentAt(each, "#")));
+  const value = VALUE.exec([...begun, before].join("\n"));
+  if (value && (before.includes(value[1]) || value[0].includes("["))) return completeValue(text, at, value, parts.values(table, value[1]));
+  const keys = tables.get(table) || new Map();
+  const words = [...keys].map(([name, values]) => ({ text: name, what: values }));
+  return text.trim() === "" ? { from: 0, to: at, list: [...words, ...parts.templates()] } : fitting(text, at, words);
+}

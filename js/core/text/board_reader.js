@@ -1,0 +1,255 @@
+// A board's text, read as far as it is TOML of the form that boards have, with the place of each key and value; what is not is told. The
+// bench alone says whether a text is right: this finds the words for what it refuses.
+
+import { NOT_TOML } from "../bench/board_fault.js";
+import { RANGES } from "../bench/board_form.js";
+import { tomlWords } from "./toml_words.js";
+import * as say from "../../words/text.js";
+
+/**
+ * @typedef {import("./text_fault.js").Fault} Fault
+ * @typedef {import("./toml_words.js").TomlWord} TomlWord
+ * @typedef {string | number | boolean | Value[] | Entry} Inner
+ *
+ * Where something ends: its last line, and the character behind it there.
+ * @typedef {{ line: number, to: number }} End
+ *
+ * A value with its place, of an array or a table the opening bracket, and where it ends; `whole` is false for a number that is not an
+ * integer.
+ * @typedef {{ inner: Inner, whole: boolean, line: number, from: number, to: number, end: End }} Value
+ * @typedef {{ name: string, line: number, from: number, to: number, value: Value }} Key
+ *
+ * A table with its place, and its keys; one that is written as a value has an end.
+ * @typedef {{ table: string, line: number, from: number, to: number, keys: Key[], end?: End }} Entry
+ *
+ * @typedef {{ entries: Entry[], others: Key[], keys: Key[], faults: Fault[] }} BoardText the tables, the keys at the top that are no
+ * tables, all keys at the top, and what is not TOML
+ */
+
+const INTEGER = /^[+-]?(0|[1-9](_?\d)*)$|^0x[0-9A-Fa-f](_?[0-9A-Fa-f])*$|^0o[0-7]+$|^0b[01]+$/;
+
+class NotToml extends Error {
+  /**
+   * @param {TomlWord} word
+   * @param {string} words
+   */
+  constructor(word, words) {
+    super(words);
+    this.word = word;
+  }
+}
+
+class BoardReader {
+  /** @param {string} text */
+  constructor(text) {
+    this.words = tomlWords(text.split("\n"));
+    this.at = 0;
+    /** @type {Entry[]} */
+    this.entries = [];
+    /** @type {Key[]} */
+    this.others = [];
+    /** @type {Key[]} */
+    this.keys = [];
+    /** @type {Fault[]} */
+    this.faults = [];
+    /** @type {Entry | null} the table that keys go into */
+    this.open = null;
+  }
+
+  get word() {
+    return this.words[this.at];
+  }
+
+  /** @returns {End} where the word ends that was taken last */
+  get lastEnd() {
+    const { line, to } = this.words[this.at - 1];
+    return { line, to };
+  }
+
+  /** @param {string} mark */
+  isMark(mark) {
+    return this.word.kind === "mark" && this.word.text === mark;
+  }
+
+  /**
+   * @param {string} mark
+   * @param {string} words what is wrong where it is missing
+   */
+  take(mark, words) {
+    if (!this.isMark(mark)) throw new NotToml(this.word, this.word.fault || words);
+    this.at += 1;
+  }
+
+  read() {
+    while (this.at < this.words.length) {
+      const begun = this.at;
+      try {
+        this.readStatement();
+      } catch (fault) {
+        if (!(fault instanceof NotToml)) throw fault;
+        const { line, from, to } = fault.word;
+        this.faults.push({ number: NOT_TOML, line, from, to, words: fault.message });
+        // It goes on with the line after the one at fault.
+        this.at = Math.max(begun, this.words.findIndex((word) => word.kind === "end" && word.line >= line)) + 1;
+      }
+    }
+  }
+
+  readStatement() {
+    if (this.word.kind === "end") this.at += 1;
+    else if (this.isMark("[")) this.readHeader();
+    else this.readPair();
+  }
+
+  readHeader() {
+    const { line, from } = this.word;
+    const isArray = this.words[this.at + 1].text === "[" && this.words[this.at + 1].kind === "mark";
+    this.at += isArray ? 2 : 1;
+    const name = this.word;
+    if (name.kind !== "bare" && name.kind !== "string") throw new NotToml(name, say.TABLE_FORM);
+    this.at += 1;
+    this.take("]", say.bracketMissing(isArray ? `[[${name.text}]]` : `[${name.text}]`));
+    if (isArray) this.take("]", say.bracketMissing(`[[${name.text}]]`));
+    this.open = { table: isArray ? name.text : `[${name.text}]`, line, from, to: name.to + (isArray ? 2 : 1), keys: [] };
+    this.entries.push(this.open);
+    this.endLine();
+  }
+
+  endLine() {
+    if (this.word.kind !== "end") throw new NotToml(this.word, this.word.fault || say.LINE_ENDS);
+    this.at += 1;
+  }
+
+  readPair() {
+    const key = this.readKey();
+    const { inner } = key.value;
+    if (this.open) this.open.keys.push(key);
+    else {
+      this.keys.push(key);
+      if (!this.addTables(key.name, inner)) this.others.push(key);
+    }
+    this.endLine();
+  }
+
+  /**
+   * Tables that are written as values; false where a value is none.
+   * @param {string} name
+   * @param {Inner} inner
+   */
+  addTables(name, inner) {
+    if (Array.isArray(inner)) {
+      const tables = inner.filter(({ inner: each }) => typeof each === "object" && !Array.isArray(each));
+      if (tables.length < inner.length) return false;
+      for (const { inner: each } of tables) this.entries.push({ .../** @type {Entry} */ (each), table: name });
+      return true;
+    }
+    if (typeof inner !== "object") return false;
+    this.entries.push({ ...inner, table: `[${name}]` });
+    return true;
+  }
+
+  /** @returns {Key} */
+  readKey() {
+    const name = this.word;
+    if (name.kind !== "bare" && name.kind !== "string") throw new NotToml(name, name.fault || say.KEY_FORM);
+    this.at += 1;
+    this.take("=", say.equalsMissing(name.text));
+    return { name: name.text, line: name.line, from: name.from, to: name.to, value: this.readValue(name.text) };
+  }
+
+  /**
+   * @param {string} key whose value it is
+   * @returns {Value}
+   */
+  readValue(key) {
+    const { kind, text, line, from, to, fault } = this.word;
+    const range = { line, from, to };
+    if (this.isMark("[")) return { inner: this.readArray(key), whole: true, ...range, end: this.lastEnd };
+    if (this.isMark("{")) return { inner: this.readTable(), whole: true, ...range, end: this.lastEnd };
+    if (kind === "end") throw new NotToml(this.word, say.valueMissing(key));
+    if (kind === "mark" || kind === "bad") throw new NotToml(this.word, fault || say.noValue(text));
+    const inner = this.innerOf(kind, text);
+    this.at += 1;
+    return { inner, whole: typeof inner !== "number" || INTEGER.test(text), ...range, end: { line, to } };
+  }
+
+  /**
+   * @param {string} kind
+   * @param {string} text
+   * @returns {Inner}
+   */
+  innerOf(kind, text) {
+    if (kind === "string") return text;
+    if (INTEGER.test(text)) return Number(text.replace(/_/g, ""));
+    if (text === "true" || text === "false") return text === "true";
+    if (/^[+-]?\d+(\.\d+)?([eE][+-]?\d+)?$/.test(text) && !/^[+-]?0\d/.test(text)) return Number(text);
+    if (/^0\d+$/.test(text)) throw new NotToml(this.word, say.numberForm(text));
+    throw new NotToml(this.word, say.textForm(text));
+  }
+
+  skipEnds() {
+    while (this.at < this.words.length - 1 && this.word.kind === "end") this.at += 1;
+  }
+
+  /**
+   * @param {string} key
+   * @returns {Value[]}
+   */
+  readArray(key) {
+    const opened = this.word;
+    this.at += 1;
+    const values = [];
+    for (this.skipEnds(); !this.isMark("]"); this.skipEnds()) {
+      if (this.word.kind === "end") throw new NotToml(opened, say.NO_BRACKET);
+      values.push(this.readValue(key));
+      this.skipEnds();
+      if (this.isMark(",")) this.at += 1;
+      else if (!this.isMark("]")) throw new NotToml(this.word, this.word.fault || say.COMMA_OF_VALUES);
+    }
+    this.at += 1;
+    return values;
+  }
+
+  /** @returns {Entry} */
+  readTable() {
+    const { line, from, to } = this.word;
+    this.at += 1;
+    const keys = [];
+    while (!this.isMark("}")) {
+      if (this.word.kind === "end") throw new NotToml(this.word, say.NO_BRACE);
+      keys.push(this.readKey());
+      if (this.isMark(",")) this.at += 1;
+      else if (!this.isMark("}")) throw new NotToml(this.word, this.word.fault || say.COMMA_OF_KEYS);
+    }
+    this.at += 1;
+    return { table: "", line, from, to, keys, end: this.lastEnd };
+  }
+}
+
+/**
+ * @param {string} text
+ * @returns {BoardText}
+ */
+export function readBoardText(text) {
+  const reader = new BoardReader(text);
+  reader.read();
+  const { entries, others, keys, faults } = reader;
+  return { entries, others, keys, faults };
+}
+
+/**
+ * The parts that have lines, as far as the text tells them; of chips no more than there can be.
+ * @param {Entry[]} entries
+ */
+export function partsWithLines(entries) {
+  /** @type {(table: string) => Map<string, Inner>[]} */
+  const of = (table) => entries.filter((entry) => entry.table === table).map(({ keys }) => (
+    new Map(keys.map(({ name, value }) => [name, value.inner]))));
+  /** @type {(table: string, values: Map<string, Inner>) => number} */
+  const chipsOf = (table, values) => Math.min(RANGES[`${table}.chips`].to, Number(values.get("chips")) || 0);
+  return {
+    roms: of("rom").map((values) => ({ chip: Number(values.get("chip")), port: String(values.get("port")) })),
+    banks: of("ram").map((values) => ({ bank: Number(values.get("bank")), chips: chipsOf("ram", values) })),
+    chains: of("chain").map((values) => ({ chips: chipsOf("chain", values) })),
+  };
+}

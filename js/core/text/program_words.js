@@ -1,0 +1,272 @@
+// What is wrong in a line of a program that the bench has refused: the word at fault, and what was expected.
+
+import { meant, mostAlike } from "./alike.js";
+import { LAST_ADDRESS } from "../bench/numbers.js";
+import { DIRECTIVES, LONGEST_NAME, NAME, NUMBER, PAIR, REGISTER, partsOf } from "./assembly.js";
+import * as say from "../../words/text.js";
+
+/**
+ * @typedef {import("./assembly.js").Parts} Parts
+ * @typedef {import("./assembly.js").Word} Word
+ * @typedef {import("../help/manual.js").Instruction} Instruction
+ *
+ * What is known of the program: the instructions by their mnemonics, and its names with their lines.
+ * @typedef {{ instructions: Map<string, Instruction>, names: Map<string, number> }} Facts
+ *
+ * The word at fault, and what was expected; where the cure is known, what can take the place of the word.
+ * @typedef {{ word: Word | null, words: string, cures?: string[] }} Found
+ */
+
+/**
+ * The operands of instructions by their letters in the manual's table, and the largest value of each.
+ * @type {Record<string, { what: string, most: number }>}
+ */
+const OPERANDS = {
+  Pk: { what: say.A_PAIR, most: 0 },
+  Rk: { what: say.A_REGISTER, most: 0 },
+  c: { what: say.A_CONDITION, most: 15 },
+  d: { what: say.A_VALUE, most: 15 },
+  b: { what: say.A_BYTE, most: 255 },
+  t: { what: say.AN_ADDRESS, most: LAST_ADDRESS },
+};
+/**
+ * What other assemblers write as a number: how it is written here, and words about that; null for anything else.
+ * @param {string} text
+ * @returns {{ number: string, words: string } | null}
+ */
+function foreignNumber(text) {
+  const hexadecimal = /^(?:\$|0X|&H?|#\$)([0-9A-Fa-f]+)$/.exec(text) || /^([0-9][0-9A-Fa-f]*)[Hh]$/.exec(text);
+  const binary = /^(?:0b|%)([01]+)$/i.exec(text) || /^([01]+)[Bb]$/.exec(text);
+  const letter = /^(['"])(.)\1?$/.exec(text);
+  const mark = /^#(\w+)$/.exec(text);
+  const number = (hexadecimal && `0x${hexadecimal[1].toUpperCase()}`) || (binary && `${parseInt(binary[1], 2)}`)
+    || (letter && `0x${letter[2].charCodeAt(0).toString(16).toUpperCase()}`) || (mark && mark[1]);
+  if (!number) return null;
+  if (hexadecimal) return { number, words: say.isHexadecimal(number) };
+  if (binary) return { number, words: say.isBinary(number) };
+  if (letter) return { number, words: say.isLetter(letter[2], number) };
+  return { number, words: say.withoutMark(number) };
+}
+
+/**
+ * What is written as other assemblers write numbers, or as a calculation.
+ * @param {string} text
+ */
+function wordsOfNumber(text) {
+  const foreign = foreignNumber(text);
+  if (foreign) return foreign.words;
+  if (/^-\d+$/.test(text)) return say.NO_NEGATIVES;
+  if (/[-+*/()<>]/.test(text)) return say.NO_EXPRESSIONS;
+  if (/\s/.test(text)) return say.COMMA_OF_OPERANDS;
+  if (/^\d/.test(text)) return say.NUMBER_FORM;
+  return "";
+}
+
+/**
+ * The number as it is written here, where it is written as other assemblers do; none where it is not.
+ * @param {string} text
+ */
+function curesOfNumber(text) {
+  const foreign = foreignNumber(text);
+  return foreign ? [foreign.number] : [];
+}
+
+/**
+ * What was found of a word, with its cures where there are any.
+ * @param {Word | null} word
+ * @param {string} words
+ * @param {string[]} cures
+ * @returns {Found}
+ */
+function curable(word, words, cures) {
+  return cures.length > 0 ? { word, words, cures } : { word, words };
+}
+
+/**
+ * What a word cannot be as a name; "" where it can.
+ * @param {string} text
+ * @param {Facts} facts
+ */
+function wordsOfName(text, { instructions }) {
+  const upper = text.toUpperCase();
+  if (text.length > LONGEST_NAME) return say.nameTooLong(LONGEST_NAME, text.length);
+  if (!NAME.test(text)) return say.NAME_FORM;
+  if (instructions.has(upper)) return say.isInstruction(text);
+  if (upper === "WPM" || DIRECTIVES.includes(upper)) return say.cannotBeName(text);
+  return REGISTER.test(text) || PAIR.test(text) ? say.isRegister(text) : "";
+}
+
+/**
+ * What one operand has to be, where it is not.
+ * @param {string} head
+ * @param {string} kind its letters in the table
+ * @param {Word} word
+ * @param {Facts} facts
+ * @param {boolean} isFirst
+ * @returns {Found | null}
+ */
+function faultOfOperand(head, kind, word, facts, isFirst) {
+  const { what } = OPERANDS[kind];
+  const takes = isFirst ? say.takes(head, what) : say.takesAfterComma(head, what);
+  const { text } = word;
+  if (kind === "Pk" && PAIR.test(text)) return null;
+  if (kind === "Rk" && REGISTER.test(text)) return null;
+  if (kind === "Pk" || kind === "Rk") return { word, words: /\s/.test(text) ? `${takes}; ${wordsOfNumber(text)}` : takes };
+  if (NUMBER.test(text)) return null;
+  const reason = text === "" || REGISTER.test(text) || PAIR.test(text) ? "" : wordsOfNumber(text) || wordsOfName(text, facts);
+  if (reason) return curable(word, `${takes}; ${reason}`, curesOfNumber(text));
+  return NAME.test(text) && !wordsOfName(text, facts) ? null : { word, words: takes };
+}
+
+/**
+ * @param {string} form as `JCN c, t`
+ * @returns {string[]}
+ */
+export function operandsOfForm(form) {
+  const rest = form.split(" ").slice(1).join(" ");
+  return rest === "" ? [] : rest.split(", ");
+}
+
+/**
+ * @param {Parts} parts
+ * @param {Word} head
+ * @param {Facts} facts
+ * @returns {Found}
+ */
+function faultOfHead({ label, operands }, head, { instructions }) {
+  const upper = head.text.toUpperCase();
+  if (upper === "WPM") return { word: head, words: say.NO_WPM };
+  const given = operands.length === 1 && NAME.test(head.text) && /^(?:EQU|SET)\s+(.*)$/i.exec(operands[0].text);
+  if (given) return { word: operands[0], words: say.nameGetsNumber(head.text, given[1]), cures: [`= ${given[1]}`] };
+  const other = say.ELSEWHERE.get(upper);
+  const isAlone = !label && operands.length === 0 && NAME.test(head.text);
+  const likes = other ? [] : mostAlike(upper, [...instructions.keys(), ...DIRECTIVES]);
+  const question = other ? `; ${other}?` : meant(likes);
+  const words = say.noInstruction(head.text, question || (isAlone ? say.labelForm(head.text) : ""));
+  const alone = isAlone && !question ? [`${head.text}:`] : likes;
+  return curable(head, words, other ? other.split(" or ").filter((each) => /^[A-Z]+( \d+,?)?$/.test(each)).map(asHead) : alone);
+}
+
+/**
+ * What takes the place of another assembler's instruction: a condition has a comma before the address.
+ * @param {string} other
+ */
+function asHead(other) {
+  return other.startsWith("JCN ") ? `${other},` : other;
+}
+
+/**
+ * @param {Word} head
+ * @param {Word[]} operands
+ * @param {Facts} facts
+ * @returns {Found | null}
+ */
+function faultOfDirective(head, operands, facts) {
+  if (head.text.toUpperCase() === "ORG") {
+    const isNumber = operands.length === 1 && NUMBER.test(operands[0].text);
+    if (isNumber) return null;
+    const reason = operands[0] && !NAME.test(operands[0].text) ? wordsOfNumber(operands[0].text) : "";
+    const words = say.orgForm(reason && `; ${reason}`);
+    return curable(operands[0] || head, words, reason ? curesOfNumber(operands[0].text) : []);
+  }
+  if (operands.length === 0) return { word: head, words: say.DB_FORM };
+  return operands.map((word) => faultOfOperand("DB", "b", word, facts, true)).find((found) => found !== null) || null;
+}
+
+/**
+ * A line of no form that the assembler knows.
+ * @param {Parts} parts
+ * @param {Facts} facts
+ * @returns {Found | null}
+ */
+function faultOfForm(parts, facts) {
+  const { label, defines, head, operands } = parts;
+  const badName = label && wordsOfName(label.text, facts);
+  if (badName) return { word: label, words: badName };
+  if (defines) {
+    const reason = operands[0] ? wordsOfNumber(operands[0].text) : "";
+    const words = say.equalsForm(reason && `; ${reason}`);
+    return curable(operands[0] || label, words, reason ? curesOfNumber(operands[0].text) : []);
+  }
+  if (!head) return { word: label, words: say.COLON_FORM };
+  const upper = head.text.toUpperCase();
+  if (DIRECTIVES.includes(upper)) return faultOfDirective(head, operands, facts);
+  const instruction = facts.instructions.get(upper);
+  if (!instruction) return faultOfHead(parts, head, facts);
+  const kinds = operandsOfForm(instruction.form);
+  if (kinds.length === 0) return { word: operands[0] || head, words: say.takesNothing(upper) };
+  for (let at = 0; at < Math.min(kinds.length, operands.length); at++) {
+    const found = faultOfOperand(upper, kinds[at], operands[at], facts, at === 0);
+    if (found) return found;
+  }
+  const extra = operands[kinds.length];
+  const wanted = kinds.map((kind) => OPERANDS[kind].what).join(say.AND_AFTER);
+  return { word: extra || head, words: say.takesNoMore(upper, wanted, Boolean(extra)) };
+}
+
+/**
+ * A value out of its range.
+ * @param {Parts} parts
+ * @param {Facts} facts
+ * @returns {Found | null}
+ */
+function faultOfValue({ head, operands, defines, label }, { instructions }) {
+  if (defines) return { word: operands[0] || label, words: say.NUMBER_OF_NAME };
+  if (!head) return null;
+  const upper = head.text.toUpperCase();
+  const instruction = instructions.get(upper);
+  const kinds = instruction ? operandsOfForm(instruction.form) : operands.map(() => (upper === "ORG" ? "t" : "b"));
+  const values = operands.map((word, at) => ({ word, kind: OPERANDS[kinds[at] || "b"] })).filter(({ kind }) => kind.most > 0);
+  const tooLarge = values.find(({ word, kind }) => NUMBER.test(word.text) && Number(word.text) > kind.most);
+  const named = values.find(({ word }) => NAME.test(word.text));
+  const found = tooLarge || named;
+  if (!found) return null;
+  const what = upper === "ORG" ? say.ORG_ADDRESS : found.kind.what;
+  return { word: found.word, words: say.takesBut(upper, what, tooLarge ? "" : say.isMore(found.word.text)) };
+}
+
+/**
+ * The last operand that is a name, or the last one of all.
+ * @param {Parts} parts
+ */
+function target({ operands }) {
+  return [...operands].reverse().find(({ text }) => NAME.test(text)) || operands[operands.length - 1] || null;
+}
+
+/**
+ * @param {Parts} parts
+ * @param {Facts} facts
+ * @returns {Found | null}
+ */
+function faultOfUnknown({ operands }, { names }) {
+  const word = operands.find(({ text }) => NAME.test(text) && !REGISTER.test(text) && !PAIR.test(text) && !names.has(text));
+  if (!word) return null;
+  const likes = mostAlike(word.text, names.keys());
+  const isHex = /^[0-9A-Fa-f]+$/.test(word.text) && likes.length === 0;
+  const cures = isHex ? [`0x${word.text.toUpperCase()}`] : likes;
+  return curable(word, say.notDefined(word.text, cures.length > 0 ? meant(cures) : ""), cures);
+}
+
+/**
+ * What is wrong in a line, by the number of its refusal; null where no more can be told than the number's own words.
+ * @param {string} line
+ * @param {number} number
+ * @param {Facts} facts
+ * @returns {Found | null}
+ */
+export function wordsOfProgramLine(line, number, facts) {
+  const parts = partsOf(line);
+  if (number === 30) return faultOfForm(parts, facts);
+  if (number === 31 && parts.label) {
+    return { word: parts.label, words: say.definedAlready(parts.label.text, facts.names.get(parts.label.text)) };
+  }
+  if (number === 32) return faultOfUnknown(parts, facts);
+  if (number === 33) return faultOfValue(parts, facts);
+  if (number === 34 && parts.head) {
+    const word = target(parts);
+    const head = parts.head.text.toUpperCase();
+    return { word, words: say.otherPage(word ? word.text : say.IT, head) };
+  }
+  if (number === 35) return { word: parts.head, words: say.BYTE_ALREADY };
+  return null;
+}

@@ -1,0 +1,97 @@
+// Words of a text of properties: what a word does, by the manual, and what it can become, with the names of the board and the program.
+
+import { alone, completeWord, fittings, formsOfTables, saidOf, testForms, wordsOfCondition, wordsUpTo } from "./test_words.js";
+import * as say from "../../words/text.js";
+
+/**
+ * @typedef {import("../help/manual.js").ManualSection} ManualSection
+ * @typedef {import("./completion.js").Completion} Completion
+ * @typedef {import("./completion.js").Fitting} Fitting
+ * @typedef {import("./test_words.js").Form} Form
+ * @typedef {import("./test_words.js").TestNames} TestNames
+ * @typedef {{ lines: Form[], conditions: Form[] }} PropertyForms
+ */
+
+const SECTIONS = [say.MAY_CHANGE, say.MUST_HOLD];
+/** What a line begins with, before a condition. */
+const BEFORE = /^(never|always|reach)$/;
+/** What can stand behind a condition. */
+const AFTER = ["and", "for", "only after"];
+
+/**
+ * What the manual says of the lines of properties.
+ * @param {ManualSection[]} manual
+ * @returns {PropertyForms}
+ */
+export function propertyForms(manual) {
+  const lines = SECTIONS.flatMap((title) => formsOfTables(manual, title).flat());
+  // `cycles` and `test` are of a test alone.
+  return { lines, conditions: testForms(manual).conditions.filter(({ word }) => word !== "cycles" && word !== "test") };
+}
+
+/**
+ * A text to begin with.
+ * @param {TestNames} names
+ */
+export function firstProperties({ keys, lamps }) {
+  const [lamp = "0"] = lamps;
+  const begun = `${say.FIRST_PROPERTIES}${keys.length === 0 ? "test\n" : ""}`;
+  return `${begun}wait 1 ms to 20 ms\nnote lamps\n\nreach lamp ${lamp} on\nreach lamp ${lamp} off\n`;
+}
+
+/**
+ * The words of a line from where its condition begins; null where it has none.
+ * @param {string[]} words
+ */
+function conditionOf(words) {
+  const [first, ...rest] = words;
+  const joined = words.lastIndexOf("and");
+  if (joined >= 0) return words.slice(joined + 1);
+  if (BEFORE.test(first || "")) return rest;
+  return first === "at" && rest.length > 0 ? rest.slice(1) : null;
+}
+
+/**
+ * What can stand after some words of a line.
+ * @param {string[]} before
+ * @param {string} begun the word that is being typed
+ * @param {TestNames} names
+ * @param {PropertyForms} forms
+ * @returns {Fitting[]}
+ */
+function wordsAfter(before, begun, names, { lines, conditions }) {
+  const labels = alone(names.labels.map((label) => `@${label}`));
+  if (begun.startsWith("@")) return labels;
+  if (before.length === 0) return [...fittings(lines.filter(({ word }) => /^[a-z]+$/.test(word))), ...labels];
+  const last = before[before.length - 1];
+  if (before[0] === "press" || last === "press") return alone(names.keys);
+  const condition = conditionOf(before);
+  if (condition) return wordsOfCondition(condition, names, conditions, AFTER);
+  return before[0] === "note" ? alone(["lamps"]) : [];
+}
+
+/**
+ * @param {string[]} lines
+ * @param {number} line from 0
+ * @param {number} at
+ * @param {TestNames} names
+ * @param {PropertyForms} forms
+ * @returns {Completion}
+ */
+export function completeProperty(lines, line, at, names, forms) {
+  return completeWord(lines[line], at, (before, begun) => wordsAfter(before, begun, names, forms));
+}
+
+/**
+ * What a word of a line means; "" where there is nothing to say.
+ * @param {string[]} lines
+ * @param {number} line from 0
+ * @param {number} at
+ * @param {PropertyForms} forms
+ */
+export function helpForProperty(lines, line, at, forms) {
+  const words = wordsUpTo(lines[line], at);
+  if (words.length === 0) return "";
+  const told = words.length === 1 && forms.lines.find(({ word }) => word === words[0]);
+  return told ? `${told.form}: ${told.does}` : saidOf(forms.conditions, words[words.length - 1]);
+}

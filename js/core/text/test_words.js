@@ -1,0 +1,166 @@
+// Words of a text of tests: what a word does, by the manual, and what it can become, with the names of the board and the program.
+
+import { piecesOf, plain } from "../help/manual.js";
+import * as say from "../../words/text.js";
+
+/**
+ * @typedef {import("../help/manual.js").ManualSection} ManualSection
+ * @typedef {import("./completion.js").Completion} Completion
+ * @typedef {import("./completion.js").Fitting} Fitting
+ * @typedef {{ keys: string[], lamps: string[], labels: string[] }} TestNames
+ */
+
+/**
+ * A form of a line or of a condition, as the manual writes it, its first word, and what it does.
+ * @typedef {{ word: string, form: string, does: string }} Form
+ * @typedef {{ steps: Form[], conditions: Form[] }} TestForms
+ */
+
+
+/**
+ * The forms in the rows of a table; a row may have several.
+ * @param {string[][]} rows
+ * @returns {Form[]}
+ */
+function formsOf(rows) {
+  return rows.flatMap(([forms, does]) => piecesOf(forms).filter(({ isCode }) => isCode).map(({ text }) => (
+    { word: text.split(" ", 1)[0], form: text, does: plain(does) })));
+}
+
+/**
+ * The forms in each table of a section.
+ * @param {ManualSection[]} manual
+ * @param {string} title
+ */
+export function formsOfTables(manual, title) {
+  const section = manual.find((each) => each.title === title);
+  return section ? section.tables.map(({ rows }) => formsOf(rows)) : [];
+}
+
+/**
+ * What the manual says of the lines of tests.
+ * @param {ManualSection[]} manual
+ * @returns {TestForms}
+ */
+export function testForms(manual) {
+  const [steps, conditions] = formsOfTables(manual, say.LINES_OF_TEST);
+  return { steps: steps || [], conditions: conditions || [] };
+}
+
+/**
+ * @param {Form[]} forms
+ * @returns {Fitting[]}
+ */
+export function fittings(forms) {
+  const words = new Map(forms.map((form) => [form.word, form]));
+  return [...words.values()].map(({ word, form, does }) => ({ text: word, what: `${form.slice(word.length)}   ${does}` }));
+}
+
+/** @type {(words: string[]) => Fitting[]} */
+export const alone = (words) => words.map((text) => ({ text, what: "" }));
+
+/**
+ * What can stand after some words of a line.
+ * @param {string[]} before
+ * @param {string} begun the word that is being typed
+ * @param {TestNames} names
+ * @param {TestForms} forms
+ * @returns {Fitting[]}
+ */
+function wordsAfter(before, begun, { keys, lamps, labels }, forms) {
+  const [first] = before;
+  if (first === undefined) return fittings(forms.steps);
+  if (first === "press" || first === "release" || first === "keys") return alone(keys);
+  if (first !== "until" && first !== "expect") return [];
+  if (begun.startsWith("@")) return alone(labels.map((label) => `@${label}`));
+  return wordsOfCondition(before.slice(1), { keys, lamps, labels }, forms.conditions, ["within"]);
+}
+
+/**
+ * What can stand next in a condition.
+ * @param {string[]} before its words so far
+ * @param {TestNames} names
+ * @param {Form[]} conditions
+ * @param {string[]} after what can stand behind it
+ * @returns {Fitting[]}
+ */
+export function wordsOfCondition(before, { lamps, labels }, conditions, after) {
+  const words = before.filter((word) => word !== "not");
+  if (words.length === 0) return [...fittings(conditions), ...alone(labels.map((label) => `@${label}`))];
+  if (words[0] === "lamp") return alone(words.length === 1 ? lamps : ["on", "off", ...after]);
+  return alone(words[0] === "lamps" ? [...lamps, "none", ...after] : after);
+}
+
+/**
+ * What the word that is being typed can become.
+ * @param {string} line
+ * @param {number} at
+ * @param {(before: string[], begun: string) => Fitting[]} fitting what can stand after some words
+ * @returns {Completion}
+ */
+export function completeWord(line, at, fitting) {
+  const before = line.slice(0, at);
+  if (/^\s*[#;]/.test(before)) return { from: at, to: at, list: [] };
+  const begun = /\S*$/.exec(before) || [""];
+  const list = fitting(before.slice(0, at - begun[0].length).split(/\s+/).filter(Boolean), begun[0]);
+  return { from: at - begun[0].length, to: at, list: list.filter(({ text }) => text.startsWith(begun[0]) && text !== begun[0]) };
+}
+
+/**
+ * @param {string[]} lines
+ * @param {number} line from 0
+ * @param {number} at
+ * @param {TestNames} names
+ * @param {TestForms} forms
+ * @returns {Completion}
+ */
+export function completeTest(lines, line, at, names, forms) {
+  const shared = lines.slice(0, line).flatMap((each) => (/^\s*steps\s+(\S+)\s*$/.exec(each) || []).slice(1));
+  return completeWord(lines[line], at, (before, begun) => (
+    before.length === 1 && before[0] === "do" ? alone(shared) : wordsAfter(before, begun, names, forms)));
+}
+
+/**
+ * The words of a line up to a place, that at the place as the last one; none where no word stands there, or in a comment.
+ * @param {string} line
+ * @param {number} at
+ */
+export function wordsUpTo(line, at) {
+  const words = [...(line || "").matchAll(/\S+/g)];
+  if (words.length === 0 || /^[#;]/.test(words[0][0])) return [];
+  const found = words.findIndex((word) => word.index !== undefined && word.index <= at && at <= word.index + word[0].length);
+  return words.slice(0, found + 1).map(([word]) => word);
+}
+
+/**
+ * What a table of forms says of a word.
+ * @param {Form[]} forms
+ * @param {string} word
+ */
+export function saidOf(forms, word) {
+  const told = forms.find((form) => form.word === word) || forms.find((form) => kindOf(form.word) === kindOf(word));
+  return told ? `${told.form}: ${told.does}` : "";
+}
+
+/**
+ * What a word of a line means; "" where there is nothing to say.
+ * @param {string[]} lines
+ * @param {number} line from 0
+ * @param {number} at
+ * @param {TestForms} forms
+ */
+export function helpForTest(lines, line, at, { steps, conditions }) {
+  const words = wordsUpTo(lines[line], at);
+  if (words.length === 0) return "";
+  if (words.length > 1) return /^(until|expect)$/.test(words[0]) ? saidOf(conditions, words[words.length - 1]) : "";
+  const told = steps.find(({ word }) => word === words[0]);
+  return told ? `${told.form}: ${told.does}` : "";
+}
+
+/**
+ * Places of one kind differ in their numbers, for which the manual has letters: `ram.1.0x20` is as `ram.B.S`.
+ * @param {string} word
+ */
+function kindOf(word) {
+  return word.replace(/^@.*/, "@").replace(/0x[0-9A-Fa-f]+|\d+|\b[A-Z]\b/g, "0");
+}

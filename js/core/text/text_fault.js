@@ -1,0 +1,163 @@
+// A text as it is sent, and its lines that cannot be sent. It is sent line for line, without comments and indentation, so these take no
+// room there, and any character may stand in a comment. Everywhere else one that is not of ASCII is at fault.
+
+import { LONGEST_LINE } from "../bench/inputs.js";
+import * as say from "../../words/text.js";
+
+/**
+ * @typedef {{ from: number, to: number }} Lines lines of a text, counted from 1
+ *
+ * A fault: the number of its refusal (0 where there is none), its line from 1, the characters of the line from `from` to `to`, in words;
+ * where its cure is known, what can take the place of these characters.
+ * @typedef {{ number: number, line: number, from: number, to: number, words: string, cures?: string[] }} Fault
+ *
+ * @typedef {";" | "#"} CommentMark what a comment begins with: in a program, in a board's text
+ */
+
+/** What a text has at most as it is sent, a line feed counted for each line. */
+export const LONGEST_TEXT = 16384;
+/** What a text has at most with its comments and indentation, in characters. */
+export const LONGEST_KEPT = 65536;
+/** Refusals: of a line, of a text, of a character. */
+const LINE_TOO_LONG = 12;
+export const TEXT_TOO_LONG = 13;
+const NOT_ASCII = 14;
+
+/**
+ * @param {number} number of the refusal
+ * @param {{ line: number, from: number, to: number }} place
+ * @param {string} words
+ * @returns {Fault}
+ */
+export function faultAt(number, { line, from, to }, words) {
+  return { number, line, from, to, words };
+}
+
+/**
+ * Where the comment of a line begins; its length where it has none. In a board's text the mark may stand in a string.
+ * @param {string} line
+ * @param {CommentMark} mark
+ */
+export function commentAt(line, mark) {
+  if (mark === ";") return line.includes(";") ? line.indexOf(";") : line.length;
+  const before = /^([^"'#]|"(\\.|[^"\\])*"|'[^']*')*/.exec(line);
+  const at = before ? before[0].length : 0;
+  return line[at] === "#" ? at : line.length;
+}
+
+/**
+ * Lines as comments, or without their mark where all of them are comments; blank lines stay.
+ * @param {string[]} lines
+ * @param {CommentMark | string} mark
+ */
+export function commented(lines, mark) {
+  const areAll = lines.every((line) => line.trim() === "" || line.trimStart().startsWith(mark)) && lines.some((line) => line.trim() !== "");
+  if (areAll) return lines.map((line) => line.replace(new RegExp(`^(\\s*)${mark} ?`), "$1"));
+  return lines.map((line) => (line.trim() === "" ? line : `${mark} ${line}`));
+}
+
+/**
+ * A line in which each character has its place, and what is not of ASCII in its comment is a blank.
+ * @param {string} line
+ * @param {CommentMark} mark
+ */
+function alignedLine(line, mark) {
+  if (/^[\t -~]*$/.test(line)) return line;
+  const at = commentAt(line, mark);
+  return line.slice(0, at) + line.slice(at).replace(/[^\t -~]/g, " ");
+}
+
+/**
+ * A line as it is sent. What is left of a line is never a dot alone, which would end the text.
+ * @param {string} line
+ * @param {CommentMark} mark
+ */
+function sentLine(line, mark) {
+  const left = line.slice(0, commentAt(line, mark)).replace(/^[\t ]+|[\t ]+$/g, "");
+  return left === "." && line !== "." ? " ." : left;
+}
+
+/**
+ * The lines of a text, each of them changed, with a line feed after the last one.
+ * @param {string} text
+ * @param {(line: string) => string} change
+ */
+function changedLines(text, change) {
+  if (text === "") return "";
+  const lines = text.replace(/\r\n?/g, "\n").split("\n");
+  // A last line of blanks is one that ends, too.
+  if (lines[lines.length - 1] === "") lines.pop();
+  return lines.map((line) => `${change(line)}\n`).join("");
+}
+
+/**
+ * A text whose lines have their lengths, and no character beyond ASCII in comments: in it faults have their places.
+ * @param {string} text
+ * @param {CommentMark} mark
+ */
+export function alignedText(text, mark) {
+  return changedLines(text, (line) => alignedLine(line, mark));
+}
+
+/**
+ * A text as it is sent. Blanks may belong to a string of TOML that goes over several lines.
+ * @param {string} text
+ * @param {CommentMark} mark
+ */
+export function sentText(text, mark) {
+  if (mark === "#" && /"""|'''/.test(text)) return alignedText(text, mark);
+  return changedLines(text, (line) => sentLine(line, mark));
+}
+
+/**
+ * What a character is that is not of ASCII, and what may stand there.
+ * @param {string} character
+ */
+function wordsOfCharacter(character) {
+  if (/[\u2018\u2019\u201c\u201d\u00ab\u00bb]/.test(character)) return say.otherQuote(character);
+  if (character === "\u00a0") return say.OTHER_BLANK;
+  if (/[\p{Cf}\p{Zs}\p{Zl}\p{Zp}\p{Cc}]/u.test(character) && character >= "\u0080") {
+    const code = (character.codePointAt(0) || 0).toString(16).toUpperCase().padStart(4, "0");
+    return say.unseen(code);
+  }
+  if (character < " " || character === "\u007f") return say.CONTROL_CHARACTER;
+  return say.otherCharacter(character);
+}
+
+/**
+ * @param {string} line in which each character has its place
+ * @param {string} sent
+ * @param {number} at its number
+ * @returns {Fault | null}
+ */
+function faultOfLine(line, sent, at) {
+  const range = { line: at, from: 0, to: line.length };
+  if (sent === ".") return { number: 0, ...range, words: say.DOT_ENDS };
+  if (sent.length > LONGEST_LINE) {
+    const words = say.lineTooLong(LONGEST_LINE, sent.length);
+    return { number: LINE_TOO_LONG, ...range, from: line.indexOf(sent) + LONGEST_LINE, words };
+  }
+  const foreign = /[^\t -~]+/u.exec(line);
+  if (!foreign) return null;
+  const from = foreign.index;
+  return { number: NOT_ASCII, line: at, from, to: from + foreign[0].length, words: wordsOfCharacter([...foreign[0]][0]) };
+}
+
+/**
+ * The lines of a text that cannot be sent; last the one from which on it is too long.
+ * @param {string} text
+ * @param {CommentMark} mark
+ * @returns {Fault[]}
+ */
+export function faultsOfLines(text, mark) {
+  const lines = alignedText(text, mark).split("\n");
+  const sent = sentText(text, mark);
+  const sentLines = sent.split("\n");
+  const faults = lines.map((line, at) => faultOfLine(line, sentLines[at], at + 1)).filter((fault) => fault !== null);
+  if (sent.length > LONGEST_TEXT) {
+    const last = sent.slice(0, LONGEST_TEXT).split("\n").length;
+    const words = say.textTooLong(LONGEST_TEXT.toLocaleString("en"), sent.length.toLocaleString("en"));
+    faults.push({ number: TEXT_TOO_LONG, line: last, from: 0, to: lines[last - 1].length, words });
+  }
+  return /** @type {Fault[]} */ (faults);
+}

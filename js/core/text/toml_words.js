@@ -1,0 +1,64 @@
+// The words of a TOML text, each with its place; what cannot be one is told.
+
+import * as say from "../../words/text.js";
+
+/**
+ * A word: a mark, a string without its quotes, a bare word, or the end of a line; `fault` says in words why it is none.
+ * @typedef {{ kind: "mark" | "string" | "bare" | "end" | "bad", text: string, line: number, from: number, to: number,
+ *   fault: string }} TomlWord
+ */
+
+const BLANK = /^[ \t]+/;
+const COMMENT = /^#.*/;
+const BARE = /^[A-Za-z0-9_+:-]+(\.[A-Za-z0-9_+:-]+)*/;
+const STRING = /^"((?:\\.|[^"\\])*)"|^'([^']*)'/;
+
+/**
+ * The next word of a line, from a place on.
+ * @param {string} text
+ * @param {number} line
+ * @param {number} from
+ * @returns {TomlWord}
+ */
+function wordFrom(text, line, from) {
+  const rest = text.slice(from);
+  const string = STRING.exec(rest);
+  if (string) {
+    const inside = string[1] === undefined ? string[2] : string[1];
+    return { kind: "string", text: inside, line, from, to: from + string[0].length, fault: "" };
+  }
+  if (/^["']/.test(rest)) {
+    const to = text.length;
+    return { kind: "bad", text: rest, line, from, to, fault: say.closingMissing(rest[0]) };
+  }
+  const bare = BARE.exec(rest);
+  if (bare) return { kind: "bare", text: bare[0], line, from, to: from + bare[0].length, fault: "" };
+  const isMark = /^[[\]{}=,.]/.test(rest);
+  const [character] = rest;
+  const word = { text: character, line, from, to: from + 1 };
+  return isMark ? { kind: "mark", ...word, fault: "" } : { kind: "bad", ...word, fault: say.noMeaning(character) };
+}
+
+/**
+ * @param {string[]} lines
+ * @returns {TomlWord[]} with an "end" after each line
+ */
+export function tomlWords(lines) {
+  /** @type {TomlWord[]} */
+  const words = [];
+  lines.forEach((whole, at) => {
+    const text = whole.replace(/\r$/, "");
+    for (let from = 0; from < text.length;) {
+      const gap = BLANK.exec(text.slice(from)) || COMMENT.exec(text.slice(from));
+      if (gap) {
+        from += gap[0].length;
+        continue;
+      }
+      const word = wordFrom(text, at + 1, from);
+      words.push(word);
+      from = word.to;
+    }
+    words.push({ kind: "end", text: "", line: at + 1, from: text.length, to: text.length, fault: "" });
+  });
+  return words;
+}

@@ -1,0 +1,84 @@
+// Cycles for people: how many since a reset, since the last stop and between two marks, with the time that a real 4004 takes for them.
+
+import { counted } from "../bench/numbers.js";
+import * as say from "../../words/time.js";
+
+/** A 4004 takes so many microseconds for a cycle: eight periods of 1.35. */
+const MICROSECONDS = 10.8;
+/** The same in milliseconds. */
+export const CYCLE_TIME = MICROSECONDS / 1000;
+
+/**
+ * What is kept beside a session: the cycles in all, those up to the last reset and up to the beginning of the last stretch of time, and
+ * those at marks, of which there are at most two.
+ * @typedef {{ total: number, reset: number, from: number, marks: number[] }} KeptCycles
+ */
+
+/** @type {KeptCycles} */
+export const NONE = { total: 0, reset: 0, from: 0, marks: [] };
+
+/** @param {number} cycles */
+export function timeOfCycles(cycles) {
+  const milliseconds = (cycles * MICROSECONDS) / 1000;
+  return milliseconds < 1000 ? say.inMilliseconds(milliseconds.toFixed(3)) : say.inSeconds((milliseconds / 1000).toFixed(3));
+}
+
+/**
+ * `538 cycles, 5.810 ms`.
+ * @param {number} cycles
+ */
+export function wordsOfCycles(cycles) {
+  return `${counted(cycles, "cycle")}, ${timeOfCycles(cycles)}`;
+}
+
+export class Cycles {
+  /** @param {KeptCycles} [kept] */
+  constructor(kept = NONE) {
+    const { total, reset, from, marks } = kept;
+    this.total = total;
+    this.reset = reset;
+    this.from = from;
+    this.marks = marks;
+    /** Whether time stands still: what comes next is another stretch. */
+    this.stands = true;
+  }
+
+  /**
+   * Takes what the bench has counted.
+   * @param {{ total: number, reset: number }} told
+   */
+  take({ total, reset }) {
+    if (total !== this.total && this.stands) {
+      this.from = Math.min(this.total, total);
+      this.stands = false;
+    }
+    this.total = total;
+    this.reset = reset;
+  }
+
+  /** Time stands still. */
+  stop() {
+    this.stands = true;
+  }
+
+  /** The first mark, the second one, or the first of another two. */
+  mark() {
+    this.marks = this.marks.length === 1 ? [...this.marks, this.total] : [this.total];
+  }
+
+  /** The cycles since a reset, in the last stretch, and from the first mark to the second or to here; null without a mark. */
+  get told() {
+    const [first, second = this.total] = this.marks;
+    return {
+      sinceReset: this.total - this.reset,
+      sinceStop: this.total - this.from,
+      marked: first === undefined ? null : Math.abs(second - first),
+    };
+  }
+
+  /** @returns {KeptCycles} */
+  get kept() {
+    const { total, reset, from, marks } = this;
+    return { total, reset, from, marks };
+  }
+}

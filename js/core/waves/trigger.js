@@ -1,0 +1,87 @@
+// What a recording waits for, in words: an edge of a line (`rom0.2 rises`, `lamp 3 falls`, `r5 changes`), or a condition in the words of
+// tests, which it waits to become true (`r9 = 9`, `lamp 3 on`, `display 42`, `@LABEL`: debug/conditions.js). Without a document.
+
+import { conditionOf } from "../debug/conditions.js";
+import * as say from "../../words/waves.js";
+
+/**
+ * @typedef {import("../debug/conditions.js").Names} Names
+ * @typedef {import("./wave_lines.js").WaveLine} WaveLine
+ * @typedef {"rises" | "falls" | "changes"} Edge
+ *
+ * `edge`: of the lines `members`, by their numbers; else `places` are those of `trace` that tell whether it holds, and `address` is where
+ * the counter has to come to, if it is that and no more, else -1.
+ * @typedef {{ edge: Edge | "", members: number[], places: string[], address: number, holds: (values: string[]) => boolean }} Trigger
+ */
+
+const EDGE = /^(.*\S)\s+(rises|falls|changes)$/;
+/** A condition that is true in each cycle is none to wait for. */
+const NEVER = () => false;
+
+/** @param {string} text */
+export function plain(text) {
+  return text.toLowerCase().replace(/[\s.]+/g, " ").trim();
+}
+
+/**
+ * The line that words name: `rom0.2`, `rom0` (the port), `lamp 3`, `lamp minus`, `minus`, `key 7`, `r5`, `ram 0 0x12`; -1 for none.
+ * @param {string} text
+ * @param {WaveLine[]} lines
+ */
+export function lineNamed(text, lines) {
+  const wanted = plain(text);
+  /** @type {(fits: (line: WaveLine) => boolean) => number} */
+  const find = (fits) => lines.findIndex(fits);
+  const tries = [
+    find(({ name }) => plain(name) === wanted),
+    find(({ name, kind }) => kind === "port" && plain(name.replace(/\[.*/, "")) === wanted),
+    find(({ title, kind }) => title !== "" && kind !== "value" && plain(title) === wanted),
+    find(({ name, group }) => (group === "lamps" || group === "keys") && plain(name.slice(name.indexOf(".") + 1)) === wanted),
+  ];
+  const lamp = /^lamp (\d+)$/.exec(wanted);
+  const lamps = lines.findIndex(({ group }) => group === "lamps");
+  if (lamp && lamps >= 0 && lines[lamps + Number(lamp[1])]?.group === "lamps") tries.push(lamps + Number(lamp[1]));
+  return tries.find((line) => line >= 0) ?? -1;
+}
+
+/**
+ * What the edge of words is one of, "" where they tell no edge.
+ * @param {string} text
+ */
+export function namedInEdge(text) {
+  const found = EDGE.exec(text.trim());
+  return found ? found[1] : "";
+}
+
+/**
+ * @param {string} text
+ * @param {WaveLine[]} lines
+ * @param {Names} names
+ * @returns {{ trigger: Trigger | null, fault: string }} no words are no trigger, and no fault
+ */
+export function readTrigger(text, lines, names) {
+  if (text.trim() === "") return { trigger: null, fault: "" };
+  const found = EDGE.exec(text.trim());
+  if (found) return readEdge(found[1], /** @type {Edge} */ (found[2]), lines);
+  const { condition, fault } = conditionOf(text, names);
+  if (!condition) return { trigger: null, fault };
+  const { places, address, holds } = condition;
+  return { trigger: { edge: "", members: [], places, address, holds: (values) => holds(values) }, fault: "" };
+}
+
+/**
+ * @param {string} name
+ * @param {Edge} edge
+ * @param {WaveLine[]} lines
+ * @returns {{ trigger: Trigger | null, fault: string }}
+ */
+function readEdge(name, edge, lines) {
+  const line = lineNamed(name, lines);
+  if (line < 0) return { trigger: null, fault: say.noSuchName(name) };
+  const { kind, members, width } = lines[line];
+  if (kind === "pc" || kind === "label") return { trigger: null, fault: say.LABEL_FORM };
+  if (edge !== "changes" && width > 1) {
+    return { trigger: null, fault: say.numberForm(name) };
+  }
+  return { trigger: { edge, members: kind === "port" ? members : [line], places: [], address: -1, holds: NEVER }, fault: "" };
+}

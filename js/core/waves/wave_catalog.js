@@ -1,0 +1,85 @@
+// What a recording can have, and what of it is shown.
+
+import { plain } from "./trigger.js";
+import { REGISTER_NAMES, characterNames, isText, linesOfBoard } from "./wave_lines.js";
+import * as say from "../../words/waves.js";
+
+/**
+ * @typedef {import("../bench/answers.js").Board} Board
+ * @typedef {import("./wave_lines.js").WaveLine} WaveLine
+ * @typedef {import("./waves.js").Waves} Waves
+ */
+
+/** So many lines are shown where none were chosen yet. */
+const MOST_AT_FIRST = 16;
+/** So many characters of RAM are offered at once. */
+const MOST_CHARACTERS = 64;
+
+/**
+ * All that can be recorded of a board.
+ * @param {Board} board
+ * @param {string} text of the board, which has names
+ */
+export function catalogOf(board, text) {
+  return linesOfBoard(board, text, true, [...REGISTER_NAMES, ...characterNames(board)]);
+}
+
+/**
+ * The lines that are shown at first: those bits that change, in their order, then the counter and the label; where none changes, the first.
+ * @param {Waves} waves
+ */
+export function firstChoice(waves) {
+  const all = waves.lines.map((_, line) => line);
+  const bits = all.filter((line) => !isText(waves.lines[line]) && waves.lines[line].kind !== "value");
+  const changing = bits.filter((line) => waves.changesOf(line).length > 0);
+  const names = all.filter((line) => waves.lines[line].kind === "pc" || waves.lines[line].kind === "label");
+  return [...(changing.length > 0 ? changing : bits).slice(0, MOST_AT_FIRST), ...names];
+}
+
+/**
+ * The names of values, which are recorded where they are asked for, among those that are chosen.
+ * @param {WaveLine[]} offered
+ * @param {Set<string>} chosen
+ */
+export function valuesAmong(offered, chosen) {
+  return offered.filter(({ name, kind }) => kind === "value" && chosen.has(name)).map(({ name }) => name);
+}
+
+/**
+ * The lines that a text means: the one of this name, else those that have it in their name, their title, or the title of their group.
+ * @param {WaveLine[]} offered
+ * @param {string} text
+ */
+function fitting(offered, text) {
+  const wanted = plain(text);
+  const exact = offered.filter(({ name }) => plain(name) === wanted);
+  if (exact.length > 0) return exact;
+  return offered.filter(({ name, title, group }) => plain(`${name} ${title} ${titleOf(group)}`).includes(wanted));
+}
+
+/**
+ * What is offered for some words. Characters of RAM are many: only those that are looked for are offered, or chosen.
+ * @param {WaveLine[]} offered
+ * @param {string} text
+ * @param {Set<string>} chosen
+ * @returns {{ lines: WaveLine[], more: string }} and what is said of those that are not offered
+ */
+export function found(offered, text, chosen) {
+  const isAll = text.trim() === "";
+  const isCharacter = (/** @type {WaveLine} */ { group }) => group.startsWith(say.RAM_GROUP);
+  let left = isAll ? 0 : MOST_CHARACTERS;
+  const all = fitting(offered, text);
+  if (all.length === 0 && !isAll) return { lines: all, more: say.noName(text.trim()) };
+  const lines = all.filter((line) => !isCharacter(line) || chosen.has(line.name) || left-- > 0);
+  const hidden = all.length - lines.length;
+  if (hidden === 0) return { lines, more: "" };
+  return { lines, more: say.notListed(hidden) };
+}
+
+/**
+ * What a group of lines is called.
+ * @param {string} group
+ */
+export function titleOf(group) {
+  return say.TITLES[group] || say.titleOfChip(group);
+}

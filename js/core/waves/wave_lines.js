@@ -1,0 +1,174 @@
+// The lines of a board that are recorded, and what else a recording can have: their names, and where the bench tells each of them. The
+// same names, in the same order, as those of tools/wave.
+
+import { BITS } from "../bench/board_form.js";
+import { numberOf, upTo } from "../bench/numbers.js";
+import { placeOf } from "../bench/places.js";
+import { Face } from "../board/face.js";
+import { wordsOfCharacter } from "../debug/standing.js";
+import * as say from "../../words/waves.js";
+
+/**
+ * @typedef {import("../bench/answers.js").Board} Board
+ * @typedef {import("../board/face.js").Told} Told
+ * @typedef {"level" | "key" | "test" | "value" | "port" | "pc" | "label"} WaveKind
+ *
+ * A line, or a number. `title` is what the board's text calls it, "" for nothing else than its name; `group` is the part of the board that
+ * it belongs to. `places`: of a level the line of the board (of a lamp the one that it is at), of a key its row and column, of a value the
+ * places of `trace` that tell its digits, the highest first; `members`: of a port the levels that it has, the lowest first, by their
+ * numbers among the lines. `width`: how many bits it has.
+ * @typedef {{ name: string, title: string, group: string, kind: WaveKind, places: string[], members: number[], width: number }} WaveLine
+ */
+
+/** A name of the board's text that can stand in a VCD file as it is. */
+const PLAIN = /^[A-Za-z0-9_]+$/;
+/** A number of more bits is not exact. */
+const MOST_BITS = 50;
+
+/**
+ * @param {string} name
+ * @param {string} group
+ * @param {WaveKind} kind
+ * @param {Partial<WaveLine>} rest
+ * @returns {WaveLine}
+ */
+function made(name, group, kind, rest = {}) {
+  return { name, title: "", group, kind, places: [], members: [], width: 1, ...rest };
+}
+
+/**
+ * The name of a lamp or a key, by the name that the board's text tells; one that cannot stand in a file is its title.
+ * @param {string} group
+ * @param {string} ending
+ * @param {Told | undefined} told
+ */
+function namesOf(group, ending, told) {
+  const text = told ? told.text : "";
+  return PLAIN.test(text) ? { name: `${group}.${text}`, title: "" } : { name: `${group}${ending}`, title: text };
+}
+
+/**
+ * The lines of a part of the board: `name.0`, `name.1` ..
+ * @param {string} group
+ * @param {number} count
+ * @param {Face} face
+ * @returns {WaveLine[]}
+ */
+function levels(group, count, face) {
+  const port = face.ports.get(group);
+  return upTo(count).map((line) => (
+    made(`${group}.${line}`, group, "level", { places: [`${group}.${line}`], title: port ? say.lineOf(port.text, line) : "" })));
+}
+
+/**
+ * @param {Board} board
+ * @param {Face} face
+ */
+function linesOfChips({ roms, banks, chains }, face) {
+  const chips = roms.map(({ chip }) => Number(chip)).sort((one, other) => one - other);
+  const sorted = [...banks].sort((one, other) => one.bank - other.bank);
+  return [
+    ...chips.flatMap((chip) => levels(`rom${chip}`, 4, face)),
+    ...sorted.flatMap(({ bank, chips: count }) => upTo(count).flatMap((chip) => levels(`ram${bank}.${chip}`, 4, face))),
+    ...chains.flatMap(({ chips: count }, chain) => levels(`chain${chain}`, BITS * count, face)),
+  ];
+}
+
+/**
+ * @param {Board} board
+ * @param {Face} face
+ */
+function linesOfFront({ lamps, rows, columns }, face) {
+  const lines = lamps.map((place, at) => {
+    const { name, title } = namesOf("lamp", String(at), face.lamps.get(at));
+    return made(name, "lamps", "level", { places: [place], title });
+  });
+  for (const row of upTo(rows)) {
+    for (const column of upTo(columns)) {
+      const key = `${row}.${column}`;
+      const { name, title } = namesOf("key", key, face.keys.get(`${row} ${column}`));
+      lines.push(made(name, "keys", "key", { places: [key], title }));
+    }
+  }
+  return lines;
+}
+
+/**
+ * The ports and chains as numbers: bit k is line k.
+ * @param {WaveLine[]} lines of the board
+ * @param {Face} face
+ */
+function portsOf(lines, face) {
+  /** @type {Map<string, number[]>} */
+  const ports = new Map();
+  lines.forEach(({ group, kind }, at) => {
+    if (kind === "level" && group !== "lamps") ports.set(group, [...(ports.get(group) || []), at]);
+  });
+  return [...ports].filter(([, { length }]) => length <= MOST_BITS).map(([group, members]) => {
+    const told = face.ports.get(group);
+    return made(`${group}[${members.length - 1}:0]`, "numbers", "port", { members, width: members.length, title: told ? told.text : "" });
+  });
+}
+
+/** The places that hold one value. */
+const VALUE = /^(acc|cy|dcl|r\d+|(ram|st)\..*)$/;
+/** @type {Record<string, number>} */
+const WIDTHS = { cy: 1, dcl: 3, src: 8 };
+
+/**
+ * A value that is asked for by its name: a register, a pair, a character of RAM, a status character; null where there is none of it.
+ * @param {string} text
+ * @param {Board} board
+ * @returns {WaveLine | null}
+ */
+export function valueLine(text, board) {
+  const name = text.trim().toLowerCase().replace(/\s+/g, ".");
+  const pair = /^p([0-7])$/.exec(name);
+  if (pair) return made(name, "registers", "value", { places: [0, 1].map((half) => `r${2 * Number(pair[1]) + half}`), width: 8 });
+  if (name === "src") return made(name, "registers", "value", { places: [name], width: 8, title: say.SRC_OF_ROMS });
+  const place = placeOf(name);
+  if (!place || !VALUE.test(place.name) || place.probesOn(board).length !== 1) return null;
+  const [word, bank, at] = place.name.split(".");
+  const isMemory = word === "ram" || word === "st";
+  const title = word === "ram" ? say.inBank(bank, wordsOfCharacter(numberOf(at))) : isMemory ? say.STATUS_CHARACTER : "";
+  return made(place.name, isMemory ? say.ramGroup(bank) : "registers", "value", { places: [place.name], width: WIDTHS[word] || 4, title });
+}
+
+/** The names of all registers and pairs. */
+export const REGISTER_NAMES = ["acc", "cy", ...upTo(16).map((at) => `r${at}`), ...upTo(8).map((at) => `p${at}`), "dcl", "src"];
+
+/**
+ * The names of all characters of a board's RAM.
+ * @param {Board} board
+ */
+export function characterNames({ banks }) {
+  return banks.flatMap(({ bank, chips }) => [
+    ...upTo(chips * 64).map((at) => `ram.${bank}.0x${at.toString(16).toUpperCase().padStart(2, "0")}`),
+    ...upTo(chips * 16).map((at) => `st.${bank}.${at >> 2}.${at & 3}`),
+  ]);
+}
+
+/**
+ * The lines of a board, in their order: those of the ROMs, the RAM chips, the chains, the lamps, the keys, TEST, the ports as numbers, the
+ * values that are asked for, the counter, and, where the program's labels are known, the label.
+ * @param {Board} board
+ * @param {string} text of the board, which has names
+ * @param {boolean} hasLabels
+ * @param {string[]} [values] by their names
+ * @returns {WaveLine[]}
+ */
+export function linesOfBoard(board, text, hasLabels, values = []) {
+  const face = new Face(text);
+  const bits = [...linesOfChips(board, face), ...linesOfFront(board, face), made("test", "test", "test")];
+  const others = values.flatMap((name) => valueLine(name, board) || []);
+  const counter = made("pc", "pc", "pc", { width: 12 });
+  return [...bits, ...portsOf(bits, face), ...others, counter, ...(hasLabels ? [made("label", "label", "label", { width: 16 })] : [])];
+}
+
+/**
+ * Whether a line is shown as boxes with its values in them, as all that are more than one bit are.
+ * @param {WaveLine} line
+ */
+export function isText({ kind, width }) {
+  return kind === "pc" || kind === "label" || width > 1;
+}

@@ -1,0 +1,127 @@
+// Looking for a value or an edge in a recording: `9` of the line that is marked, `r5 = 9`, `rom0 != 0`, `lamp15 rises`, `@LABEL`. Without a
+// document.
+
+import { numberOf } from "../bench/numbers.js";
+import { countUpTo } from "./growing.js";
+import { lineNamed } from "./trigger.js";
+import * as say from "../../words/waves.js";
+
+/**
+ * @typedef {import("./waves.js").Waves} Waves
+ *
+ * What is looked for: a line, by its number, and whether a value of it is one of those that are; with `each` every change to such a value
+ * counts, else only one from a value that is none.
+ * @typedef {{ line: number, fits: (value: number) => boolean, each: boolean }} Search
+ */
+
+/** @type {Record<string, (is: number, than: number) => boolean>} */
+const COMPARISONS = {
+  "=": (is, than) => is === than, "!=": (is, than) => is !== than, "<": (is, than) => is < than, ">": (is, than) => is > than,
+  "<=": (is, than) => is <= than, ">=": (is, than) => is >= than,
+};
+
+/** @type {Record<string, (value: number) => boolean>} */
+const EDGES = { rises: (value) => value === 1, falls: (value) => value === 0, changes: () => true };
+
+/**
+ * @param {string} fault
+ * @returns {{ search: null, fault: string }}
+ */
+function no(fault) {
+  return { search: null, fault };
+}
+
+/**
+ * @param {Waves} waves
+ * @param {string} name
+ */
+function labelOf(waves, name) {
+  const found = waves.program ? waves.program.labels.findIndex((label) => label.name === name) : -1;
+  return found < 0 ? null : { address: waves.program ? waves.program.labels[found].address : 0, number: found + 1 };
+}
+
+/**
+ * @param {string} text
+ * @param {Waves} waves
+ * @param {number} marked the line that is marked, -1 for none
+ * @returns {{ search: Search | null, fault: string }} a fault in words, where it cannot be read
+ */
+export function readSearch(text, waves, marked) {
+  const told = text.trim();
+  if (told === "") return no(say.whatIsWanted(say.SEARCH_FORMS));
+  if (told.startsWith("@")) {
+    const label = labelOf(waves, told.slice(1));
+    const counter = waves.lines.findIndex(({ kind }) => kind === "pc");
+    if (!label) return no(say.noLabel(told.slice(1)));
+    return { search: { line: counter, fits: (value) => value === label.address, each: false }, fault: "" };
+  }
+  const edge = /^(?:(.*\S)\s+)?(rises|falls|changes)$/.exec(told);
+  if (edge) return readEdge(edge[1], edge[2], waves, marked);
+  const compared = /^(.*?)\s*(!=|<=|>=|=|<|>)\s*(\S+)$/.exec(told);
+  return compared ? readValue(compared[1], compared[2], compared[3], waves, marked) : readValue("", "=", told, waves, marked);
+}
+
+/**
+ * The line of a name, that which is marked where there is none; words where there is no such line.
+ * @param {string} name
+ * @param {Waves} waves
+ * @param {number} marked
+ */
+function lineOf(name, waves, marked) {
+  const line = name ? lineNamed(name, waves.lines) : marked;
+  if (line >= 0) return { line, fault: "" };
+  return { line, fault: name ? say.notRecorded(name) : say.NO_LINE_MARKED };
+}
+
+/**
+ * @param {string | undefined} name
+ * @param {string} edge
+ * @param {Waves} waves
+ * @param {number} marked
+ */
+function readEdge(name, edge, waves, marked) {
+  const { line, fault } = lineOf(name || "", waves, marked);
+  if (fault) return no(fault);
+  const { width } = waves.lines[line];
+  if (edge !== "changes" && width > 1) return no(say.isNumber(waves.lines[line].name));
+  return { search: { line, fits: EDGES[edge], each: true }, fault: "" };
+}
+
+/**
+ * @param {string} name
+ * @param {string} sign
+ * @param {string} value
+ * @param {Waves} waves
+ * @param {number} marked
+ */
+function readValue(name, sign, value, waves, marked) {
+  const { line, fault } = lineOf(name, waves, marked);
+  if (fault) return no(fault);
+  const { kind, width, name: called } = waves.lines[line];
+  const label = kind === "label" || kind === "pc" ? labelOf(waves, value.replace(/^@/, "")) : null;
+  const binary = /^0b([01]+)$/i.exec(value);
+  const number = label ? (kind === "pc" ? label.address : label.number) : binary ? parseInt(binary[1], 2) : numberOf(value);
+  if (kind === "label" && !label) return no(say.noLabel(value));
+  if (Number.isNaN(number)) return no(say.noNumber(value, say.SEARCH_FORMS));
+  const most = 2 ** width - 1;
+  if (kind !== "label" && number > most) return no(say.hasBits(called, width, most));
+  return { search: { line, fits: (/** @type {number} */ is) => COMPARISONS[sign](is, number), each: false }, fault: "" };
+}
+
+/**
+ * The moment of what is looked for that is next after a moment, or before it; -1 where there is none.
+ * @param {Waves} waves
+ * @param {Search} search
+ * @param {number} moment
+ * @param {boolean} isForward
+ */
+export function find(waves, { line, fits, each }, moment, isForward) {
+  const track = waves.trackOf(line);
+  const changes = track.moments.all;
+  const by = isForward ? 1 : -1;
+  for (let at = isForward ? countUpTo(changes, moment) : countUpTo(changes, moment - 1) - 1; at >= 0 && at < changes.length; at += by) {
+    if (fits(track.valueBehind(at + 1)) && (each || !fits(track.valueBehind(at)))) return changes[at];
+  }
+  // It may be so from the beginning on.
+  return !isForward && !each && moment > waves.from && fits(track.first) ? waves.from : -1;
+}

@@ -1,0 +1,79 @@
+// The view of the debugger (js/core/prompt/view.js) on a terminal: it stands in the upper rows, and commands scroll in those below it. A
+// terminal that moves no cursor (TERM=dumb) gets it as lines, after each command. Colours are left out there, and where NO_COLOR is set.
+import { LEAST_COLUMNS, LEAST_ROWS, View, sizeOf } from "../core/prompt/view.js";
+
+const plain = (text) => text;
+const PLAIN = { head: plain, here: plain, other: plain };
+const COLOURS = {
+  head: (text) => `\x1b[7m${text}\x1b[0m`, here: (text) => `\x1b[1m${text}\x1b[0m`, other: (text) => `\x1b[33m${text}\x1b[0m`,
+};
+const NO_ROOM = `the view needs a terminal of ${LEAST_COLUMNS} columns and ${LEAST_ROWS} rows at least`;
+
+export class ViewOnTerminal {
+  /** `prompted` shows the prompt anew, where the cursor is. */
+  constructor(prompt, output, env, prompted) {
+    this.view = new View(prompt);
+    this.output = output;
+    this.prompted = prompted;
+    this.isDumb = /^(|dumb|unknown)$/.test(env.TERM || "");
+    this.marks = this.isDumb || env.NO_COLOR ? PLAIN : COLOURS;
+    this.isOn = false;
+    /** How many rows it takes now, 0 for none. */
+    this.rows = 0;
+  }
+
+  get size() {
+    return sizeOf(this.output.rows, this.output.columns);
+  }
+
+  /** The view is there, or is not; gives why that cannot be. */
+  turn(isOn) {
+    if (isOn === this.isOn) return "";
+    if (isOn && !this.size) return NO_ROOM;
+    this.isOn = isOn;
+    if (isOn) this.place();
+    else this.leave();
+    return "";
+  }
+
+  toggle() {
+    return this.turn(!this.isOn);
+  }
+
+  /** The terminal is cleared, and scrolls below the view from here on. */
+  place() {
+    const { size, output } = this;
+    if (this.isDumb) return;
+    if (!size) {
+      this.leave();
+      return;
+    }
+    this.rows = size.rows;
+    output.write(`\x1b[2J\x1b[${size.rows + 1};${output.rows}r\x1b[${output.rows};1H`);
+  }
+
+  /** Draws what stands there now; the cursor stays where it is. */
+  draw() {
+    const { size, output, isDumb } = this;
+    if (!this.isOn || !size) return;
+    const lines = this.view.lines(size, this.marks);
+    const placed = lines.map((line, at) => `\x1b[${at + 1};1H\x1b[K${line}`).join("");
+    output.write(isDumb ? `${lines.join("\n")}\n` : `\x1b7\x1b[?7l${placed}\x1b[?7h\x1b8`);
+  }
+
+  /** The terminal has another size, or was cleared by others. */
+  again() {
+    if (!this.isOn || this.isDumb) return;
+    this.place();
+    this.draw();
+    this.prompted();
+  }
+
+  /** The whole terminal scrolls again; what stood in the view's rows is gone. */
+  leave() {
+    if (this.rows === 0) return;
+    const rows = Array.from({ length: this.rows }, (_, at) => `\x1b[${at + 1};1H\x1b[K`).join("");
+    this.output.write(`\x1b[r${rows}\x1b[${this.output.rows};1H`);
+    this.rows = 0;
+  }
+}

@@ -1,0 +1,179 @@
+// The displays of a board: digits of seven segments, drawn, and what they show in words.
+
+import { Announcer } from "../../core/board/announcer.js";
+import { Cell, Switch, block, element } from "../ui/dom.js";
+import { shineOf } from "../../core/board/brightness.js";
+import { MINUS, NOT_LIT, POINT, hasPoints, isLit, patternsAt } from "../../core/board/digit_patterns.js";
+import { DisplayText } from "../../core/board/display_text.js";
+import { fittingGroups, isScanned } from "../../core/board/face_board.js";
+import { minusOf } from "./lamps_view.js";
+import { upTo } from "../../core/bench/numbers.js";
+
+/**
+ * @typedef {import("../../core/board/face.js").Face} Face
+ * @typedef {import("../../core/board/face.js").Group} Group
+ */
+
+const SVG = "http://www.w3.org/2000/svg";
+/** The shapes of the segments a to g, and of the point. */
+const SHAPES = [
+  "M5 3 8 1h20l3 2-4 4H9z", "M32 4l2 3v20l-2 2-3-3V8z", "M32 31l2 2v20l-2 3-3-4V34z", "M5 57l4-4h18l4 4-3 2H8z",
+  "M4 31l3 3v18l-3 4-2-3V33z", "M4 4l3 4v18l-3 3-2-2V7z", "M5 30l4-3h18l4 3-4 3H9z", "M38 54h5v5h-5z",
+];
+/** A digit that is drawn. It changes the page only where a segment is brighter or darker now than it was before. */
+class Digit {
+  /**
+   * @param {boolean} isSign whether it is a minus alone
+   * @param {boolean} hasPoint
+   */
+  constructor(isSign, hasPoint) {
+    /** How bright each segment is, and whether it counts as lit. */
+    this.shines = SHAPES.map(() => 0);
+    this.lit = 0;
+    /** The pattern that alone is shown; NOT_LIT where segments shine by their parts. */
+    this.whole = 0;
+    this.node = document.createElementNS(SVG, "svg");
+    this.node.setAttribute("viewBox", isSign ? "2 0 32 60" : "0 0 44 60");
+    this.smeared = new Switch((isOn) => this.node.classList.toggle("smeared", isOn));
+    this.segments = SHAPES.map((shape, at) => {
+      const segment = document.createElementNS(SVG, "path");
+      segment.setAttribute("d", shape);
+      const isThere = isSign ? 1 << at === MINUS : hasPoint || 1 << at !== POINT;
+      if (isThere) this.node.append(segment);
+      return segment;
+    });
+  }
+
+  /** @param {number} pattern what is lit at this instant, or stands still */
+  set(pattern) {
+    const lit = pattern === NOT_LIT ? 0 : pattern;
+    if (lit === this.whole) return;
+    this.whole = lit;
+    this.smeared.set(false);
+    this.show(lit, this.segments.map((_, at) => (lit & (1 << at) ? 1 : 0)));
+  }
+
+  /**
+   * @param {import("../../core/board/brightness.js").SeenDigit} seen
+   * @param {number} turns it is lit in one of so many turns
+   */
+  shine(seen, turns) {
+    if (seen.whole !== NOT_LIT) {
+      this.set(seen.whole);
+      return;
+    }
+    this.smeared.set(seen.isSmeared);
+    this.shineBy(seen.pattern, seen.segments.map((part) => part * turns));
+  }
+
+  /**
+   * @param {number} lit the segments that count as lit
+   * @param {number[]} parts of the time for which each segment is lit
+   */
+  shineBy(lit, parts) {
+    this.whole = NOT_LIT;
+    this.show(lit, parts);
+  }
+
+  /**
+   * @param {number} lit the segments that count as lit
+   * @param {number[]} parts of the time for which each segment is lit
+   */
+  show(lit, parts) {
+    for (let at = 0; at < this.segments.length; at++) {
+      const shine = shineOf(parts[at]);
+      if (shine !== this.shines[at]) this.segments[at].style.setProperty("--shine", String(shine));
+      this.shines[at] = shine;
+      if ((lit ^ this.lit) & (1 << at)) this.segments[at].classList.toggle("lit");
+    }
+    this.lit = lit;
+  }
+}
+
+/** A display that is drawn. */
+class Display {
+  /** @param {Group} group */
+  constructor(group) {
+    this.group = group;
+    this.digits = upTo(group.rows).map(() => new Digit(false, hasPoints(group.columns)));
+  }
+
+  /** @param {string} marks */
+  show(marks) {
+    patternsAt(this.group, marks).forEach((pattern, index) => this.digits[index].set(pattern));
+  }
+
+  /** @param {import("../../core/board/brightness.js").SeenDigit[]} seen */
+  shine(seen) {
+    // By turns each of them can be lit for its part of the time alone.
+    const turns = isScanned(this.group) ? this.group.rows : 1;
+    seen.forEach((digit, index) => this.digits[index].shine(digit, turns));
+  }
+}
+
+export class DisplayView {
+  constructor() {
+    /** @type {Display[]} */
+    this.displays = [];
+    this.sign = new Digit(true, false);
+    this.minus = -1;
+    this.words = new Cell(block("digits"));
+    this.text = new DisplayText([], []);
+    const told = new Cell(block("display-told"));
+    this.announcer = new Announcer((text) => told.set(text));
+  }
+
+  /**
+   * @param {string[]} lines
+   * @param {Face} face
+   */
+  draw(lines, face) {
+    const groups = fittingGroups(face, lines.length).filter(({ kind }) => kind === "display");
+    this.displays = groups.map((group) => new Display(group));
+    this.text = new DisplayText(groups, [...face.lamps].map(([at, { text }]) => ({ at, text })));
+    this.minus = minusOf(face);
+    this.sign = new Digit(true, false);
+    const drawn = this.displays.map(({ group, digits }) => {
+      const colour = face.colours.get(group.first);
+      return element("span", { className: `number ${colour ? colour.text : "red"}` }, ...digits.map(({ node }) => node));
+    });
+    if (this.minus >= 0 && drawn.length > 0) drawn[0].prepend(this.sign.node);
+    block("glass").replaceChildren(...drawn);
+    block("display").hidden = drawn.length === 0;
+    this.words.set("");
+    this.announcer.begin();
+  }
+
+  /** @param {string} marks a `*` for each lamp that is lit at this instant */
+  show(marks) {
+    if (this.displays.length === 0) return;
+    for (const display of this.displays) display.show(marks);
+    this.sign.set(this.minus >= 0 && isLit(marks, this.minus) ? MINUS : 0);
+    this.tell(this.text.read(marks));
+  }
+
+  /** @param {import("../../core/board/brightness.js").Brightness} brightness */
+  shine(brightness) {
+    if (this.displays.length === 0) return;
+    this.displays.forEach((display, at) => display.shine(brightness.digits[at]));
+    if (this.minus >= 0) this.shineSign(brightness, this.minus);
+    this.tell(this.text.words(brightness.patterns, (lamp) => brightness.isOn[lamp]));
+  }
+
+  /**
+   * The minus is of the display: where it stands still, it does not fade as a lamp does.
+   * @param {import("../../core/board/brightness.js").Brightness} brightness
+   * @param {number} lamp
+   */
+  shineSign({ lamps, isOn, stillness }, lamp) {
+    const lit = isOn[lamp] ? MINUS : 0;
+    if (stillness[lamp].isStill) this.sign.set(lit);
+    else this.sign.shineBy(lit, SHAPES.map((_, at) => (1 << at === MINUS ? lamps[lamp] : 0)));
+  }
+
+  /** @param {{ number: string, names: string }} words */
+  tell({ number, names }) {
+    this.words.set(number);
+    this.announcer.tell(names ? `${number} ${names}` : number);
+  }
+}

@@ -1,0 +1,205 @@
+// The front of a board: its title, its displays and lamps, and its keys, with what is at its TEST pin.
+
+import { hintOfKeys, keysOf } from "../../core/board/board_keys.js";
+import { Brightness, PERSISTENCE } from "../../core/board/brightness.js";
+import { DisplayView } from "./display_view.js";
+import { Cell, block, button, element, oneStop, pressedSwitch, setStop } from "../ui/dom.js";
+import { Face, moreThan, sorted } from "../../core/board/face.js";
+import { missingOf } from "../../core/board/face_board.js";
+import { LampsView } from "./lamps_view.js";
+import * as say from "../../words/board.js";
+
+/**
+ * @typedef {import("../../core/bench/answers.js").Board} Board
+ * @typedef {import("../../core/board/board_keys.js").BoardKey} BoardKey
+ * @typedef {import("../../core/engine/shining.js").Shone} Shone
+ * @typedef {BoardKey & { button: HTMLButtonElement, down: import("../ui/dom.js").Switch }} ShownKey
+ */
+
+/** So many faults are told. */
+const MOST_FAULTS = 20;
+
+/**
+ * Whether nothing is wired at all: what can be begun with is offered then.
+ * @param {Board} board
+ */
+function isBare({ roms, banks, chains, lamps }) {
+  return [roms, banks, chains, lamps].every((parts) => parts.length === 0);
+}
+
+const AS_SEEN = say.asSeen(PERSISTENCE);
+
+/** Longer legends are written smaller. */
+const SHORT_LEGEND = 4;
+
+export class FrontView {
+  /**
+   * @param {(button: HTMLButtonElement, key: BoardKey) => void} listen makes a button press its key
+   * @param {(face: string, number: number) => void} watch how long lamps are lit is asked for from here on, by this face
+   */
+  constructor(listen, watch) {
+    this.listen = listen;
+    this.watch = watch;
+    /** @type {ShownKey[]} with what is at TEST, if the face tells that */
+    this.keys = [];
+    /** @type {Set<string>} the keys that the bench tells to be down, as `row.column` */
+    this.down = new Set();
+    /** The level of the TEST pin. */
+    this.level = "";
+    /** What `lamps` told last. */
+    this.marks = "";
+    /** What the face was read from. */
+    this.told = "";
+    this.columns = 1;
+    this.lamps = new LampsView();
+    this.display = new DisplayView();
+    /** How many faces were drawn: the number of the last one. */
+    this.faces = 0;
+    this.brightness = new Brightness(new Face(""), 0);
+    /** Whether lamps are shown as an eye sees them, and not as they are at an instant. */
+    this.isShining = false;
+    this.shineTold = new Cell(block("shine-told"));
+    this.block = block("keys");
+    oneStop(this.block, () => this.columns);
+  }
+
+  /**
+   * Draws another board.
+   * @param {Board} board
+   * @param {Face} face
+   */
+  draw(board, face) {
+    this.told = face.told;
+    this.marks = "";
+    this.drawFace(board, face);
+  }
+
+  /**
+   * Draws another face of the same board, if it is another one. A text without any face may be one that is just being written: the board
+   * keeps its face then until it is wired.
+   * @param {Board} board
+   * @param {Face} face
+   */
+  change(board, face) {
+    this.drawFaults(board, face);
+    if (this.told === face.told || face.told === "") return;
+    this.told = face.told;
+    this.drawFace(board, face);
+    this.showLamps(this.marks);
+  }
+
+  /**
+   * @param {Board} board
+   * @param {Face} face
+   */
+  drawFace(board, face) {
+    const heading = block("front-title");
+    (heading.querySelector("button") || heading).textContent = face.title || say.LAMPS_AND_KEYS;
+    this.display.draw(board.lamps, face);
+    this.lamps.draw(board.lamps, face);
+    this.faces += 1;
+    this.brightness = new Brightness(face, board.lamps.length);
+    this.isShining = false;
+    block("shine-told").hidden = board.lamps.length === 0;
+    this.watch(face.told, this.faces);
+    this.drawKeys(board, face);
+    this.drawFaults(board, face);
+  }
+
+  /**
+   * What the comments tell and what is not understood, or is not on the board.
+   * @param {Board} board
+   * @param {Face} face
+   */
+  drawFaults(board, face) {
+    const faults = sorted([...face.faults, ...missingOf(face, board)]);
+    const root = block("face-faults");
+    const told = faults.slice(0, MOST_FAULTS).map(({ line, words }) => say.lineOfBoard(line, words));
+    root.replaceChildren(...[...told, moreThan(faults, MOST_FAULTS)].filter(Boolean).map((words) => element("li", {}, words)));
+    root.hidden = faults.length === 0;
+  }
+
+  /**
+   * @param {Board} board
+   * @param {Face} face
+   */
+  drawKeys(board, face) {
+    this.columns = Math.max(1, board.columns);
+    this.block.style.setProperty("--columns", String(this.columns));
+    this.block.classList.toggle("many", this.columns > 5);
+    this.keys = keysOf(board, face).map((key) => this.shownKey(key));
+    this.block.replaceChildren(...this.keys.map((key) => key.button));
+    this.block.hidden = this.keys.length === 0;
+    block("typing-label").hidden = this.keys.length === 0;
+    // What the face shows is turned there.
+    button("test").hidden = face.test !== null;
+    setStop(this.block);
+    block("keys-hint").textContent = isBare(board) ? "" : hintOfKeys(this.keys);
+    this.showKeys([...this.down]);
+  }
+
+  /**
+   * @param {BoardKey} boardKey
+   * @returns {ShownKey}
+   */
+  shownKey(boardKey) {
+    const node = element("button", { type: "button", className: "key", disabled: boardKey.legend === "" },
+      element("b", {}, boardKey.legend));
+    node.classList.toggle("unnamed", !boardKey.isNamed);
+    node.classList.toggle("long", boardKey.legend.length > SHORT_LEGEND);
+    node.title = boardKey.legend.length > SHORT_LEGEND ? boardKey.legend : "";
+    node.classList.toggle("at-test", boardKey.key.startsWith("test"));
+    node.classList.toggle("switch", boardKey.isSwitch);
+    if (boardKey.letter && boardKey.letter !== boardKey.legend) node.append(element("kbd", {}, boardKey.letter));
+    node.setAttribute("aria-label", boardKey.words);
+    this.listen(node, boardKey);
+    return { ...boardKey, button: node, down: pressedSwitch(node) };
+  }
+
+  /** @param {string} marks a `*` for each lamp that is lit at this instant */
+  showLamps(marks) {
+    this.marks = marks;
+    this.isShining = false;
+    this.shineTold.set(say.AT_INSTANT);
+    this.lamps.show(marks);
+    this.display.show(marks);
+  }
+
+  /**
+   * Shows what an eye sees of the time that has passed.
+   * @param {string} marks what is lit at its end
+   * @param {Shone} shone
+   * @param {number} time that it took, in milliseconds
+   */
+  shine(marks, shone, time) {
+    if (!this.isShining) this.brightness.begin(this.marks);
+    this.isShining = true;
+    this.marks = marks;
+    this.shineTold.set(AS_SEEN);
+    this.brightness.add(shone, time);
+    this.lamps.shine(this.brightness);
+    this.display.shine(this.brightness);
+  }
+
+  /**
+   * Which keys are down, as the bench tells it.
+   * @param {string[]} down
+   */
+  showKeys(down) {
+    this.down = new Set(down);
+    for (const shown of this.keys) shown.down.set(this.isDown(shown.key));
+  }
+
+  /** @param {string} level of the TEST pin */
+  showTest(level) {
+    if (this.level === level) return;
+    this.level = level;
+    for (const shown of this.keys) shown.down.set(this.isDown(shown.key));
+  }
+
+  /** @param {string} key */
+  isDown(key) {
+    if (key.startsWith("test ")) return key === `test ${this.level}`;
+    return this.down.has(key.replace(" ", "."));
+  }
+}

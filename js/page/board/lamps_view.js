@@ -1,0 +1,232 @@
+// The lamps of a board: where its face tells a place for them, there; all others in rows, with their names or those of their lines.
+
+import { block, element } from "../ui/dom.js";
+import { SEEN_PART, shineOf } from "../../core/board/brightness.js";
+import { isLit } from "../../core/board/digit_patterns.js";
+import { fittingGroups, isScanned, lampsOf } from "../../core/board/face_board.js";
+import { upTo } from "../../core/bench/numbers.js";
+import * as say from "../../words/board.js";
+
+/**
+ * @typedef {import("../../core/board/face.js").Face} Face
+ * @typedef {import("../../core/board/face.js").Group} Group
+ */
+
+/**
+ * @typedef {import("../../core/board/brightness.js").Brightness} Brightness
+ *
+ * How a lamp is seen: whether it is lit at an instant, by the marks of all lamps, for which part of the time it is, and whether that
+ * counts as lit.
+ * @typedef {{ isLit: (marks: string) => boolean, part: (brightness: Brightness) => number,
+ *   isOn: (brightness: Brightness) => boolean }} Seen
+ */
+
+/** A lamp that is drawn. It changes the page only where it is brighter or darker now than it was before. */
+class Lamp {
+  /**
+   * @param {Seen} seen
+   * @param {string} name
+   * @param {string} line
+   * @param {string} colour
+   */
+  constructor(seen, name, line, colour) {
+    this.seen = seen;
+    this.isLit = false;
+    this.part = 0;
+    this.shine = 0;
+    this.words = { lit: say.lit(name), dark: say.dark(name) };
+    this.node = element("span", { className: `bulb ${colour}`, title: line });
+    this.node.setAttribute("role", "img");
+    this.node.setAttribute("aria-label", this.words.dark);
+  }
+
+  /**
+   * @param {number} part of the time for which it is lit
+   * @param {boolean} isOn whether it counts as lit
+   */
+  show(part, isOn) {
+    if (part !== this.part) this.showShine(shineOf(part));
+    this.part = part;
+    if (this.isLit === isOn) return;
+    this.isLit = isOn;
+    this.node.classList.toggle("lit", isOn);
+    this.node.setAttribute("aria-label", isOn ? this.words.lit : this.words.dark);
+  }
+
+  /** @param {number} shine */
+  showShine(shine) {
+    if (shine === this.shine) return;
+    this.shine = shine;
+    this.node.style.setProperty("--shine", String(shine));
+    this.node.classList.toggle("full", shine === 1);
+  }
+}
+
+/**
+ * The list of a group's lamps.
+ * @param {Group} group
+ * @param {(at: number, words: string) => HTMLElement} lamp
+ */
+function listOf({ kind, rows, columns }, lamp) {
+  const cells = upTo(rows * columns).map((at) => {
+    const words = rows > 1 ? say.rowAndColumn(Math.floor(at / columns), at % columns) : say.lampOfRow(at + 1, columns);
+    return element("li", {}, lamp(at, words));
+  });
+  const list = element("ul", { className: `group ${kind}` }, ...cells);
+  list.setAttribute("aria-label", kind);
+  list.style.setProperty("--columns", String(columns));
+  return list;
+}
+
+/** @param {string} line `ram0.3.2` is line 2 of the port `ram0.3` */
+function portOf(line) {
+  return line.slice(0, line.lastIndexOf("."));
+}
+
+export class LampsView {
+  constructor() {
+    /** @type {Lamp[]} */
+    this.lamps = [];
+    /** @type {string[]} */
+    this.lines = [];
+    /** @type {Face | null} */
+    this.face = null;
+  }
+
+  /**
+   * @param {string[]} lines of the board's lamps
+   * @param {Face} face
+   */
+  draw(lines, face) {
+    this.lamps = [];
+    this.lines = lines;
+    this.face = face;
+    const groups = fittingGroups(face, lines.length);
+    const grid = face.grid.filter(({ lamp }) => lamp < lines.length);
+    const placed = new Set(grid.map(({ lamp }) => lamp));
+    for (const group of groups) for (const lamp of lampsOf(group)) placed.add(lamp);
+    if (groups.some(({ kind }) => kind === "display")) placed.add(minusOf(face));
+    let scanned = 0;
+    const drawn = groups.filter(({ kind }) => kind !== "display").map((group) => (
+      isScanned(group) ? this.drawScanned(group, scanned++) : this.drawGroup(group)));
+    if (grid.length > 0) drawn.push(this.drawGrid(grid));
+    block("groups").replaceChildren(...drawn);
+    block("lamps").replaceChildren(...this.drawRows(upTo(lines.length).filter((at) => !placed.has(at))));
+  }
+
+  /** @param {number} at */
+  nameOf(at) {
+    const told = this.face && this.face.lamps.get(at);
+    return told ? told.text.replace(/_/g, " ") : "";
+  }
+
+  /**
+   * @param {number} at
+   * @param {string} name what it is called where it has none
+   */
+  lamp(at, name) {
+    /** @type {Seen} */
+    const seen = { isLit: (marks) => isLit(marks, at), part: ({ lamps }) => lamps[at], isOn: ({ isOn }) => isOn[at] };
+    return this.add(at, seen, this.nameOf(at) || name, this.lines[at]);
+  }
+
+  /**
+   * @param {number} at the lamp that it has its colour of
+   * @param {Seen} seen
+   * @param {string} name
+   * @param {string} line
+   */
+  add(at, seen, name, line) {
+    const colour = this.face && this.face.colours.get(at);
+    const lamp = new Lamp(seen, name, line, colour ? colour.text : "red");
+    this.lamps.push(lamp);
+    return lamp.node;
+  }
+
+  /**
+   * A die, a bar or a matrix.
+   * @param {Group} group
+   */
+  drawGroup(group) {
+    return listOf(group, (at, words) => this.lamp(group.first + at, words));
+  }
+
+  /**
+   * One whose rows are lit by turns: each of its lamps can be lit for its part of the time alone.
+   * @param {Group} group
+   * @param {number} number of those that are scanned
+   */
+  drawScanned(group, number) {
+    const { first, rows, columns, by } = group;
+    return listOf(group, (at, words) => {
+      const [column, row] = [first + (at % columns), by + Math.floor(at / columns)];
+      /** @type {Seen["part"]} */
+      const part = ({ scanned }) => Math.min(1, scanned[number][at] * rows);
+      /** @type {Seen} */
+      const seen = {
+        isLit: (marks) => isLit(marks, column) && isLit(marks, row), part, isOn: (brightness) => part(brightness) >= SEEN_PART,
+      };
+      return this.add(column, seen, words, say.both(this.lines[column], this.lines[row]));
+    });
+  }
+
+  /** @param {Face["grid"]} grid */
+  drawGrid(grid) {
+    const named = grid.some(({ lamp }) => this.nameOf(lamp) !== "");
+    const cells = grid.map(({ row, column, lamp }) => {
+      const node = element("li", {}, this.lamp(lamp, say.rowAndColumn(row, column)));
+      if (named) node.append(element("span", {}, this.nameOf(lamp)));
+      node.style.setProperty("grid-row", String(row + 1));
+      node.style.setProperty("grid-column", String(column + 1));
+      return node;
+    });
+    const list = element("ul", { className: named ? "group grid named" : "group grid" }, ...cells);
+    list.setAttribute("aria-label", say.LAMPS);
+    return list;
+  }
+
+  /**
+   * Lamps without a place: those with names, and between them the unnamed ones, a row for each port.
+   * @param {number[]} loose
+   */
+  drawRows(loose) {
+    /** @type {{ port: string, cells: HTMLElement[] }[]} */
+    const rows = [];
+    for (const at of loose) {
+      const name = this.nameOf(at);
+      const port = name ? "" : portOf(this.lines[at]);
+      if (rows.length === 0 || rows[rows.length - 1].port !== port) rows.push({ port, cells: [] });
+      const shown = name || this.lines[at].slice(port.length + 1);
+      rows[rows.length - 1].cells.push(element("li", {}, this.lamp(at, this.lines[at]), element("span", {}, shown)));
+    }
+    return rows.map(({ port, cells }) => {
+      const list = element("ul", {}, ...cells);
+      const told = this.face && this.face.ports.get(port);
+      list.setAttribute("aria-label", port || say.LAMPS);
+      if (!port) return element("div", { className: "lamp-row named" }, list);
+      return element("div", { className: "lamp-row" }, element("b", { title: port }, told ? told.text : port), list);
+    });
+  }
+
+  /** @param {string} marks a `*` for each lamp that is lit at this instant */
+  show(marks) {
+    for (const lamp of this.lamps) {
+      const isOn = lamp.seen.isLit(marks);
+      lamp.show(Number(isOn), isOn);
+    }
+  }
+
+  /** @param {Brightness} brightness */
+  shine(brightness) {
+    for (const lamp of this.lamps) lamp.show(lamp.seen.part(brightness), lamp.seen.isOn(brightness));
+  }
+}
+
+/**
+ * The lamp that is the minus of a display, -1 where there is none.
+ * @param {Face} face
+ */
+export function minusOf(face) {
+  for (const [at, { text }] of face.lamps) if (text === "minus") return at;
+  return -1;
+}

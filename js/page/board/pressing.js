@@ -1,0 +1,189 @@
+// Fingers on keys: pointers, the keyboard, and what they mean while time runs and while it stands still.
+
+/**
+ * @typedef {import("../../core/board/board_keys.js").BoardKey} BoardKey
+ *
+ * What it calls: whether time runs; whether the bench tells a key to be down; changes of keys that wait for their time; and a change at
+ * once, while time stands still.
+ * @typedef {{ isRunning: () => boolean, isDown: (key: string) => boolean, press: (key: string) => void,
+ *   release: (key: string) => void, change: (word: "press" | "release", key: string) => void,
+ *   meant: (event: KeyboardEvent) => BoardKey | undefined }} PressingCalls
+ */
+
+/**
+ * What a finger has done to a key: whether the key is to stay so when the finger goes, and what takes it back.
+ * @typedef {{ stays: boolean, takeBack: () => void }} Held
+ */
+
+/** A finger on the glass presses after so many milliseconds, or when it goes: one that swipes over the page has been told by then. */
+const SWIPE_TIME = 60;
+/** A click that comes so many milliseconds after a finger went is the finger's own, whatever it says of itself. */
+const TAP_TIME = 500;
+
+export class Pressing {
+  /** @param {PressingCalls} calls */
+  constructor(calls) {
+    this.calls = calls;
+    /** @type {Map<string, Held>} the keys that a finger holds */
+    this.held = new Map();
+    /** @type {Map<number, number>} the timers of fingers that may be swiping, by pointer */
+    this.resting = new Map();
+  }
+
+  /** Forgets the fingers: the keys are others now. */
+  forget() {
+    this.held.clear();
+    for (const timer of this.resting.values()) clearTimeout(timer);
+    this.resting.clear();
+  }
+
+  /**
+   * @param {HTMLButtonElement} button
+   * @param {BoardKey} boardKey
+   */
+  listen(button, boardKey) {
+    const { key } = boardKey;
+    let lifted = -Infinity;
+    button.addEventListener("pointerdown", (event) => {
+      if (event.button !== 0) return;
+      event.preventDefault();
+      button.setPointerCapture(event.pointerId);
+      if (event.pointerType === "touch") this.rest(event.pointerId, boardKey);
+      else this.down(boardKey, event.shiftKey);
+    });
+    button.addEventListener("pointerup", (event) => {
+      lifted = event.timeStamp;
+      // A tap was shorter than the time that tells it from a swipe.
+      if (this.lift(event.pointerId)) this.down(boardKey, false);
+      this.up(key);
+    });
+    button.addEventListener("pointercancel", (event) => {
+      if (!this.lift(event.pointerId)) this.takeBack(key);
+    });
+    button.addEventListener("lostpointercapture", () => this.up(key));
+    button.addEventListener("contextmenu", (event) => event.preventDefault());
+    button.addEventListener("keydown", (event) => this.activate(event, () => this.down(boardKey, event.shiftKey)));
+    button.addEventListener("keyup", (event) => this.activate(event, () => this.up(key)));
+    // A click that is neither, as a screen reader makes it, is a short press.
+    button.addEventListener("click", (event) => {
+      if (event.detail !== 0 || event.timeStamp - lifted < TAP_TIME) return;
+      if (event instanceof PointerEvent && event.pointerId > 0) return;
+      this.down(boardKey, false);
+      this.up(key);
+    });
+  }
+
+  /**
+   * @param {KeyboardEvent} event
+   * @param {() => void} act
+   */
+  activate(event, act) {
+    if (event.key !== " " && event.key !== "Enter") return;
+    event.preventDefault();
+    event.stopPropagation();
+    if (!event.repeat) act();
+  }
+
+  /**
+   * A finger rests on a key: it is pressed in a moment, unless the browser takes the finger for a swipe.
+   * @param {number} pointer
+   * @param {BoardKey} boardKey
+   */
+  rest(pointer, boardKey) {
+    this.resting.set(pointer, window.setTimeout(() => {
+      this.resting.delete(pointer);
+      this.down(boardKey, false);
+    }, SWIPE_TIME));
+  }
+
+  /**
+   * A finger goes; whether it had pressed nothing so far.
+   * @param {number} pointer
+   */
+  lift(pointer) {
+    clearTimeout(this.resting.get(pointer));
+    return this.resting.delete(pointer);
+  }
+
+  /**
+   * A switch stays as a press puts it, and so does a key that is pressed with Shift.
+   * @param {Pick<BoardKey, "key" | "isSwitch">} boardKey
+   * @param {boolean} hasShift
+   */
+  down({ key, isSwitch }, hasShift) {
+    if (this.held.has(key)) return;
+    const isDown = this.calls.isDown(key);
+    const { change, press, release } = this.calls;
+    if (!this.calls.isRunning()) {
+      change(isDown ? "release" : "press", key);
+      this.held.set(key, { stays: true, takeBack: () => change(isDown ? "press" : "release", key) });
+    } else if (isDown) {
+      // It stayed down; this press lets it go.
+      release(key);
+      this.held.set(key, { stays: true, takeBack: () => press(key) });
+    } else {
+      press(key);
+      this.held.set(key, { stays: hasShift || isSwitch, takeBack: () => release(key) });
+    }
+  }
+
+  /**
+   * The finger was swiping: the key is as it was before.
+   * @param {string} key
+   */
+  takeBack(key) {
+    const held = this.held.get(key);
+    this.held.delete(key);
+    if (held) held.takeBack();
+  }
+
+  /**
+   * The finger goes. Where time stands still meanwhile, the key goes up when it runs on.
+   * @param {string} key
+   */
+  up(key) {
+    const held = this.held.get(key);
+    if (held === undefined) return;
+    this.held.delete(key);
+    if (!held.stays) this.calls.release(key);
+  }
+
+  allUp() {
+    for (const key of [...this.held.keys()]) this.up(key);
+  }
+
+  /** The keys of the keyboard press the keys of the board, where nothing else on the page wants them. */
+  listenToKeyboard() {
+    /** @type {Map<string, string>} */
+    const typedAt = new Map();
+    addEventListener("keydown", (event) => {
+      const boardKey = this.calls.meant(event);
+      if (!boardKey) return;
+      event.preventDefault();
+      if (event.repeat || typedAt.has(event.code)) return;
+      typedAt.set(event.code, boardKey.key);
+      this.down(boardKey, false);
+    });
+    addEventListener("keyup", (event) => {
+      const key = typedAt.get(event.code);
+      typedAt.delete(event.code);
+      if (key !== undefined) this.up(key);
+    });
+    // What goes up elsewhere is not told to this page.
+    addEventListener("blur", () => {
+      typedAt.clear();
+      this.allUp();
+    });
+  }
+}
+
+/**
+ * Whether an element wants a key of the keyboard for itself.
+ * @param {EventTarget | null} target
+ * @param {string} typed
+ */
+export function wantsKey(target, typed) {
+  if (!(target instanceof Element)) return false;
+  if (target.matches("input:not([type=checkbox]), textarea, select") || target.closest("[contenteditable]")) return true;
+  return target.matches("button, summary, a, input") && (typed === "Enter" || typed === " ");
+}

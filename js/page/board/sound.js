@@ -1,0 +1,109 @@
+// The buzzer of a board: what its line does in real time is heard, by Web Audio, once that is asked for.
+
+import { REAL_CYCLES } from "../../core/time/real_time.js";
+import { Cell, block, button, onClick, pressedSwitch } from "../ui/dom.js";
+import { SoundPieces } from "../../core/board/sound_samples.js";
+import * as say from "../../words/board.js";
+
+/**
+ * @typedef {import("../../core/engine/sounding.js").Heard} Heard
+ *
+ * What it calls: the bench tells the edges of this line from here on, "" for none; whether time is at the speed of the real chip.
+ * @typedef {{ listen: (line: string) => void, isReal: () => boolean }} SoundCalls
+ */
+
+/** What is played at once, in cycles: 45 ms. */
+const PIECE_CYCLES = 4200;
+/** So many seconds pass from a cycle to its sound; what would be later than that is left out. */
+const AHEAD = 0.09;
+const MOST_AHEAD = 0.4;
+const LOUDNESS = 0.12;
+/** What is lower is not heard, and a line that stands at 1 is none of it. */
+const LEAST_PITCH = 30;
+
+/** What plays samples one after the other. */
+class Player {
+  constructor() {
+    this.context = new AudioContext();
+    this.pieces = new SoundPieces(PIECE_CYCLES);
+    /** Up to where there is sound. */
+    this.end = 0;
+    const loudness = new GainNode(this.context, { gain: LOUDNESS });
+    const filter = new BiquadFilterNode(this.context, { type: "highpass", frequency: LEAST_PITCH });
+    this.into = loudness;
+    loudness.connect(filter).connect(this.context.destination);
+  }
+
+  /** @param {Heard} heard */
+  play(heard) {
+    const samples = this.pieces.add(heard);
+    const now = this.context.currentTime;
+    if (!samples || this.end > now + MOST_AHEAD) return;
+    // Before it runs, a context's time stands at 0.
+    if (this.end <= now) this.end = now + AHEAD;
+    const buffer = this.context.createBuffer(1, samples.length, REAL_CYCLES);
+    buffer.copyToChannel(samples, 0);
+    const source = new AudioBufferSourceNode(this.context, { buffer });
+    source.connect(this.into);
+    source.start(this.end);
+    this.end += samples.length / REAL_CYCLES;
+  }
+}
+
+export class Sound {
+  /** @param {SoundCalls} calls */
+  constructor(calls) {
+    this.calls = calls;
+    this.line = "";
+    /** @type {Player | null} where it is wanted */
+    this.player = null;
+    this.told = new Cell(block("sound-told"));
+    this.pressed = pressedSwitch(button("sound-button"));
+    onClick(button("sound-button"), () => this.turn());
+  }
+
+  /**
+   * Another board or face: its buzzer, null where it has none.
+   * @param {{ place: string, name: string } | null} buzzer
+   */
+  draw(buzzer) {
+    const line = buzzer ? buzzer.place : "";
+    block("sound").hidden = line === "";
+    button("sound-button").textContent = say.soundOf(buzzer ? buzzer.name : "");
+    this.line = line;
+    if (line === "" && this.player) this.mute();
+    else this.check();
+  }
+
+  /** By the button. */
+  turn() {
+    if (this.player) this.mute();
+    else if (typeof AudioContext === "function") this.begin();
+    else this.told.set(say.NO_SOUND);
+  }
+
+  begin() {
+    this.player = new Player();
+    this.player.context.resume().catch(() => this.told.set(say.NO_SOUND));
+    this.check();
+  }
+
+  mute() {
+    if (this.player) this.player.context.close().catch(() => {});
+    this.player = null;
+    this.check();
+  }
+
+  /** Whether it is heard may be another than before. */
+  check() {
+    const isOn = this.player !== null;
+    this.pressed.set(isOn);
+    this.told.set(isOn && !this.calls.isReal() ? say.SILENT : "");
+    this.calls.listen(isOn && this.calls.isReal() ? this.line : "");
+  }
+
+  /** @param {Heard | null} heard */
+  hear(heard) {
+    if (this.player && heard && this.calls.isReal()) this.player.play(heard);
+  }
+}

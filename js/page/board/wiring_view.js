@@ -1,0 +1,322 @@
+// The wiring of the board as a picture, with the levels of its lines, and the same in words.
+
+import { BITS } from "../../core/bench/board_form.js";
+import { Switch, block, element } from "../ui/dom.js";
+import { upTo } from "../../core/bench/numbers.js";
+import { drawn } from "../ui/svg.js";
+import { pathText, routeOf } from "../../core/board/routes.js";
+import { HEAD, drawBoard, isHigh, isHighAtRom } from "../../core/board/wiring.js";
+import * as say from "../../words/board.js";
+
+/**
+ * @typedef {import("../../core/bench/answers.js").Board} Board
+ * @typedef {import("../../core/bench/answers.js").Ports} Ports
+ * @typedef {import("../../core/bench/answers.js").Ram} Ram
+ * @typedef {import("../../core/board/wiring.js").Part} Part
+ * @typedef {import("../../core/board/wiring.js").Pin} Pin
+ * @typedef {import("../../core/board/wiring.js").Wire} Wire
+ * @typedef {(Switch | undefined)[]} Levels the lines of a port or of a chain that are drawn
+ */
+
+/** How far from a pin it is still the pin that is pointed at. */
+const REACH = 9;
+
+export class WiringView {
+  /** @param {() => boolean} isShown whether the picture is in front */
+  constructor(isShown) {
+    this.isShown = isShown;
+    this.root = block("wiring-picture");
+    this.words = block("wiring-words");
+    /** @type {Map<string, Switch>} whether a line is at 1, by its name; the pin TEST is "" */
+    this.levels = new Map();
+    /** @type {Map<string, SVGElement>} parts and pins by their names, in the order in which they are drawn */
+    this.items = new Map();
+    /** @type {Map<string, Part>} */
+    this.parts = new Map();
+    /** @type {Map<string, string[]>} the pins that a line goes to */
+    this.takers = new Map();
+    /** @type {WeakMap<Element, string>} the part or the pin that an element is drawn for */
+    this.names = new WeakMap();
+    /** @type {{ mask: string, levels: Levels }[]} the lines of each ROM, with its port in the board's text */
+    this.roms = [];
+    /** @type {Levels[]} */
+    this.chains = [];
+    /** @type {Map<string, Levels>} the lines of each RAM chip, by `bank.chip` */
+    this.rams = new Map();
+    this.marked = "";
+    /** The part or the pin that the Tab key comes to. */
+    this.stop = "";
+    /** @type {Ports | null} */
+    this.ports = null;
+    /** @type {Map<string, string>} */
+    this.ramPorts = new Map();
+    this.isTestHigh = false;
+    /** Whether a part is being dragged: until it is dropped the picture has the size that it had. */
+    this.isHeld = false;
+    /** What the picture shows of its plane. */
+    this.viewBox = "";
+    /** A wire that is being drawn. */
+    this.pencil = drawn("path", { class: "wire pencil" });
+  }
+
+  /** Another board is wired: what was told of the one before is not of it. */
+  forget() {
+    this.ports = null;
+    this.ramPorts.clear();
+  }
+
+  /** Levels are shown while the picture is in front; what was told last, when it comes there. */
+  showLevels() {
+    const { ports } = this;
+    // While a session is opened, its first levels may come before its board is drawn.
+    if (ports && ports.roms.length === this.roms.length && ports.chains.length === this.chains.length) {
+      this.roms.forEach(({ mask, levels }, at) => setAll(levels, (line) => isHighAtRom(mask, ports.roms[at], line)));
+      this.chains.forEach((levels, at) => setAll(levels, (bit) => ports.chains[at][bit] === "1"));
+    }
+    for (const [name, digit] of this.ramPorts) setAll(this.rams.get(name) || [], (line) => isHigh(digit, line));
+    setAll([this.levels.get("")], () => this.isTestHigh);
+  }
+
+  /**
+   * Draws another board.
+   * @param {Board} board
+   * @param {import("../../core/board/wiring.js").Appearance} look
+   * @param {{ moved: import("../../core/board/wiring.js").Moved, isWired: boolean }} how what was dragged stands where; and whether this board is the one
+   *   that is wired, so that its lines have levels
+   */
+  draw(board, look, { moved, isWired }) {
+    const { parts, wires, width, height } = drawBoard(board, look, moved);
+    const focused = document.activeElement instanceof Element ? this.nameAt(document.activeElement) : "";
+    this.items.clear();
+    this.levels.clear();
+    this.parts = new Map(parts.map((part) => [part.id, part]));
+    /** @type {Map<string, SVGElement[]>} */
+    const nodes = new Map();
+    const wireNodes = wires.flatMap((wire, at) => this.drawWire(wire, pathText(routeOf(wire, parts, at)), nodes));
+    this.takers = takersOf(wires);
+    const partNodes = parts.map((part) => this.drawPart(part, nodes));
+    for (const [line, some] of nodes) {
+      this.levels.set(line, new Switch((isOn) => some.forEach((node) => node.classList.toggle("high", isOn))));
+    }
+    this.groupLevels(isWired ? board : null);
+    if (!this.isHeld) {
+      this.viewBox = `0 0 ${width} ${height}`;
+      this.root.style.setProperty("--picture-width", `${width}px`);
+    }
+    const picture = drawn("svg", { viewBox: this.viewBox, role: "group", "aria-label": say.PARTS_AND_WIRES });
+    picture.append(...wireNodes, ...partNodes, this.pencil);
+    this.root.replaceChildren(picture);
+    this.words.replaceChildren(...parts.map(({ title, says }) => element("li", {}, `${title}: ${says.join("; ")}.`)));
+    this.setStop(this.items.has(focused) ? focused : this.stop);
+    if (focused) this.focus(this.stop);
+    this.showMark();
+    if (this.isShown()) this.showLevels();
+  }
+
+  /** @param {Board | null} board null where it is not wired */
+  groupLevels(board) {
+    const { roms, chains, banks } = board || { roms: [], chains: [], banks: [] };
+    /** @type {(owner: string, count: number) => Levels} */
+    const levelsOf = (owner, count) => upTo(count).map((line) => this.levels.get(`${owner}.${line}`));
+    this.roms = roms.map(({ chip, port }) => ({ mask: port, levels: levelsOf(`rom${chip}`, 4) }));
+    this.chains = chains.map(({ chips }, at) => levelsOf(`chain${at}`, BITS * chips));
+    const names = banks.flatMap(({ bank, chips }) => upTo(chips).map((chip) => `${bank}.${chip}`));
+    this.rams = new Map(names.map((name) => [name, levelsOf(`ram${name}`, 4)]));
+  }
+
+  /**
+   * A wire, and around it what is pointed at for it.
+   * @param {Wire} wire
+   * @param {string} d where it runs
+   * @param {Map<string, SVGElement[]>} nodes
+   */
+  drawWire(wire, d, nodes) {
+    const path = drawn("path", { class: "wire", d });
+    const reach = drawn("path", { class: "reach", d });
+    this.names.set(reach, wire.to.id);
+    nodes.set(wire.line, [...(nodes.get(wire.line) || []), path]);
+    return [path, reach];
+  }
+
+  /**
+   * @param {Part} part
+   * @param {Map<string, SVGElement[]>} nodes
+   */
+  drawPart(part, nodes) {
+    const { id, kind, title, x, y, width, height, says } = part;
+    const words = `${title}: ${says.join("; ")}`;
+    const box = drawn("g", { class: `part of-${kind}`, role: "button", tabindex: -1, "aria-label": words });
+    const head = drawn("text", { class: "title", x: x + width / 2, y: y + HEAD - 9 }, title);
+    box.append(drawn("rect", { x, y, width, height, rx: 4 }), head);
+    this.name(box, id);
+    return drawn("g", {}, box, ...part.pins.map((pin) => this.drawPin(part, pin, nodes)));
+  }
+
+  /**
+   * @param {SVGElement} node
+   * @param {string} name of a part or a pin
+   */
+  name(node, name) {
+    this.items.set(name, node);
+    this.names.set(node, name);
+  }
+
+  /**
+   * A pin with its label inside the part; that of a lamp is the lamp.
+   * @param {Part} part
+   * @param {Pin} pin
+   * @param {Map<string, SVGElement[]>} nodes
+   */
+  drawPin(part, pin, nodes) {
+    const isLeft = pin.x === part.x;
+    const isLamp = part.kind === "lamps";
+    const centre = { cx: pin.x, cy: pin.y };
+    const dot = drawn("circle", { class: isLamp ? `lamp ${pin.colour}` : "pin", ...centre, r: isLamp ? 6 : 4 });
+    const side = isLeft ? "at-left" : "at-right";
+    const label = drawn("text", { class: side, x: pin.x + (isLeft ? 10 : -10), y: pin.y + 4 }, pin.label);
+    nodes.set(pin.line, [...(nodes.get(pin.line) || []), dot]);
+    const reach = drawn("circle", { class: "reach", ...centre, r: REACH });
+    const words = `${part.title}, ${pin.label}, ${this.wordsOfPin(pin)}`;
+    const node = drawn("g", { "class": "at-pin", "role": "button", "tabindex": -1, "aria-label": words },
+      drawn("title", {}, pin.line || say.TEST_PIN), dot, label, reach);
+    this.name(node, pin.id);
+    return node;
+  }
+
+  /**
+   * What a pin is wired to.
+   * @param {Pin} pin
+   */
+  wordsOfPin({ id, line }) {
+    if (line !== "" && id !== line) return say.at(line);
+    const takers = (this.takers.get(line) || []).filter((taker) => taker !== id);
+    return takers.length > 0 ? say.wiredTo(takers.join(say.AND)) : say.NOT_WIRED;
+  }
+
+  /**
+   * The part or the pin that an element is drawn for; "" for none.
+   * @param {Element | null} node
+   */
+  nameAt(node) {
+    for (let each = node; each && each !== this.root; each = each.parentElement) {
+      const name = this.names.get(each);
+      if (name !== undefined) return name;
+    }
+    return "";
+  }
+
+  /**
+   * All items are one stop of the Tab key.
+   * @param {string} name
+   */
+  setStop(name) {
+    const old = this.items.get(this.stop);
+    if (old) old.setAttribute("tabindex", "-1");
+    const [first = ""] = this.items.keys();
+    this.stop = this.items.has(name) ? name : first;
+    const node = this.items.get(this.stop);
+    if (node) node.setAttribute("tabindex", "0");
+  }
+
+  /** @param {string} name of a part or a pin */
+  focus(name) {
+    const node = this.items.get(name);
+    if (!node) return;
+    this.setStop(name);
+    node.focus();
+  }
+
+  /**
+   * What is chosen, the pin that a wire begins at, and those where it can end.
+   * @param {string} chosen
+   * @param {string} begun
+   * @param {Set<string>} ends
+   */
+  showChoice(chosen, begun, ends) {
+    for (const [name, node] of this.items) {
+      node.classList.toggle("chosen", name === chosen);
+      node.classList.toggle("begun", begun !== "" && name === begun);
+      node.classList.toggle("can-end", ends.has(name));
+    }
+    this.root.classList.toggle("wiring-on", begun !== "");
+    if (chosen) this.setStop(chosen);
+    if (begun === "") this.drawPencil("", null);
+  }
+
+  /**
+   * The wire that is being drawn, from a pin to where the pointer is.
+   * @param {string} name of the pin, "" for no wire
+   * @param {import("../../core/board/wiring.js").Point | null} to
+   */
+  drawPencil(name, to) {
+    const pin = [...this.parts.values()].flatMap(({ pins }) => pins).find(({ id }) => id === name);
+    this.pencil.setAttribute("d", pin && to ? pathText(routeOf({ from: pin, to }, [], 0)) : "");
+  }
+
+  /**
+   * A point on the screen as one of the picture.
+   * @param {{ clientX: number, clientY: number }} event
+   */
+  pointOf({ clientX, clientY }) {
+    const picture = this.root.querySelector("svg");
+    const matrix = picture && picture.getScreenCTM();
+    if (!matrix) return { x: 0, y: 0 };
+    const { x, y } = new DOMPoint(clientX, clientY).matrixTransform(matrix.inverse());
+    return { x, y };
+  }
+
+  /**
+   * Marks the part that the caret in the board's text stands at.
+   * @param {string} name `rom 1`, `ram 0`, `lamp 3`, `test`; "" for none
+   */
+  mark(name) {
+    if (name === this.marked) return;
+    this.marked = name;
+    this.showMark();
+  }
+
+  showMark() {
+    const id = this.marked.startsWith("lamp ") ? "lamps" : this.marked;
+    for (const own of this.parts.keys()) {
+      const node = this.items.get(own);
+      if (node) node.classList.toggle("marked", id !== "" && (own === id || own.startsWith(`${id}.`)));
+    }
+  }
+
+  /** @param {Ports} ports */
+  showPorts(ports) {
+    this.ports = ports;
+    if (this.isShown()) this.showLevels();
+  }
+
+  /** @param {Ram} told */
+  showRam({ ports }) {
+    for (const [name, digit] of ports) this.ramPorts.set(name, digit);
+    if (this.isShown()) this.showLevels();
+  }
+
+  /** @param {boolean} isOn whether the TEST pin is at 1 */
+  showTest(isOn) {
+    this.isTestHigh = isOn;
+    if (this.isShown()) this.showLevels();
+  }
+}
+
+/**
+ * The pins that each line goes to.
+ * @param {Wire[]} wires
+ */
+function takersOf(wires) {
+  /** @type {Map<string, string[]>} */
+  const takers = new Map();
+  for (const { line, to } of wires) takers.set(line, [...(takers.get(line) || []), to.id]);
+  return takers;
+}
+
+/**
+ * @param {Levels} levels
+ * @param {(line: number) => boolean} levelOf
+ */
+function setAll(levels, levelOf) {
+  levels.forEach((level, line) => level && level.set(levelOf(line)));
+}

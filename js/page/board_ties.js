@@ -1,0 +1,169 @@
+// What the parts that show and draw the board call of the others: they get calls, and know no page.
+
+import { partAtLine } from "../core/bench/part_lines.js";
+import { Cancelled } from "../core/bench/faults.js";
+import { keyOfKeyboard } from "../core/board/board_keys.js";
+import { Face } from "../core/board/face.js";
+import { buzzerOf } from "../core/board/face_board.js";
+import { Pressing, wantsKey } from "./board/pressing.js";
+import { DrawingController } from "./drawing/drawing_controller.js";
+import { linesOfParts } from "../core/drawing/part_lines.js";
+import { wordsOfCell } from "../core/help/manual.js";
+import { LookView } from "./look_view.js";
+import { isDialogOpen } from "./ui/dom.js";
+import { Scope } from "./waves/scope.js";
+import { catalogOf } from "../core/waves/wave_catalog.js";
+import { lineOfChange } from "../core/engine/key_queue.js";
+import * as say from "../words/page.js";
+
+/** @typedef {import("./page.js").Page} Page */
+
+/**
+ * @param {Page} page
+ * @returns {LookView}
+ */
+export function lookViewOf(page) {
+  const { running } = page;
+  return new LookView({
+    listen: (node, key) => page.pressing.listen(node, key),
+    isRunning: () => running.clock.isRunning,
+    isFast: () => running.isFast,
+    isWiringShown: () => page.layout.tabs.shown === "wiring",
+    ask: (lines) => page.bench.call("ask", [lines]),
+    act: (line) => page.serving.act(line),
+    wordsOfRefusal: (number) => page.words.ofRefusal(number),
+    explain: (name) => wordsOfCell(page.cellWords, name),
+    isAt: (counter) => page.source.showNext(counter, running.isFast),
+    breakAt: (breakpoints) => page.breakpoints.keeper.take(breakpoints),
+    toggleBreakpoint: (address) => page.breakpoints.keeper.toggleAddress(address),
+    wentTo: (address) => page.source.reveal(address),
+    watchLamps: (face, number) => {
+      page.bench.call("watchLamps", [face, number]).catch((fault) => page.recovery.failed(fault));
+    },
+    printOn: (printer) => {
+      page.bench.call("printOn", [printer]).catch((fault) => page.recovery.failed(fault));
+    },
+    tear: () => {
+      page.current.touch();
+      page.bench.call("tearPaper", []).catch((fault) => page.recovery.failed(fault));
+    },
+    timeOf: (cycles) => running.clock.timeOf(cycles),
+    failed: (fault) => page.recovery.failed(fault),
+  });
+}
+
+/**
+ * @param {Page} page
+ * @returns {Pressing}
+ */
+export function pressingOf(page) {
+  const { running } = page;
+  return new Pressing({
+    isRunning: () => running.clock.movesKeys,
+    isDown: (key) => running.willBeDown(key, page.lookView.front.isDown(key)),
+    press: (key) => running.queue("press", key),
+    release: (key) => running.queue("release", key),
+    change: (word, key) => {
+      running.queue("forget", key);
+      page.serving.act(`${lineOfChange({ word, key })}\n`);
+    },
+    meant: (event) => {
+      if (event.ctrlKey || event.metaKey || event.altKey || !page.types || isDialogOpen()) return undefined;
+      return wantsKey(event.target, event.key) ? undefined : keyOfKeyboard(page.lookView.front.keys, event.key);
+    },
+  });
+}
+
+/**
+ * Another board is shown, or another text of it: the buzzer that it names is heard.
+ * @param {Page} page
+ * @param {string} boardText
+ */
+export function drawSound({ running, lookView }, boardText) {
+  running.sound.draw(buzzerOf(lookView.board, new Face(boardText)));
+}
+
+/**
+ * The picture of the board's text, beside that text.
+ * @param {Page} page
+ * @returns {DrawingController}
+ */
+export function drawingOf(page) {
+  const { bench, boardEditor, current, lookView: { wiring } } = page;
+  const { editor } = boardEditor;
+  const { tabs } = page.layout;
+  const drawing = new DrawingController(wiring, {
+    text: () => editor.text,
+    ask: (lines) => bench.call("ask", [lines]),
+    edit: (edits) => editor.edit(edits),
+    undo: () => editor.undoOrRedo("undo"),
+    redo: () => editor.undoOrRedo("redo"),
+    wordsOfRefusal: (number) => page.words.ofRefusal(number),
+    isInFront: () => tabs.shown === "wiring",
+    putInFront: () => tabs.choose("wiring"),
+    wire: async () => {
+      await page.editors.wire();
+      return boardEditor.told.text;
+    },
+    find: (part) => {
+      const lines = linesOfParts(editor.text).get(part);
+      if (!lines) return;
+      tabs.choose("board");
+      editor.select(lines);
+    },
+    session: () => current.session,
+    touched: () => current.touchAndKeep(),
+    failed: (fault) => page.recovery.failed(fault),
+  });
+  tabs.whenShown("wiring", () => {
+    wiring.showLevels();
+    drawing.look();
+  });
+  editor.caret = (line) => wiring.mark(partAtLine(linesOfParts(editor.text), line));
+  return drawing;
+}
+
+/**
+ * @param {Page} page
+ * @returns {Scope}
+ */
+export function scopeOf(page) {
+  /** @type {(values: string[]) => { board: string, program: string, values: string[] }} */
+  const textsWith = (values) => ({ board: page.boardEditor.text, program: page.programEditor.text, values });
+  const scope = new Scope({
+    goTo: (address) => page.lookView.goTo.show(address),
+    name: () => page.current.name,
+    offered: () => catalogOf(page.lookView.board, page.boardEditor.text),
+    isOn: (isOn) => page.layout.tabs.mark("waves", isOn ? "records" : ""),
+    begin: (wanted, values) => orTold(page, page.bench.call("recordLive", [textsWith(values), wanted])),
+    end: () => orTold(page, page.bench.call("endRecording", [])),
+    record: async (cycles, isBefore, values) => {
+      // What is recorded goes on from a moment that stands still.
+      await page.running.stand();
+      try {
+        return await page.work.show(say.RECORDING_LINES,
+          (signal, progress) => page.bench.call("record", [cycles, isBefore, textsWith(values)], { signal, progress }));
+      } catch (fault) {
+        if (fault instanceof Cancelled) scope.told.set(say.NOTHING_RECORDED);
+        else page.recovery.failed(fault);
+        return null;
+      }
+    },
+  });
+  return scope;
+}
+
+/**
+ * What a call gives, null where it failed, which is told.
+ * @template Result
+ * @param {Page} page
+ * @param {Promise<Result>} call
+ */
+async function orTold(page, call) {
+  try {
+    return await call;
+  } catch (fault) {
+    page.recovery.failed(fault);
+    return null;
+  }
+}

@@ -1,0 +1,103 @@
+// What those parts call of the others that let time run, serve lines, and keep the session: they get calls, and know no page.
+
+import { wordsOfAddress } from "../words/stops.js";
+import { Serving } from "./lines/serving.js";
+import { Recovery } from "./recovery.js";
+import { CurrentSession } from "./session/current_session.js";
+import { Running } from "./time/running.js";
+
+/** @typedef {import("./page.js").Page} Page */
+
+/**
+ * @param {Page} page
+ * @returns {CurrentSession}
+ */
+export function currentSessionOf(page) {
+  return new CurrentSession(page.bench, page.store, {
+    begin: (record) => page.begin(record),
+    show: (shown) => page.show(shown),
+    checkSource: () => page.checkSource(),
+    run: () => page.running.run(),
+    halted: (words) => page.running.halted(words),
+    standStill: () => page.running.standStill(),
+    where: () => page.running.where,
+    touched: () => page.sessionsController.touched(),
+    ran: () => page.log.take(),
+    showRan: (ran, fault) => page.log.showRan(ran, fault),
+    notKept: (words) => (words ? page.notice.show(words, "kept") : page.notice.hide("kept")),
+  }, page.past);
+}
+
+/**
+ * @param {Page} page
+ * @returns {Recovery}
+ */
+export function recoveryOf(page) {
+  return new Recovery(page.bench, page.words, page.notice, {
+    session: () => page.current.session,
+    isRunning: () => page.running.clock.isRunning,
+    stopClock: () => page.running.clock.stop(),
+    halted: (words) => page.running.halted(words),
+    ran: (frame) => page.running.ran(frame),
+    openAgain: async (record) => {
+      page.show(await page.current.callOpen(record));
+      page.breakpoints.keeper.again();
+    },
+  });
+}
+
+/**
+ * @param {Page} page
+ * @returns {Running}
+ */
+export function runningOf(page) {
+  const { current } = page;
+  return new Running(page.bench, current, {
+    began: () => page.usual.clear(),
+    took: (frame) => {
+      page.log.collect(frame.ran);
+      page.usual.show(frame.tally.usual);
+      page.heat.ran(frame);
+      page.show(frame, true, frame.shone);
+      page.breakpoints.count(frame.tally);
+    },
+    drawRest: () => page.lookView.showRest(),
+    drawListing: () => page.lookView.showListing(),
+    isOwed: () => {
+      const { registers } = page.lookView.reader;
+      return registers !== null && registers.owed === "1";
+    },
+    cycles: () => page.cycles.cycles.total,
+    where: () => wordsOfAddress(page.lookView.counter, page.source.map),
+    breakpoint: (id) => page.breakpoints.keeper.list.get(id),
+    wordsOfRefusal: (number) => page.words.ofRefusal(number),
+    step: () => page.serving.act("step\n"),
+    failed: (fault) => page.recovery.failed(fault),
+  });
+}
+
+/**
+ * @param {Page} page
+ * @returns {Serving}
+ */
+export function servingOf(page) {
+  const { current, running } = page;
+  return new Serving(page.bench, page.words, page.notice, {
+    map: () => page.source.map,
+    work: (words, work) => page.work.show(words, (signal, progress) => work({ signal, progress })),
+    counter: () => page.lookView.counter,
+    show: (told) => {
+      if (told.touchesRom) page.lookView.forgetRom();
+      page.show(told);
+    },
+    checkSource: () => page.checkSource(),
+    keep: () => current.touchAndKeep(),
+    log: (entries, fault) => page.log.show(entries, fault),
+    counted: (tally) => page.breakpoints.count(tally),
+    isRunning: () => running.clock.isRunning,
+    forgetGoal: () => running.forgetGoal(),
+    reasonOf: (stop) => running.reasonOf(stop, null),
+    tell: (words) => running.tell(words),
+    failed: (fault) => page.recovery.failed(fault),
+  });
+}

@@ -1,0 +1,174 @@
+// What the debugger's parts call of the others, breakpoints, moves and values: they get calls, and know no page.
+
+import { Cancelled, WorkerDied } from "../core/bench/faults.js";
+import { hex } from "../core/bench/numbers.js";
+import { wordsOfLastChange, wordsOfAddress } from "../words/stops.js";
+import { BreakpointsController } from "./machine/breakpoints_controller.js";
+import { HeatView } from "./machine/heat_view.js";
+import { LastChangeView } from "./machine/last_change_view.js";
+import { listenToCaret, listenToHere } from "./machine/run_to.js";
+import { SourceValues } from "../core/machine/source_values.js";
+import { UsualView } from "./machine/usual_view.js";
+import { WatchedView } from "./machine/watched_view.js";
+import { nameCharacters } from "./text_ties.js";
+import { HistoryView } from "./time/history_view.js";
+import { Travel } from "../core/time/travel.js";
+import { block } from "./ui/dom.js";
+
+/** @typedef {import("./page.js").Page} Page */
+
+/**
+ * @param {Page} page
+ * @returns {BreakpointsController}
+ */
+export function breakpointsOf(page) {
+  return new BreakpointsController(page.bench, {
+    session: () => page.current.session,
+    touched: () => page.current.touchAndKeep(),
+    texts: () => ({ board: page.boardEditor.text, program: page.programEditor.sent }),
+    served: (told) => page.serving.take(told),
+    stands: (told) => page.show(told, page.running.clock.isRunning),
+    showMarks: (lines, addresses) => {
+      page.programEditor.showBreakpoints(lines);
+      page.lookView.showBreakpoints(addresses);
+    },
+    goTo: (address) => page.lookView.goTo.show(address),
+    reveal: (line) => page.programEditor.reveal(line),
+    freshSource: () => page.source.fresh(),
+    checkSource: () => page.source.check(),
+    tell: (words) => page.lookView.told.show(words),
+    failed: (fault) => page.recovery.failed(fault),
+  });
+}
+
+/** @param {Page} page */
+export function travelOf(page) {
+  const { running } = page;
+  return new Travel(page.bench, {
+    stand: () => running.stand(),
+    aim: (goal) => running.aim(goal),
+    change: (words, work) => page.serving.change(words, work),
+    runTo: (goal) => running.run(goal),
+    counted: (tally) => page.breakpoints.count(tally),
+    reasonOf: (stop, goal) => running.reasonOf(stop, goal),
+    where: () => running.where,
+    breakpoint: (id) => page.breakpoints.keeper.list.get(id),
+    tell: (words) => running.tell(words),
+  });
+}
+
+/** @param {Page} page */
+export function historyOf(page) {
+  const { travel, lookView, source, programEditor, running } = page;
+  /** @type {(address: number) => void} */
+  const runTo = (address) => {
+    travel.goOn({ kind: "here", address });
+  };
+  /** The line that the caret is in may put nothing into ROM. */
+  const addressOfCaret = () => {
+    const { map } = source;
+    return map ? map.addressOf(programEditor.editor.editor.getCursor().line + 1) : undefined;
+  };
+  listenToHere(lookView.listing.block, (node) => lookView.listing.rows.addressAt(node), runTo);
+  listenToCaret(block("program-editor"), addressOfCaret, runTo, (words) => running.tell(words));
+  tellLastChanges(page);
+  return new HistoryView({
+    goOn: (goal) => travel.goOn(goal),
+    goBack: (goal) => travel.goBack(goal),
+    goForward: () => travel.goForward(),
+    tell: (words) => running.tell(words),
+  });
+}
+
+/** @param {Page} page */
+function tellLastChanges({ bench, lookView, source, running, recovery }) {
+  return new LastChangeView([block("processor"), block("watched"), block("memory")], {
+    isRunning: () => running.clock.isRunning,
+    pokedAt: (cell) => lookView.editor.poked.get(cell),
+    wordsOf: async ({ place, name }, signal) => {
+      try {
+        return wordsOfLastChange(name, await bench.call("lastChange", [place], { signal }), source.map);
+      } catch (fault) {
+        if (!(fault instanceof Cancelled) && !(fault instanceof WorkerDied)) recovery.failed(fault);
+        return "";
+      }
+    },
+  });
+}
+
+/**
+ * @param {Page} page
+ * @returns {SourceValues}
+ */
+export function valuesOf(page) {
+  const { lookView, running, source, editors } = page;
+  return new SourceValues({
+    look: () => lookView.reader.look,
+    isRunning: () => running.clock.isRunning,
+    nameOf: (word) => {
+      const name = source.map && source.map.names.get(word);
+      return name ? { ...name, words: source.meaningOf(word) } : undefined;
+    },
+    doesOf: (word) => (editors.instructions.get(word) || { does: "" }).does,
+    map: () => source.map,
+    showWatched: () => page.watched.show(),
+    showLines: (lines) => editors.program.lineValues.show(lines),
+    changed: () => editors.program.moved(),
+  });
+}
+
+/**
+ * @param {Page} page
+ * @returns {HeatView}
+ */
+export function heatOf(page) {
+  const { bench, lookView, running, recovery } = page;
+  return new HeatView(page.layout.choices, {
+    isRunning: () => running.clock.isRunning,
+    count: (cycles, signal) => bench.call("heat", [cycles], { signal }).catch((fault) => {
+      if (!(fault instanceof Cancelled) && !(fault instanceof WorkerDied)) recovery.failed(fault);
+      return null;
+    }),
+    watch: (isOn) => {
+      bench.call("watchRam", [isOn]).catch((fault) => recovery.failed(fault));
+    },
+    show: (warm) => lookView.ram.showWarm(warm),
+    nameOf: (place) => lookView.ram.nameOf(place),
+    map: () => page.source.map,
+  });
+}
+
+/**
+ * @param {Page} page
+ * @returns {WatchedView}
+ */
+export function watchedOf(page) {
+  const { current, lookView } = page;
+  return new WatchedView({
+    offer: (cell, { place, name }) => lookView.editor.offer(cell, { place, name, digits: 1 }),
+    standing: () => page.values.standing,
+    listed: () => nameCharacters(page),
+    keep: (texts) => {
+      if (!current.session) return;
+      current.session.record.watched = texts;
+      current.keep();
+    },
+  });
+}
+
+/**
+ * @param {Page} page
+ * @returns {UsualView}
+ */
+export function usualOf(page) {
+  const { choices } = page.layout;
+  return new UsualView({
+    wordsOf: (address) => wordsOfAddress(hex(address, 3), page.source.map),
+    goTo: (address) => page.lookView.goTo.show(address),
+    stopAt: (kinds) => {
+      page.bench.call("stopAtFaults", [kinds]).catch((fault) => page.recovery.failed(fault));
+    },
+    chosen: () => choices.get("stops"),
+    choose: (kinds) => choices.set("stops", kinds),
+  });
+}

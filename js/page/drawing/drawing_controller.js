@@ -1,0 +1,153 @@
+// The board that is drawn: it is the text of the editor Board, and its picture stands in Wiring.
+
+import { wantsKey } from "../board/pressing.js";
+import { button, isDialogOpen, onClick } from "../ui/dom.js";
+import { Drawing } from "../../core/drawing/drawing.js";
+import { DrawingView } from "./drawing_view.js";
+import { PictureInput } from "./picture_input.js";
+import { PictureZoom } from "./picture_zoom.js";
+
+/**
+ * @typedef {import("../board/wiring_view.js").WiringView} WiringView
+ * @typedef {import("../session/kept_session.js").KeptSession} KeptSession
+ * @typedef {import("../../core/drawing/drawing.js").DrawingCalls} DrawingCalls
+ * @typedef {import("../../core/drawing/drawing.js").Shown} Shown
+ *
+ * What it calls, beside what the drawing does: whether the picture is in front, and it is put there; the text is wired, which gives what
+ * is told of that; the lines of a part are shown in the text; the session that is shown, in which something was done; a call failed.
+ * @typedef {DrawingCalls & { isInFront: () => boolean, putInFront: () => void, wire: () => Promise<string>, find: (part: string) => void,
+ *   session: () => KeptSession | null, touched: () => void, failed: (fault: unknown) => void }} PictureCalls
+ */
+
+/** So many milliseconds after the last edit the picture follows the text. */
+const PAUSE = 300;
+
+export class DrawingController {
+  /**
+   * @param {WiringView} picture
+   * @param {PictureCalls} calls
+   */
+  constructor(picture, calls) {
+    this.picture = picture;
+    this.calls = calls;
+    this.editing = 0;
+    this.drawing = new Drawing(calls, (shown) => this.show(shown));
+    this.view = this.makeView();
+    this.view.moved = this.drawing.movedParts.moved;
+    this.input = this.makeInput();
+    this.zoom = new PictureZoom(picture.root);
+    onClick(button("first-drawing"), calls.putInFront);
+    addEventListener("keydown", (event) => this.typed(event));
+  }
+
+  makeView() {
+    return new DrawingView(this.picture, {
+      act: (act) => this.tried(this.drawing.act(act)),
+      undoOrRedo: (which) => this.tried(this.drawing.undoOrRedo(which)),
+      wire: () => this.tried(this.wire()),
+      find: this.calls.find,
+      tidy: () => this.tidy(),
+    });
+  }
+
+  makeInput() {
+    const { drawing } = this;
+    return new PictureInput(this.picture, {
+      pressed: (name) => this.tried(drawing.pressed(name)),
+      wired: (from, to) => {
+        drawing.begun = from;
+        this.tried(drawing.endWire(to));
+      },
+      moved: (part, point) => this.move(part, point),
+      dropped: () => {
+        this.view.drawn = "";
+        this.view.showPicture();
+        this.keep();
+      },
+      deleted: (name) => this.tried(drawing.act({ kind: "delete", part: name })),
+      left: () => drawing.leave(),
+      undoOrRedo: (which) => this.tried(drawing.undoOrRedo(which)),
+    });
+  }
+
+  /**
+   * While the picture is in front, Ctrl Z is its own wherever no text is typed.
+   * @param {KeyboardEvent} event
+   */
+  typed(event) {
+    const isOurs = this.calls.isInFront() && !isDialogOpen() && !wantsKey(event.target, event.key);
+    if (!isOurs || event.defaultPrevented || !(event.ctrlKey || event.metaKey)) return;
+    if (this.input.doesWithControl(event)) event.preventDefault();
+  }
+
+  /** @param {Promise<void>} work */
+  tried(work) {
+    work.catch(this.calls.failed);
+  }
+
+  /** @param {Shown} shown */
+  show(shown) {
+    this.view.show(shown);
+    if (this.drawing.movedParts.takeNews()) this.keep();
+    this.input.take(shown.begun, shown.ends);
+  }
+
+  /** Follows the board's text, once the picture is in front. */
+  look() {
+    if (this.calls.isInFront()) this.tried(this.drawing.look());
+  }
+
+  /** A text was edited. */
+  edited() {
+    clearTimeout(this.editing);
+    this.editing = window.setTimeout(() => this.drawing.text !== this.calls.text() && this.look(), PAUSE);
+  }
+
+  /** The texts of another session are shown. */
+  begin() {
+    this.drawing.forget();
+    this.drawing.movedParts.begin(this.kept);
+  }
+
+  /**
+   * Another board is wired.
+   * @param {string[]} answers
+   */
+  wired(answers) {
+    this.drawing.takeWired(answers);
+    this.look();
+  }
+
+  async wire() {
+    this.drawing.say(await this.calls.wire());
+  }
+
+  /** Where parts stand that were dragged; it is kept with the session in the browser. */
+  get kept() {
+    const session = this.calls.session();
+    return (session && session.record.places) || [];
+  }
+
+  /**
+   * @param {string} part
+   * @param {import("../../core/board/wiring.js").Point} point
+   */
+  move(part, { x, y }) {
+    this.view.moved.set(part, { x: Math.max(0, Math.round(x)), y: Math.max(0, Math.round(y)) });
+    this.view.showPicture();
+  }
+
+  /** All parts stand where they come by themselves. */
+  tidy() {
+    this.view.moved.clear();
+    this.view.showPicture();
+    this.keep();
+  }
+
+  keep() {
+    const session = this.calls.session();
+    if (!session) return;
+    session.record.places = [...this.view.moved];
+    this.calls.touched();
+  }
+}

@@ -1,0 +1,183 @@
+// What stands around the picture of a board: the shelf of parts, what can be set of the part that is chosen, and what was done.
+
+import { Cell, block, button, element, field, onClick } from "../ui/dom.js";
+import { buzzerOf, lampColours } from "../../core/board/face_board.js";
+import { lampLabels } from "../../core/drawing/lamp_labels.js";
+import * as say from "../../words/drawing.js";
+
+/**
+ * @typedef {import("../../core/drawing/acts.js").Act} Act
+ * @typedef {import("../../core/drawing/acts.js").Shelved} Shelved
+ * @typedef {import("../../core/drawing/drawing.js").Shown} Shown
+ * @typedef {import("../../core/drawing/fields.js").Field} Field
+ * @typedef {import("../board/wiring_view.js").WiringView} WiringView
+ * @typedef {{ act: (act: Act) => void, undoOrRedo: (which: "undo" | "redo") => void, wire: () => void, find: (part: string) => void,
+ *   tidy: () => void }} ViewCalls
+ */
+
+const WITH_DIGITS = new Set(["digit", "segments", "scanned"]);
+
+export class DrawingView {
+  /**
+   * @param {WiringView} picture
+   * @param {ViewCalls} calls
+   */
+  constructor(picture, calls) {
+    this.picture = picture;
+    this.calls = calls;
+    this.told = new Cell(block("drawing-told"));
+    this.state = new Cell(block("drawing-state"));
+    /** @type {Map<Shelved, HTMLButtonElement>} */
+    this.shelf = new Map();
+    /** What is drawn, by which it is compared. */
+    this.drawn = "";
+    /** @type {import("../../core/board/wiring.js").Moved} */
+    this.moved = new Map();
+    /** @type {Shown | null} */
+    this.shown = null;
+    /** The fields that are drawn, and what they are compared by. */
+    this.form = "";
+    /** @type {(HTMLInputElement | HTMLSelectElement)[]} */
+    this.fields = [];
+    /** @type {WeakMap<HTMLElement, string>} the values that were shown last */
+    this.values = new WeakMap();
+    this.makeShelf();
+    onClick(button("drawing-undo"), () => calls.undoOrRedo("undo"));
+    onClick(button("drawing-redo"), () => calls.undoOrRedo("redo"));
+    onClick(button("drawing-wire"), () => calls.wire());
+    onClick(button("drawing-tidy"), () => calls.tidy());
+  }
+
+  makeShelf() {
+    for (const [part, [word, title]] of /** @type {[Shelved, [string, string]][]} */ (Object.entries(say.SHELF))) {
+      const node = element("button", { type: "button", id: `shelf-${part}`, title }, word);
+      onClick(node, () => this.add(part));
+      this.shelf.set(part, node);
+    }
+    const displays = block("shelf-displays");
+    for (const [part, node] of this.shelf) {
+      if (WITH_DIGITS.has(part)) displays.lastElementChild?.before(node);
+      else block("shelf").append(node);
+    }
+    block("shelf").append(displays);
+  }
+
+  /** @param {Shelved} part */
+  add(part) {
+    const { shown } = this;
+    const line = shown && shown.fields.buttons.find(({ act }) => act.kind === "add" && act.part === part);
+    if (line) this.calls.act(line.act);
+    else this.calls.act({ kind: "add", part, ...(WITH_DIGITS.has(part) ? { digits: Number(field("shelf-digits").value) } : {}) });
+  }
+
+  /** @param {Shown} shown */
+  show(shown) {
+    this.shown = shown;
+    this.told.set(shown.said);
+    this.showState(shown);
+    this.showPicture();
+    this.showShelf(shown);
+    this.showFields(shown);
+  }
+
+  /** @param {Shown} shown */
+  showState({ fault, isWired }) {
+    this.state.set(fault || (isWired ? "" : say.NOT_WIRED));
+    button("drawing-wire").classList.toggle("due", fault === "" && !isWired);
+  }
+
+  /** Draws the board where it is another one, or another part was dragged. */
+  showPicture() {
+    const { shown, moved } = this;
+    if (!shown) return;
+    const { board, face, isWired, chosen, begun, ends } = shown;
+    const count = board.lamps.length;
+    const look = { names: lampLabels(face, count), colours: lampColours(face, count), test: face.test, buzzer: buzzerOf(board, face) };
+    const drawn = JSON.stringify([board, look, isWired, [...moved]]);
+    if (drawn !== this.drawn) this.picture.draw(board, look, { moved, isWired });
+    this.drawn = drawn;
+    this.picture.showChoice(chosen, begun, ends);
+  }
+
+  /** @param {Shown} shown */
+  showShelf({ shelf, fault }) {
+    for (const [part, node] of this.shelf) {
+      const why = fault || shelf.get(part) || "";
+      node.disabled = why !== "";
+      node.title = why || say.SHELF[part][1];
+    }
+  }
+
+  /**
+   * The fields of what is chosen. Where they are the same, they stay, with the values that they have now: one goes on typing in them.
+   * @param {Shown} shown
+   */
+  showFields({ fields: { title, part, fields, buttons }, fault }) {
+    const form = JSON.stringify([title, part, fields.map(({ label, options }) => [label, options]), buttons, fault !== ""]);
+    if (form !== this.form) this.drawFields(title, part, fields, buttons, fault !== "");
+    this.form = form;
+    fields.forEach(({ value }, at) => this.setValue(this.fields[at], value));
+  }
+
+  /**
+   * Words that are being typed stay, also where they were refused.
+   * @param {HTMLInputElement | HTMLSelectElement} node
+   * @param {string} value
+   */
+  setValue(node, value) {
+    const isTyped = node instanceof HTMLInputElement && node === document.activeElement && this.values.get(node) === value;
+    if (!isTyped && node.value !== value) node.value = value;
+    this.values.set(node, value);
+  }
+
+  /**
+   * Draws other fields; the one that has the focus keeps it, where there is another one of its name.
+   * @param {string} title
+   * @param {string} part
+   * @param {Field[]} fields
+   * @param {import("../../core/drawing/fields.js").Button[]} buttons
+   * @param {boolean} disabled
+   */
+  drawFields(title, part, fields, buttons, disabled) {
+    const root = block("chosen");
+    const focused = document.activeElement instanceof HTMLElement && root.contains(document.activeElement)
+      ? document.activeElement.getAttribute("aria-label") : null;
+    const head = element("b", {}, title);
+    this.fields = fields.map((each, at) => this.fieldNode(each, at, disabled));
+    const rows = this.fields.map((node, at) => element("label", {}, `${fields[at].label} `, node));
+    const ends = buttons.map(({ word, act }) => this.buttonNode(word, () => this.calls.act(act), disabled));
+    if (part) ends.push(this.buttonNode(say.SHOW_IN_BOARD, () => this.calls.find(part), false));
+    root.replaceChildren(head, ...rows, ...ends);
+    const nodes = [...root.querySelectorAll("input, select, button")];
+    const again = focused && nodes.find((each) => each.getAttribute("aria-label") === focused);
+    if (again instanceof HTMLElement) again.focus();
+  }
+
+  /**
+   * @param {string} word
+   * @param {() => void} act
+   * @param {boolean} disabled
+   */
+  buttonNode(word, act, disabled) {
+    const node = element("button", { "type": "button", disabled, "aria-label": word }, word);
+    onClick(node, act);
+    return node;
+  }
+
+  /**
+   * @param {Field} what
+   * @param {number} at its place among the fields
+   * @param {boolean} disabled
+   */
+  fieldNode({ label, options }, at, disabled) {
+    const own = { "aria-label": label, "autocomplete": "off", disabled };
+    const node = options
+      ? element("select", own, ...options.map((each) => element("option", { value: each.value }, each.words)))
+      : element("input", { ...own, size: 10, spellcheck: false });
+    node.addEventListener("change", () => {
+      const now = this.shown && this.shown.fields.fields[at];
+      if (now && node.value !== now.value) this.calls.act(now.act(node.value));
+    });
+    return node;
+  }
+}

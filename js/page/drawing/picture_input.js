@@ -1,0 +1,178 @@
+// What mouse, fingers and keys do on the picture of a board: a wire is drawn from pin to pin, by dragging or by one click after the other;
+// a part is dragged; arrows go from part to part and from pin to pin.
+
+/**
+ * @typedef {import("../board/wiring_view.js").WiringView} WiringView
+ *
+ * What it calls: a part or a pin was pressed; a wire was dragged from one pin to another; a part is dragged to a point, and stays there; a
+ * part goes; what was begun is left; a step is undone, or done again.
+ * @typedef {{ pressed: (name: string) => void, wired: (from: string, to: string) => void, moved: (part: string,
+ *   point: Point) => void, dropped: () => void, deleted: (name: string) => void, left: () => void,
+ *   undoOrRedo: (which: "undo" | "redo") => void }} InputCalls
+ *
+ * What the pointer holds: a part or a pin, where it went down, and where the part stood.
+ * @typedef {import("../../core/board/wiring.js").Point} Point
+ * @typedef {{ name: string, isPart: boolean, at: Point, stood: Point, isDragged: boolean }} Held
+ */
+
+/** So far the pointer moves until something is dragged. */
+const SLACK = 4;
+/** So far a part goes by a key. */
+const STEP = 12;
+/** @type {Record<string, { x: number, y: number }>} */
+const ARROWS = { ArrowLeft: { x: -1, y: 0 }, ArrowRight: { x: 1, y: 0 }, ArrowUp: { x: 0, y: -1 }, ArrowDown: { x: 0, y: 1 } };
+
+export class PictureInput {
+  /**
+   * @param {WiringView} view
+   * @param {InputCalls} calls
+   */
+  constructor(view, calls) {
+    this.view = view;
+    this.calls = calls;
+    /** @type {Held | null} */
+    this.held = null;
+    /** @type {Set<string>} the pins where the wire that is begun can end */
+    this.ends = new Set();
+    this.begun = "";
+    const { root } = view;
+    root.addEventListener("pointerdown", (event) => this.down(event));
+    root.addEventListener("pointermove", (event) => this.move(event));
+    root.addEventListener("pointerup", (event) => this.up(event));
+    root.addEventListener("pointercancel", () => this.cancel());
+    root.addEventListener("keydown", (event) => this.typed(event));
+    // A reader of the screen clicks without a pointer.
+    root.addEventListener("click", (event) => event.detail === 0 && this.press(view.nameAt(/** @type {Element} */ (event.target))));
+  }
+
+  /**
+   * @param {string} begun
+   * @param {Set<string>} ends
+   */
+  take(begun, ends) {
+    this.begun = begun;
+    this.ends = ends;
+  }
+
+  /** @param {string} name */
+  press(name) {
+    if (name) this.calls.pressed(name);
+    else this.calls.left();
+  }
+
+  /** @param {PointerEvent} event */
+  down(event) {
+    if (event.button !== 0 || !event.isPrimary) return;
+    const name = this.view.nameAt(/** @type {Element} */ (event.target));
+    const part = this.view.parts.get(name);
+    this.held = { name, isPart: part !== undefined, at: this.view.pointOf(event), stood: part || { x: 0, y: 0 }, isDragged: false };
+    // What goes on outside the picture is told here, too.
+    if (event.pointerType !== "touch") this.view.root.setPointerCapture(event.pointerId);
+    if (name) this.view.focus(name);
+  }
+
+  /** @param {PointerEvent} event */
+  move(event) {
+    const { held, view } = this;
+    if (!held) {
+      if (this.begun) view.drawPencil(this.begun, view.pointOf(event));
+      return;
+    }
+    const now = view.pointOf(event);
+    if (!held.isDragged && Math.hypot(now.x - held.at.x, now.y - held.at.y) < SLACK) return;
+    // A finger that moves scrolls; it draws wires from pins alone.
+    if (held.name === "" || (held.isPart && event.pointerType === "touch")) return;
+    if (!held.isDragged && !held.isPart && this.begun !== held.name) this.calls.pressed(held.name);
+    held.isDragged = true;
+    // The picture stays as large as it is until the part is dropped: where it stands is told by the pointer.
+    view.isHeld = held.isPart;
+    if (held.isPart) this.calls.moved(held.name, { x: held.stood.x + now.x - held.at.x, y: held.stood.y + now.y - held.at.y });
+    else view.drawPencil(held.name, now);
+  }
+
+  /** @param {PointerEvent} event */
+  up(event) {
+    const { held } = this;
+    this.release();
+    if (!held) return;
+    if (!held.isDragged) {
+      this.press(held.name);
+      return;
+    }
+    if (held.isPart) {
+      this.calls.dropped();
+      return;
+    }
+    const end = this.view.nameAt(document.elementFromPoint(event.clientX, event.clientY));
+    if (this.ends.has(end)) this.calls.wired(held.name, end);
+    else this.calls.left();
+  }
+
+  /** The browser takes the pointer for its own, as to scroll: a part stays where it is by then. */
+  cancel() {
+    const { held } = this;
+    this.release();
+    if (held && held.isPart && held.isDragged) this.calls.dropped();
+  }
+
+  release() {
+    this.held = null;
+    this.view.isHeld = false;
+    this.view.drawPencil("", null);
+  }
+
+  /** @param {KeyboardEvent} event */
+  typed(event) {
+    if (!this.does(event)) return;
+    event.preventDefault();
+    event.stopPropagation();
+  }
+
+  /**
+   * Whether a key does something here.
+   * @param {KeyboardEvent} event
+   */
+  does(event) {
+    const { key } = event;
+    const name = this.view.nameAt(/** @type {Element} */ (event.target));
+    if (event.ctrlKey || event.metaKey) return this.doesWithControl(event);
+    if (key in ARROWS) return this.goes(event, name);
+    if (key === "Enter" || key === " ") this.press(name);
+    else if (key === "Escape") this.calls.left();
+    else if (key === "Delete" || key === "Backspace") this.calls.deleted(name);
+    else return false;
+    return true;
+  }
+
+  /** @param {KeyboardEvent} event */
+  doesWithControl({ key, shiftKey }) {
+    const isUndo = key.toLowerCase() === "z" && !shiftKey;
+    const isRedo = key.toLowerCase() === "y" || (key.toLowerCase() === "z" && shiftKey);
+    if (isUndo || isRedo) this.calls.undoOrRedo(isUndo ? "undo" : "redo");
+    return isUndo || isRedo;
+  }
+
+  /**
+   * An arrow goes to the next part or pin; while a wire is drawn, to the next pin where it can end, and round; with Shift a part goes.
+   * @param {KeyboardEvent} event
+   * @param {string} name
+   */
+  goes({ key, shiftKey }, name) {
+    const { view } = this;
+    const { x, y } = ARROWS[key];
+    const part = view.parts.get(name);
+    if (shiftKey && part) {
+      this.calls.moved(name, { x: part.x + STEP * x, y: part.y + STEP * y });
+      this.calls.dropped();
+    }
+    if (shiftKey) return part !== undefined;
+    /** @type {(each: string) => boolean} */
+    const isStop = (each) => (this.begun ? this.ends.has(each) : x === 0 || view.parts.has(each));
+    const stops = [...view.items.keys()].filter((each) => each === name || isStop(each));
+    const count = stops.length;
+    const to = stops.indexOf(name) + x + y;
+    const next = stops[this.begun ? (to + count) % count : to];
+    if (next) view.focus(next);
+    return true;
+  }
+}

@@ -1,0 +1,67 @@
+// The board in an editor that debugs a program: its lamps, displays and keys, drawn by the page's own views. The editor's extension tells
+// what is new (adapter/shown_board.js), and is told of fingers on keys. editors/vsix makes one script of it; editors/vscode/board_view.html
+// has its blocks.
+
+import { readBoard } from "../core/bench/answers.js";
+import { keyOfKeyboard } from "../core/board/board_keys.js";
+import { Face } from "../core/board/face.js";
+import { FrontView } from "./board/front_view.js";
+import { Pressing, wantsKey } from "./board/pressing.js";
+import { block, button, field } from "./ui/dom.js";
+
+/** @typedef {import("../core/adapter/shown_board.js").ShownNews} ShownNews */
+
+/** What Visual Studio Code gives to a view. */
+const editor = globalThis.acquireVsCodeApi();
+let isRunning = false;
+
+/** @type {(key: string, isDown: boolean) => void} */
+const tell = (key, isDown) => editor.postMessage({ place: key, isDown });
+
+/** @type {Pressing} */
+const pressing = new Pressing({
+  isRunning: () => isRunning,
+  isDown: (key) => front.isDown(key),
+  press: (key) => tell(key, true),
+  release: (key) => tell(key, false),
+  change: (word, key) => tell(key, word === "press"),
+  meant: (event) => {
+    if (event.ctrlKey || event.metaKey || event.altKey || !field("typing").checked || wantsKey(event.target, event.key)) return undefined;
+    return keyOfKeyboard(front.keys, event.key);
+  },
+});
+/** Lamps are shown as they are at the moments that are told. */
+const front = new FrontView((node, key) => pressing.listen(node, key), () => {});
+pressing.listenToKeyboard();
+button("test").addEventListener("click", () => tell(`test ${front.level === "1" ? 0 : 1}`, true));
+
+/**
+ * Shows what is new; null where nothing is debugged any more.
+ * @param {ShownNews | null} news
+ */
+function show(news) {
+  block("front").hidden = news === null;
+  block("nothing").hidden = news !== null;
+  if (news === null) {
+    pressing.forget();
+    return;
+  }
+  if (news.board) {
+    pressing.forget();
+    front.draw(readBoard(news.board), new Face(news.boardText || ""));
+  }
+  if (news.isRunning !== undefined) isRunning = news.isRunning;
+  if (news.test !== undefined) {
+    front.showTest(news.test);
+    button("test").textContent = `TEST ${news.test}`;
+    button("test").setAttribute("aria-pressed", String(news.test === "1"));
+  }
+  if (news.keys) front.showKeys(news.keys);
+  if (news.lamps !== undefined) front.showLamps(news.lamps);
+}
+
+addEventListener("message", ({ data }) => {
+  if (data && data.kind === "boardShown") show(data.news);
+});
+show(null);
+editor.postMessage({ isReady: true });

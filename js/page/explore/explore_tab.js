@@ -1,0 +1,233 @@
+// Properties on the page: their text with its faults, a button that looks for what breaks them, in a worker of its own, and what was found.
+
+import { countOfFaults } from "../../core/bench/words.js";
+import { Cell, button, field, onClick } from "../ui/dom.js";
+import { BesideText } from "../text/beside_text.js";
+import { completeProperty, firstProperties, helpForProperty, propertyForms } from "../../core/text/property_words.js";
+import { wordsOfFaults } from "../../words/results.js";
+import { ExploreView } from "./explore_view.js";
+import { markOfReport, wordsOfEnd, wordsSoFar } from "../../words/explored.js";
+import * as say from "../../words/explore.js";
+
+/**
+ * @typedef {import("../../core/testing/prepared.js").TextFault} TextFault
+ * @typedef {import("../../core/explore/exploring.js").Asked} Asked
+ * @typedef {import("../../core/explore/exploring.js").ExploredTexts} ExploredTexts
+ * @typedef {import("../../core/explore/exploring.js").Progress} Progress
+ * @typedef {import("../../core/explore/report.js").Report} Report
+ * @typedef {import("../../core/explore/explorer.js").Ended} Ended
+ *
+ * What was found in a session: the texts, how far it came, and the session of each find, by its property.
+ * @typedef {{ texts: ExploredTexts, report: Report | null, files: Map<number, Uint8Array>, isStopped: boolean }} Explored
+ *
+ * What it calls: the texts of board, program and tests; the labels of the program; the faults of texts; what breaks properties is looked
+ * for; what a refusal means; a line of the source is shown; the session of a find is opened; a test is added to those of the program,
+ * which gives words of that; a few words stand on the tab; the text was edited; a call failed.
+ * @typedef {{ texts: () => Omit<ExploredTexts, "propertiesText">, labels: () => string[],
+ *   faults: (texts: ExploredTexts) => Promise<TextFault[]>,
+ *   explore: (texts: ExploredTexts, asked: Asked, signal: AbortSignal, tell: (progress: Progress) => void) => Promise<Ended>,
+ *   wordsOfRefusal: (number: number) => string, goToSource: (line: number) => void,
+ *   open: (name: string, file: Uint8Array, texts: ExploredTexts) => void, addTest: (test: string) => string,
+ *   mark: (words: string) => void, edited: () => void, failed: (fault: unknown) => void }} ExploreCalls
+ */
+
+const NUMBERS = [
+  { id: "explore-seconds", most: 86400, words: say.SECONDS_FORM },
+  { id: "explore-seed", most: 99999999, words: say.SEED_FORM },
+];
+
+export class ExploreTab {
+  /**
+   * @param {import("../../core/help/manual.js").ManualSection[]} manual
+   * @param {ExploreCalls} calls
+   */
+  constructor(manual, calls) {
+    this.calls = calls;
+    this.beside = new BesideText({
+      name: "properties",
+      firstButton: "first-properties",
+      firstText: firstProperties,
+      forms: propertyForms(manual),
+      wordsAt: helpForProperty,
+      complete: completeProperty,
+    }, calls, {
+      faults: () => calls.faults(this.texts),
+      counted: (count) => this.mark(count),
+      send: () => this.exploreOrStop(),
+    });
+    this.editor = this.beside.editor;
+    this.view = new ExploreView({
+      goTo: (line) => this.editor.editor.select({ from: line, to: line }),
+      goToSource: (line) => this.goToSource(line),
+      open: (property) => this.open(property),
+      add: (property) => this.add(property),
+    });
+    /** What was found in each session, by its name, as long as the page is open. */
+    this.explored = /** @type {Map<string, Explored>} */ (new Map());
+    /** The name of the session that is shown. */
+    this.session = "";
+    /** What was told last of the search. */
+    this.told = "";
+    /** @type {AbortController | null} what ends the search that is under way */
+    this.controller = null;
+    this.exploreButton = new Cell(button("explore"));
+    this.exploreButton.set(say.EXPLORE);
+    onClick(button("clear-finds"), () => this.clear());
+  }
+
+  /** @returns {ExploredTexts} */
+  get texts() {
+    return { ...this.calls.texts(), propertiesText: this.editor.text };
+  }
+
+  /** What was found in the session that is shown. */
+  get shown() {
+    return this.explored.get(this.session) || null;
+  }
+
+  /** The tab has come to the front. */
+  look() {
+    this.beside.look();
+  }
+
+  /** @param {number} count how many faults the text has */
+  mark(count) {
+    const { shown } = this;
+    if (count > 0) this.calls.mark(countOfFaults(count));
+    else this.calls.mark(shown && shown.report ? markOfReport(shown.report) : "");
+  }
+
+  /**
+   * Another session is shown: the search ends, and what was found in that one before comes back.
+   * @param {string} session its name
+   */
+  begin(session) {
+    this.stop();
+    this.session = session;
+    this.view.clear();
+    this.show();
+    this.look();
+  }
+
+  clear() {
+    this.stop();
+    this.explored.delete(this.session);
+    this.view.clear();
+    this.show();
+  }
+
+  /** Shows what was found so far in the session that is shown. */
+  show() {
+    const { shown } = this;
+    const goesOn = this.controller !== null;
+    this.exploreButton.set(goesOn ? say.STOP : say.EXPLORE);
+    button("clear-finds").hidden = !shown || goesOn;
+    if (shown && shown.report) this.view.show(shown.report, goesOn);
+    this.mark(0);
+    this.tell(this.wordsOf(shown, goesOn));
+  }
+
+  /**
+   * Tells what has changed, and leaves what was told of something else meanwhile.
+   * @param {string} words
+   */
+  tell(words) {
+    if (words !== this.told) this.editor.tell(words);
+    this.told = words;
+  }
+
+  /**
+   * @param {Explored | null} shown
+   * @param {boolean} goesOn
+   */
+  wordsOf(shown, goesOn) {
+    if (shown && shown.report) return goesOn ? wordsSoFar(shown.report) : wordsOfEnd(shown.report, shown.isStopped);
+    return goesOn ? say.BEGINS : "";
+  }
+
+  stop() {
+    if (this.controller) this.controller.abort();
+  }
+
+  exploreOrStop() {
+    if (this.controller) this.stop();
+    else this.explore().catch(this.calls.failed);
+  }
+
+  /**
+   * How long it is to look, and with which seed; null where a field has no such number, which is told.
+   * @returns {Asked | null}
+   */
+  asked() {
+    const wrong = NUMBERS.filter(({ id, most }) => {
+      const { value } = field(id);
+      const isWrong = !/^\d{1,8}$/.test(value.trim()) || Number(value) < 1 || Number(value) > most;
+      field(id).setAttribute("aria-invalid", String(isWrong));
+      return isWrong;
+    });
+    this.editor.tell(wrong.map(({ words }) => words).join(" "));
+    const [seconds, seed] = NUMBERS.map(({ id }) => Number(field(id).value));
+    return wrong.length > 0 ? null : { seconds, seed };
+  }
+
+  async explore() {
+    const asked = this.asked();
+    if (!asked) return;
+    const { texts, session } = this;
+    /** @type {Explored} */
+    const explored = { texts, report: null, files: new Map(), isStopped: false };
+    const controller = new AbortController();
+    this.controller = controller;
+    this.explored.set(session, explored);
+    this.view.clear();
+    this.show();
+    let ended = /** @type {Ended} */ ({ faults: [], isStopped: true });
+    try {
+      ended = await this.calls.explore(texts, asked, controller.signal, (progress) => this.take(explored, progress));
+    } finally {
+      this.controller = null;
+      explored.isStopped = ended.isStopped;
+      if (!explored.report) this.explored.delete(session);
+      this.show();
+    }
+    if (ended.faults.length > 0) this.refuse(ended.faults);
+    else if (!explored.report) this.editor.tell(say.STOPPED_EARLY);
+  }
+
+  /** @param {TextFault[]} faults for which nothing was looked for */
+  refuse(faults) {
+    this.beside.showFaults(faults);
+    this.editor.tell(wordsOfFaults(faults, this.calls.wordsOfRefusal));
+  }
+
+  /**
+   * @param {Explored} explored
+   * @param {Progress} progress
+   */
+  take(explored, { report, found }) {
+    explored.report = report;
+    for (const { property, file } of found) explored.files.set(property, file);
+    if (explored === this.shown) this.show();
+  }
+
+  /** @param {number} line */
+  goToSource(line) {
+    const { shown } = this;
+    if (shown && shown.texts.programText === this.calls.texts().programText) this.calls.goToSource(line);
+    else this.editor.tell(say.OTHER_SOURCE);
+  }
+
+  /** @param {number} property */
+  open(property) {
+    const { shown } = this;
+    const file = shown && shown.files.get(property);
+    if (shown && shown.report && file) this.calls.open(shown.report.properties[property].text, file, shown.texts);
+  }
+
+  /** @param {number} property */
+  add(property) {
+    const { shown } = this;
+    const found = shown && shown.report && shown.report.properties[property].found;
+    if (found) this.editor.tell(this.calls.addTest(found.test));
+  }
+}

@@ -1,0 +1,132 @@
+// What comes of looking for what breaks properties: a row for each of them, with what was found; and what was run of the program.
+
+import { Cell, Switch, below, block, buttonOf, element } from "../ui/dom.js";
+import { andMore } from "../../words/debug.js";
+import { coverageOf, markOf, wordsOfFigures, wordsOfProperty } from "../../words/explored.js";
+import * as say from "../../words/explore.js";
+import { wordsOfLine } from "../../words/stops.js";
+
+/**
+ * @typedef {import("../../core/explore/report.js").Report} Report
+ * @typedef {import("../../core/explore/report.js").Told} Told
+ *
+ * What it calls: a line of the text of properties is to be seen, one of the source; the session of a find is to be opened, and its test
+ * added to those of the program.
+ * @typedef {{ goTo: (line: number) => void, goToSource: (line: number) => void, open: (property: number) => void,
+ *   add: (property: number) => void }} FindCalls
+ */
+
+/** So many lines that were never run are shown. */
+const MOST_LINES = 60;
+
+/** The row of a property. What was found is put in once, so that nothing that is used there goes away under the hand. */
+class Row {
+  /**
+   * @param {Told} property
+   * @param {number} at
+   * @param {FindCalls} calls
+   */
+  constructor({ text, line }, at, calls) {
+    this.at = at;
+    this.calls = calls;
+    const mark = element("b", {});
+    const words = element("span", { className: "time" });
+    const name = line > 0 ? buttonOf(text, () => calls.goTo(line), { className: "name", title: wordsOfLine(line) })
+      : element("span", {}, text);
+    this.node = element("li", {}, element("p", {}, mark, " ", name, " ", words));
+    this.mark = new Cell(mark);
+    this.words = new Cell(words);
+    this.isRight = new Switch((isOn) => mark.classList.toggle("ok", isOn));
+    this.isWrong = new Switch((isOn) => mark.classList.toggle("not-ok", isOn));
+    this.hasFind = false;
+  }
+
+  /**
+   * @param {Told} property
+   * @param {Report} report
+   * @param {boolean} goesOn
+   */
+  show(property, report, goesOn) {
+    const mark = markOf(property, goesOn);
+    this.mark.set(mark);
+    this.isRight.set(mark === "ok");
+    this.isWrong.set(mark === "not ok");
+    this.words.set(wordsOfProperty(property, report));
+    if (!property.found || this.hasFind) return;
+    this.hasFind = true;
+    this.node.append(
+      element("details", {}, element("summary", {}, say.ITS_TEST), element("pre", { tabIndex: 0 }, property.found.test.trimEnd())),
+      element("p", { className: "bar" },
+        buttonOf(say.OPEN_AS_SESSION, () => this.calls.open(this.at), { title: say.AS_IT_IS_THERE }),
+        buttonOf(say.ADD_TO_TESTS, () => this.calls.add(this.at), { title: say.AT_END })));
+  }
+}
+
+export class ExploreView {
+  /** @param {FindCalls} calls */
+  constructor(calls) {
+    this.calls = calls;
+    this.block = block("explore-results");
+    this.list = block("property-list");
+    this.figures = new Cell(block("explore-figures"));
+    this.bars = (/** @type {const} */ (["instructions", "ways"])).map((name) => {
+      const root = block(`explored-${name}`);
+      return { name, bar: below(root, "progress", HTMLProgressElement), words: new Cell(below(root, "span", HTMLElement)) };
+    });
+    this.left = block("never-run");
+    /** The lines that are shown as never run. */
+    this.leftLines = "";
+    /** @type {Row[]} */
+    this.rows = [];
+  }
+
+  clear() {
+    this.block.hidden = true;
+    this.rows = [];
+    this.list.replaceChildren();
+    this.figures.set("");
+    this.showLeft([]);
+  }
+
+  /**
+   * @param {Report} report
+   * @param {boolean} goesOn whether it looks on
+   */
+  show(report, goesOn) {
+    if (this.rows.length === 0) {
+      this.rows = report.properties.map((property, at) => new Row(property, at, this.calls));
+      this.list.replaceChildren(...this.rows.map(({ node }) => node));
+    }
+    this.rows.forEach((row, at) => row.show(report.properties[at], report, goesOn));
+    this.figures.set(wordsOfFigures(report));
+    this.showCoverage(report, goesOn);
+    this.block.hidden = false;
+  }
+
+  /**
+   * @param {Report} report
+   * @param {boolean} goesOn
+   */
+  showCoverage(report, goesOn) {
+    const covered = coverageOf(report);
+    for (const { name, bar, words } of this.bars) {
+      const { part, whole, words: told } = covered[name];
+      bar.max = Math.max(1, whole);
+      bar.value = part;
+      words.set(told);
+    }
+    // While it looks on they change all the time.
+    this.showLeft(goesOn ? [] : covered.left);
+  }
+
+  /** @param {number[]} lines that were never run */
+  showLeft(lines) {
+    const key = lines.join(" ");
+    if (key === this.leftLines) return;
+    this.leftLines = key;
+    const more = lines.length > MOST_LINES ? andMore(lines.length - MOST_LINES) : "";
+    const buttons = lines.slice(0, MOST_LINES).flatMap((line) => [
+      " ", buttonOf(String(line), () => this.calls.goToSource(line), { className: "name", ariaLabel: say.lineOfSource(line) })]);
+    this.left.replaceChildren(...(lines.length === 0 ? [] : [say.NEVER_RUN, ...buttons, more]));
+  }
+}

@@ -1,0 +1,142 @@
+// What is gone through step by step beside the bench: the first program, or the story of an example.
+
+import { Cell, block, button, element, onClick } from "../ui/dom.js";
+import { FIRST_PROGRAM, TOUR, TourWatch } from "../../core/help/tour.js";
+import * as say from "../../words/help.js";
+
+/**
+ * @typedef {import("../../core/engine/examples.js").Example} Example
+ * @typedef {import("../../core/help/tour.js").Part} Part
+ * @typedef {import("../../core/help/tour.js").TourStep} TourStep
+ *
+ * What it calls: a new session with the tour's board, which gives whether it was made; a program is put into the source; a place of a story
+ * does what it says, which gives why it did not; the panel was left.
+ * @typedef {{ begin: (example: Example) => Promise<boolean>, put: (program: string) => void,
+ *   act: (act: import("../../core/help/story.js").Act) => Promise<string>, left: () => void }} TourCalls
+ */
+
+/** What bars that stick may cover is not seen. */
+const BESIDE_BARS = "-60px 0px -100px";
+
+export class TourView {
+  /** @param {TourCalls} calls */
+  constructor(calls) {
+    this.calls = calls;
+    this.watch = new TourWatch();
+    this.isOn = false;
+    this.root = block("tour");
+    this.title = new Cell(block("tour-title"));
+    this.words = block("tour-words");
+    this.program = new Cell(block("tour-program"));
+    this.told = new Cell(block("tour-told"));
+    this.put = button("tour-put");
+    this.next = button("tour-next");
+    /** @type {HTMLButtonElement | null} the place that was used last */
+    this.used = null;
+    this.isInView = true;
+    this.back = button("tour-return");
+    onClick(this.back, () => this.comeBack());
+    new IntersectionObserver((seen) => this.scrolled(seen[seen.length - 1].isIntersecting), { rootMargin: BESIDE_BARS }).observe(this.root);
+    for (const name of ["tour-begin", "first-program", "hello-program"]) onClick(button(name), () => this.begin());
+    onClick(button("tour-close"), () => this.close());
+    onClick(this.put, () => calls.put(this.watch.step.program));
+    onClick(this.next, () => (this.isLast ? this.close() : this.show(this.watch.at + 1)));
+    onClick(button("tour-back"), () => this.show(Math.max(0, this.watch.at - 1)));
+  }
+
+  async begin() {
+    if (await this.calls.begin(FIRST_PROGRAM)) this.open(TOUR);
+  }
+
+  /** @param {TourStep[]} steps */
+  open(steps) {
+    this.watch = new TourWatch(steps);
+    this.isOn = true;
+    this.root.hidden = false;
+    this.show(0);
+    this.root.focus();
+  }
+
+  close() {
+    this.isOn = false;
+    this.root.hidden = true;
+    this.scrolled(this.isInView);
+    this.calls.left();
+  }
+
+  /** Whether it is the story of an example. */
+  get isStory() {
+    return this.watch.steps !== TOUR;
+  }
+
+  get isLast() {
+    return this.watch.at === this.watch.steps.length - 1;
+  }
+
+  /** @param {number} at the step */
+  show(at) {
+    this.watch.begin(at);
+    const { title, words, program } = this.watch.step;
+    this.title.set(say.stepOf(at + 1, this.watch.steps.length, title));
+    this.words.replaceChildren(...words.map((paragraph) => element("p", {}, ...[paragraph].flat().map((part) => this.nodeOf(part)))));
+    this.program.set(program);
+    this.program.node.hidden = program === "";
+    this.put.hidden = program === "";
+    this.next.textContent = this.isLast ? say.END : say.NEXT_STEP;
+    this.showDone();
+  }
+
+  /** @param {Part} part */
+  nodeOf(part) {
+    if (typeof part === "string") return part;
+    const made = element("button", { type: "button", className: "place" }, part.words);
+    onClick(made, async () => {
+      this.used = made;
+      this.told.set(await this.calls.act(part.act));
+    });
+    return made;
+  }
+
+  /**
+   * The panel has come into view, or has left it: then a button leads back, in the clock's bar, which is always there.
+   * @param {boolean} isInView
+   */
+  scrolled(isInView) {
+    this.isInView = isInView;
+    this.back.textContent = this.isStory ? say.BACK_TO_STORY : say.BACK_TO_STEPS;
+    this.back.hidden = !this.isOn || isInView;
+  }
+
+  /** Back to where one was in the panel. */
+  comeBack() {
+    this.root.scrollIntoView();
+    (this.used && this.used.isConnected ? this.used : this.root).focus({ preventScroll: true });
+  }
+
+  showDone() {
+    const { isDone } = this.watch;
+    this.told.set(isDone ? (this.isLast ? say.LAST_DONE : say.DONE) : "");
+    this.root.classList.toggle("done", isDone);
+  }
+
+  /** @param {string} lamps */
+  seeLamps(lamps) {
+    if (!this.isOn || this.watch.isDone) return;
+    this.watch.seeLamps(lamps);
+    this.showDone();
+  }
+
+  /** @param {number} keysDown */
+  seeKeys(keysDown) {
+    if (!this.isOn || this.watch.isDone) return;
+    this.watch.seeKeys(keysDown);
+    this.showDone();
+  }
+
+  /** @param {string} end why a run ended */
+  seeEnd(end) {
+    if (!this.isOn || this.watch.isDone) return;
+    this.watch.seeEnd(end);
+    this.showDone();
+  }
+}

@@ -1,0 +1,125 @@
+// Lines that change the session: they are served and kept, and then their answers are shown.
+
+import { refusalOf } from "../../core/bench/answers.js";
+import { Cancelled } from "../../core/bench/faults.js";
+import { putNames } from "../../core/bench/names_in_lines.js";
+import { lineEnded } from "../../words/debug.js";
+import * as say from "../../words/page.js";
+import { stoppedAt } from "../../words/stops.js";
+
+/**
+ * @typedef {import("../../core/engine/worker_session.js").Answered} Answered
+ * @typedef {import("../../core/bench/words.js").Words} Words
+ * @typedef {import("../../core/debug/debugger.js").Stop} Stop
+ * @typedef {import("../../core/debug/debugger.js").Tally} Tally
+ * @typedef {import("../../core/machine/source_map.js").SourceMap} SourceMap
+ * @typedef {import("../ui/notice.js").Notice} Notice
+ * @typedef {import("../../core/bench/bench.js").Bench} Bench
+ * @typedef {import("../../core/bench/protocol.js").ServedLines} ServedLines
+ * @typedef {import("../../core/bench/bench.js").Ways} Ways
+ *
+ * What it calls: the program that stands in ROM; long work tells how far it is, and can be cancelled; the counter that is shown; what the
+ * session is now is shown; whether the source is what stands in ROM; the session is kept, which gives its fault; answers are logged;
+ * breakpoints did something; whether time runs, and to no goal any more; why it stopped, in words; the status says something; a call
+ * failed.
+ * @typedef {{ map: () => SourceMap | null,
+ *   work: <Result>(words: string, work: (ways: Ways) => Promise<Result>) => Promise<Result>, counter: () => string,
+ *   show: (told: ServedLines) => void, checkSource: () => void, keep: () => Promise<string>,
+ *   log: (entries: Answered[], fault: string) => void, counted: (tally: Tally) => void, isRunning: () => boolean, forgetGoal: () => void,
+ *   reasonOf: (stop: Stop) => string, tell: (words: string) => void, failed: (fault: unknown) => void }} ServingCalls
+ */
+
+export class Serving {
+  /**
+   * @param {Bench} bench
+   * @param {Words} words
+   * @param {Notice} notice
+   * @param {ServingCalls} calls
+   */
+  constructor(bench, words, notice, calls) {
+    this.bench = bench;
+    this.words = words;
+    this.notice = notice;
+    this.calls = calls;
+  }
+
+  /**
+   * Lines that change the session: they are served and kept; then their answers are shown, and the first one is given, or null where
+   * they failed.
+   * @param {string} lines
+   * @returns {Promise<string | null>}
+   */
+  async act(lines) {
+    const told = await this.change(say.SENDING_LINES, (ways) => this.bench.call("serve", [lines], ways));
+    return told && told.first;
+  }
+
+  /**
+   * Lines that were typed, in which `@NAME` stands for a name's value. A run among them ends at each breakpoint.
+   * @param {string} typed
+   */
+  async send(typed) {
+    const { calls } = this;
+    const { lines, words } = putNames(typed, calls.map());
+    if (words !== "") {
+      this.notice.show(words);
+      return null;
+    }
+    const told = await this.change(say.SENDING_LINES, (ways) => this.bench.call("serveTyped", [lines], ways));
+    if (!told) return null;
+    const { id, cut, cycles, tally } = told.typed;
+    calls.counted(tally);
+    if (id !== 0 && !calls.isRunning()) {
+      calls.tell(lineEnded(calls.reasonOf({ why: "break", id, cycles, returns: false }), cut));
+    }
+    return told.first;
+  }
+
+  /**
+   * Work that changes the session, in the same way; gives what was told of it.
+   * @template {ServedLines} Result
+   * @param {string} words what it is
+   * @param {(ways: Ways) => Promise<Result>} work
+   * @returns {Promise<Result | null>}
+   */
+  async change(words, work) {
+    let told;
+    try {
+      told = await this.calls.work(words, work);
+    } catch (fault) {
+      // Time that runs goes on where lines were cancelled.
+      if (fault instanceof Cancelled) this.notice.show(this.words.ofFailure(fault));
+      else this.calls.failed(fault);
+      return null;
+    }
+    await this.take(told);
+    return told;
+  }
+
+  /** @param {ServedLines} told */
+  async take(told) {
+    const { calls } = this;
+    const counter = calls.counter();
+    calls.show(told);
+    this.tellCounter(counter, told.entries);
+    if (told.touchesRom) calls.checkSource();
+    const fault = await calls.keep();
+    if (told.status !== 0) this.notice.show(say.LINES_TOO_LONG);
+    calls.log(told.entries, fault);
+  }
+
+  /**
+   * What the status says of a stop must not outlive it.
+   * @param {string} before the counter before lines were served
+   * @param {Answered[]} entries
+   */
+  tellCounter(before, entries) {
+    const { calls } = this;
+    const counter = calls.counter();
+    const isReset = entries.some(({ line, answers }) => line.trim() === "reset" && refusalOf(answers[0]) === null);
+    const isRunning = calls.isRunning();
+    if (isReset) calls.forgetGoal();
+    if (isReset) calls.tell(isRunning ? say.RESET_RUNNING : say.wasReset(counter));
+    else if (counter !== before && !isRunning) calls.tell(stoppedAt(counter));
+  }
+}

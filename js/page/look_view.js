@@ -1,0 +1,232 @@
+// All that is shown of the board and its machine: one look after the other is read, and what is new in it goes to the view that shows it.
+
+import { readBoard, refusalOf } from "../core/bench/answers.js";
+import { CellEditor } from "./machine/cell_editor.js";
+import { Changes } from "./machine/changes.js";
+import { Cell, Switch, block, button } from "./ui/dom.js";
+import { Face } from "../core/board/face.js";
+import { FrontView } from "./board/front_view.js";
+import { GoToView } from "./machine/go_to_view.js";
+import { ListingView } from "./machine/listing_view.js";
+import { LookReader } from "../core/bench/look.js";
+import { PortsView, RegistersView } from "./machine/machine_view.js";
+import { hex } from "../core/bench/numbers.js";
+import { RamView } from "./machine/ram_view.js";
+import { StripView } from "./board/strip_view.js";
+import { StackView } from "./machine/stack_view.js";
+import { ToldAt } from "./ui/told_at.js";
+import { WiringView } from "./board/wiring_view.js";
+import * as say from "../words/page.js";
+
+/**
+ * @typedef {import("../core/board/board_keys.js").BoardKey} BoardKey
+ * @typedef {import("../core/bench/look.js").Changed} Changed
+ * @typedef {import("../core/bench/look.js").ChangedFront} ChangedFront
+ * @typedef {import("../core/machine/source_map.js").SourceMap} SourceMap
+ *
+ * What it calls: a button presses its key; whether time runs, and so fast that no line of the program is followed; whether the picture
+ * of the wiring is in front; questions are asked; a
+ * line is served, which gives its answer, or null where it failed; a refusal is put into words; what a cell shows is told; the source
+ * is told where the counter is, or that the listing went to an address; the bench tells its breakpoints; one is set or taken away; how long
+ * lamps are lit is asked for, by a face and its number; how many milliseconds so many cycles take; a call failed. And those of the strip.
+ * @typedef {{ listen: (node: HTMLButtonElement, key: BoardKey) => void, isRunning: () => boolean, isFast: () => boolean,
+ *   isWiringShown: () => boolean,
+ *   ask: (lines: string) => Promise<string[]>, act: (line: string) => Promise<string | null>, wordsOfRefusal: (number: number) => string,
+ *   explain: (name: string) => string,
+ *   isAt: (counter: number) => void, breakAt: (breakpoints: string[]) => void, toggleBreakpoint: (address: number) => void,
+ *   wentTo: (address: number) => void, watchLamps: (face: string, number: number) => void, timeOf: (cycles: number) => number,
+ *   failed: (fault: unknown) => void } & import("./board/strip_view.js").StripCalls} LookCalls
+ */
+
+/** @typedef {{ seeLamps: (lamps: string) => void, seeKeys: (keysDown: number) => void }} Watcher */
+
+/** While time runs, what nobody can read in a frame is drawn so often, in milliseconds. */
+const DRAWN_TIME = 100;
+
+export class LookView {
+  /** @param {LookCalls} calls */
+  constructor(calls) {
+    this.calls = calls;
+    this.board = readBoard([]);
+    this.reader = new LookReader();
+    /** When all was drawn last. */
+    this.drawn = 0;
+    this.changes = new Changes();
+    this.front = new FrontView(calls.listen, calls.watchLamps);
+    this.strip = new StripView(calls);
+    this.told = new ToldAt();
+    this.editor = new CellEditor({
+      poke: async (place, value) => this.refusalOf(await calls.act(`poke ${place} ${value}\n`)),
+      tell: (words, at) => this.told.show(words, at),
+    });
+    this.registers = new RegistersView(this.changes, this.editor, calls.explain);
+    this.ram = new RamView(this.changes, this.editor, (bank, source, isSet, cell) => (
+      this.toggleWatch(isSet, `${bank} 0x${hex(source, 2)}`, cell)));
+    this.ports = new PortsView(this.changes, this.editor, calls.explain);
+    this.wiring = new WiringView(calls.isWiringShown);
+    /** @type {Watcher | null} is told of lamps and keys */
+    this.watcher = null;
+    this.listing = new ListingView(calls.ask, calls.toggleBreakpoint, () => this.showListing());
+    this.goTo = new GoToView(this.listing, calls.toggleBreakpoint, (address) => {
+      this.showListing();
+      calls.wentTo(address);
+    });
+    this.stack = new StackView(this.changes, calls.explain, calls.ask, (address) => this.goTo.show(address));
+    this.sourceTold = new Cell(block("source-told"));
+    this.testWord = new Cell(button("test"));
+    /** Whether the TEST pin is at 1. */
+    this.test = new Switch((isOn) => button("test").setAttribute("aria-pressed", String(isOn)));
+  }
+
+  /**
+   * Sets or clears a watch; a refusal is told where the click was.
+   * @param {boolean} isSet
+   * @param {string} place
+   * @param {HTMLElement} [at]
+   */
+  async toggleWatch(isSet, place, at) {
+    const refusal = this.refusalOf(await this.calls.act(`${isSet ? "un" : ""}watch ${place}\n`));
+    if (refusal) this.told.show(say.notSet(refusal), at);
+  }
+
+  /**
+   * The words of a refusal, "" for an answer that is none.
+   * @param {string | null} answer
+   */
+  refusalOf(answer) {
+    if (answer === null) return say.NOT_DONE;
+    const refusal = refusalOf(answer);
+    return refusal ? `${this.calls.wordsOfRefusal(refusal.number)}.` : "";
+  }
+
+  /** The counter that is shown, as it is written. */
+  get counter() {
+    return this.reader.registers ? this.reader.registers.counter : "";
+  }
+
+  /**
+   * Draws another board.
+   * @param {string[]} answers to `board`
+   * @param {string} boardText has the face
+   */
+  draw(answers, boardText) {
+    this.board = readBoard(answers);
+    this.reader.forget();
+    this.changes.forget();
+    this.editor.close(false);
+    const face = new Face(boardText);
+    this.front.draw(this.board, face);
+    this.strip.draw(this.board, face);
+    this.ram.draw(this.board);
+    this.ports.draw(this.board, face);
+    this.wiring.forget();
+    this.forgetRom();
+  }
+
+  /** The bytes of ROM may have changed. */
+  forgetRom() {
+    this.listing.forget();
+    this.stack.forget();
+  }
+
+  /** @param {string} boardText may have another face */
+  readFace(boardText) {
+    const face = new Face(boardText);
+    this.front.change(this.board, face);
+    this.strip.change(this.board, face);
+  }
+
+  /**
+   * Shows the names of the program that stands in ROM.
+   * @param {SourceMap | null} map null where the source is not that program
+   * @param {string} words why it is not
+   */
+  nameLines(map, words) {
+    this.sourceTold.set(words);
+    this.listing.nameLines(map);
+    this.goTo.takeNames(map);
+    this.showListing();
+  }
+
+  /**
+   * Shows a look: lamps, displays and keys at once; all else at once, too, but where time runs by.
+   * @param {string[]} look
+   * @param {boolean} [isPassing] whether time has come here and goes on, so that another look follows
+   * @param {import("../core/engine/shining.js").Shone | null} [shone] what was lit in that time
+   */
+  show(look, isPassing = false, shone = null) {
+    const changed = this.reader.take(look);
+    this.showLamps(changed.lamps, isPassing && this.calls.isRunning() ? shone : null);
+    this.showFront(changed);
+    if (isPassing && this.calls.isFast() && performance.now() - this.drawn < DRAWN_TIME) return;
+    this.showRest();
+    if (this.calls.isRunning()) this.changes.runs();
+    else this.changes.stops();
+  }
+
+  /** Draws what is not drawn yet of the last look. */
+  showRest() {
+    this.drawn = performance.now();
+    this.showChanged(this.reader.readRest());
+  }
+
+  /**
+   * Shows lamps as an eye sees them where time passes, else as they are at this instant.
+   * @param {string | undefined} lamps where they are others than before
+   * @param {import("../core/engine/shining.js").Shone | null} shone
+   */
+  showLamps(lamps, shone) {
+    const { front } = this;
+    const marks = lamps === undefined ? front.marks : lamps;
+    if (shone && shone.face === front.faces) front.shine(marks, shone, this.calls.timeOf(shone.cycles));
+    else if (lamps !== undefined || front.isShining) front.showLamps(marks);
+  }
+
+  /** @param {ChangedFront} changed */
+  showFront({ lamps, keys, test }) {
+    if (keys) this.front.showKeys(keys);
+    if (test !== undefined) {
+      this.testWord.set(`TEST ${test}`);
+      this.test.set(test === "1");
+      this.front.showTest(test);
+      this.wiring.showTest(test === "1");
+    }
+    if (this.watcher && (keys || lamps !== undefined)) {
+      this.watcher.seeKeys(this.front.down.size);
+      this.watcher.seeLamps(this.front.marks);
+    }
+  }
+
+  /** @param {Changed} changed */
+  showChanged({ registers, ports, breakpoints, watches, ram = [] }) {
+    if (ports) {
+      this.ports.show(ports);
+      this.wiring.showPorts(ports);
+    }
+    if (registers) {
+      this.registers.show(registers);
+      this.stack.show(registers);
+      this.listing.counter = parseInt(registers.counter, 16);
+    }
+    for (const told of ram) {
+      this.ram.show(told);
+      this.wiring.showRam(told);
+    }
+    if (watches) this.ram.showWatches(watches);
+    if (breakpoints) this.calls.breakAt(breakpoints);
+    if (registers || breakpoints || this.listing.lines.length === 0) this.showListing();
+  }
+
+  /** @param {Map<number, import("../core/machine/breakpoint_marks.js").BreakpointMark>} marks of breakpoints, by their addresses */
+  showBreakpoints(marks) {
+    this.listing.breakpoints = new Map([...marks].map(([address, mark]) => [hex(address, 3), mark]));
+    this.showListing();
+  }
+
+  showListing() {
+    this.calls.isAt(this.listing.counter);
+    const isRunning = this.calls.isRunning();
+    this.listing.show(this.calls.isFast()).catch(this.calls.failed);
+    this.stack.explain(this.listing.map, isRunning).catch(this.calls.failed);
+  }
+}

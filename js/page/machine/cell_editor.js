@@ -1,0 +1,129 @@
+// Cells that can be edited in place: a double click, or Enter or F2 on a cell, opens a small field over it; Enter pokes, Escape leaves.
+
+import { element } from "../ui/dom.js";
+import { putBelow } from "../ui/told_at.js";
+import * as say from "../../words/machine.js";
+
+/**
+ * A cell that can be poked: the place of `poke`, how it is called, and how many digits it has.
+ * @typedef {{ place: string, name: string, digits: number }} Poked
+ *
+ * What it calls: a value is poked, which gives "" or the words of its refusal; words are told at a cell that cannot be poked.
+ * @typedef {{ poke: (place: string, value: string) => Promise<string>, tell: (words: string, at: HTMLElement) => void }} EditorCalls
+ */
+
+
+/**
+ * A value as a line takes it; "" where a text has none.
+ * @param {string} text
+ */
+export function valueOf(text) {
+  const found = /^(?:0x)?([0-9a-f]{1,8})$/i.exec(text.trim());
+  return found ? `0x${found[1].toUpperCase()}` : "";
+}
+
+export class CellEditor {
+  /** @param {EditorCalls} calls */
+  constructor(calls) {
+    this.calls = calls;
+    /** @type {WeakMap<HTMLElement, Poked>} */
+    this.poked = new WeakMap();
+    /** @type {WeakMap<HTMLElement, string>} why a cell cannot be poked */
+    this.fixed = new WeakMap();
+    /** @type {HTMLElement | null} the cell that is edited */
+    this.cell = null;
+    this.label = element("span", { className: "unseen" });
+    this.field = element("input", { autocomplete: "off", spellcheck: false, maxLength: 12 });
+    this.told = element("p", { id: "cell-told" });
+    this.told.setAttribute("role", "alert");
+    this.field.setAttribute("aria-describedby", this.told.id);
+    this.box = element("div", { id: "cell-editor", hidden: true }, element("label", {}, this.label, this.field), this.told);
+    document.body.append(this.box);
+    this.field.addEventListener("keydown", (event) => this.typed(event));
+    this.field.addEventListener("blur", () => this.close(false));
+  }
+
+  /**
+   * @param {HTMLElement} cell
+   * @param {Poked} poked
+   */
+  offer(cell, poked) {
+    this.poked.set(cell, poked);
+    this.listen(cell);
+  }
+
+  /**
+   * A cell that has no line to poke it.
+   * @param {HTMLElement} cell
+   * @param {string} why
+   */
+  refuse(cell, why) {
+    this.fixed.set(cell, why);
+    this.listen(cell);
+  }
+
+  /** @param {HTMLElement} cell */
+  listen(cell) {
+    cell.addEventListener("dblclick", () => this.open(cell));
+    cell.addEventListener("keydown", (event) => {
+      if ((event.key !== "Enter" && event.key !== "F2") || event.ctrlKey || event.altKey || event.metaKey) return;
+      event.preventDefault();
+      event.stopPropagation();
+      this.open(cell);
+    });
+  }
+
+  /** @param {HTMLElement} cell */
+  open(cell) {
+    const why = this.fixed.get(cell);
+    if (why) this.calls.tell(why, cell);
+    const poked = this.poked.get(cell);
+    if (!poked) return;
+    this.cell = cell;
+    this.label.textContent = say.inHexadecimal(poked.name);
+    this.field.value = cell.textContent || "";
+    this.field.size = Math.max(2, poked.digits);
+    this.tell("");
+    this.box.hidden = false;
+    const { left, top } = cell.getBoundingClientRect();
+    putBelow(this.box, { left, bottom: top }, 0);
+    this.field.focus();
+    this.field.select();
+  }
+
+  /** @param {string} words */
+  tell(words) {
+    this.told.textContent = words;
+    this.field.setAttribute("aria-invalid", String(words !== ""));
+  }
+
+  /** @param {boolean} returns whether the focus goes back to the cell */
+  close(returns) {
+    const { cell } = this;
+    if (!cell) return;
+    this.cell = null;
+    this.box.hidden = true;
+    if (returns && cell.isConnected) cell.focus();
+  }
+
+  /** @param {KeyboardEvent} event */
+  typed(event) {
+    if (event.key !== "Enter" && event.key !== "Escape") return;
+    event.preventDefault();
+    event.stopPropagation();
+    if (event.key === "Escape") this.close(true);
+    else this.poke();
+  }
+
+  async poke() {
+    const { cell } = this;
+    const poked = cell && this.poked.get(cell);
+    if (!poked) return;
+    const value = valueOf(this.field.value);
+    const refusal = value === "" ? say.NOT_HEXADECIMAL : await this.calls.poke(poked.place, value);
+    // It may have been left meanwhile.
+    if (this.cell !== cell) return;
+    if (refusal === "") this.close(true);
+    else this.tell(refusal);
+  }
+}

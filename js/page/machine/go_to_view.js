@@ -1,0 +1,57 @@
+// The field that the listing goes to an address by, and the button that sets a breakpoint there.
+
+import { Cell, block, button, byId, element, field, onClick } from "../ui/dom.js";
+import { goalOf } from "../../core/machine/go_to.js";
+
+/**
+ * @typedef {import("../../core/machine/source_map.js").SourceMap} SourceMap
+ * @typedef {{ goTo: (address: number) => void }} Goes what goes to an address
+ */
+
+export class GoToView {
+  /**
+   * @param {Goes} listing
+   * @param {(address: number) => void} toggleBreakpoint
+   * @param {(address: number) => void} went it went to an address
+   */
+  constructor(listing, toggleBreakpoint, went) {
+    this.listing = listing;
+    this.went = went;
+    this.field = field("go-to");
+    this.names = byId("names", HTMLDataListElement);
+    this.told = new Cell(block("go-to-told"));
+    /** @type {SourceMap | null} */
+    this.map = null;
+    this.field.addEventListener("change", () => this.go());
+    // Also where the text is the one of before.
+    this.field.addEventListener("keydown", (event) => event.key === "Enter" && this.go());
+    const there = button("break-there");
+    onClick(there, () => {
+      const address = this.go();
+      if (address !== null) toggleBreakpoint(address);
+    });
+  }
+
+  /** @param {SourceMap | null} map the program whose names are known */
+  takeNames(map) {
+    this.map = map;
+    const names = map ? [...map.names.keys()].sort() : [];
+    this.names.replaceChildren(...names.map((name) => element("option", { value: name })));
+  }
+
+  /** Goes there; gives the address, or null where the field has none. */
+  go() {
+    const { address, words } = goalOf(this.field.value, this.map);
+    this.told.set(words);
+    this.field.setAttribute("aria-invalid", String(words !== ""));
+    if (words !== "") return null;
+    this.show(address);
+    return address;
+  }
+
+  /** @param {number} address */
+  show(address) {
+    this.listing.goTo(address);
+    this.went(address);
+  }
+}

@@ -1,0 +1,133 @@
+// The rows of the listing that are seen: as many buttons as have room, each for the line that it shows.
+
+import { Cell, Switch, element, onClick, pressedSwitch } from "../ui/dom.js";
+import * as say from "../../words/machine.js";
+
+/**
+ * @typedef {import("../../core/machine/listing_names.js").NamedLine} NamedLine
+ *
+ * @typedef {import("../../core/machine/breakpoint_marks.js").BreakpointMark} BreakpointMark
+ *
+ * A row; `marked` is the address in its line that has a breakpoint, else its own.
+ * @typedef {{ button: HTMLButtonElement, address: number, marked: number, mark: Cell, bytes: Cell, labels: Cell,
+ *   instruction: Cell, breakpoint: Switch, next: Switch }} Row
+ */
+
+/**
+ * The mark of a breakpoint inside an instruction, where the source is not known, so that it is where the bench was told to have it.
+ * @param {string} address
+ * @param {Map<string, BreakpointMark>} breakpoints
+ * @returns {BreakpointMark | undefined}
+ */
+function insideMark(address, breakpoints) {
+  if (!breakpoints.has(address)) return undefined;
+  const words = say.insideBreakpoint(address);
+  return { mark: "\u25CB", words };
+}
+
+export class ListingRows {
+  /**
+   * @param {HTMLElement} root
+   * @param {(address: number) => void} toggleBreakpoint
+   */
+  constructor(root, toggleBreakpoint) {
+    this.root = root;
+    this.toggleBreakpoint = toggleBreakpoint;
+    /** @type {Row[]} */
+    this.rows = [];
+    /** How many of them show a line. */
+    this.used = 0;
+    root.addEventListener("focusin", (event) => this.setStop(event.target));
+  }
+
+  get count() {
+    return this.rows.length;
+  }
+
+  /** @param {number} count */
+  resize(count) {
+    while (this.rows.length < count) {
+      const row = this.makeRow();
+      this.rows.push(row);
+      this.root.append(row.button);
+    }
+    for (const row of this.rows.splice(count)) row.button.remove();
+    this.setStop(this.rows[0].button);
+  }
+
+  /** @returns {Row} */
+  makeRow() {
+    const mark = new Cell(element("i", { "aria-hidden": "true" }));
+    const [bytes, labels, instruction] = ["bytes", "labels", "instruction"].map((className) => new Cell(element("span", { className })));
+    const button = element("button", { type: "button" }, mark.node, bytes.node, labels.node, instruction.node);
+    const next = new Switch((isNext) => {
+      button.classList.toggle("next", isNext);
+      if (isNext) button.setAttribute("aria-current", "true");
+      else button.removeAttribute("aria-current");
+    });
+    /** @type {Row} */
+    const row = { button, address: 0, marked: 0, mark, bytes, labels, instruction, breakpoint: pressedSwitch(button), next };
+    onClick(button, () => this.toggleBreakpoint(row.marked));
+    return row;
+  }
+
+  /**
+   * The Tab key stops at one row.
+   * @param {EventTarget | null} stop
+   */
+  setStop(stop) {
+    for (const { button } of this.rows) button.tabIndex = button === stop ? 0 : -1;
+  }
+
+  /**
+   * @param {NamedLine[]} lines
+   * @param {number} counter
+   * @param {Map<string, BreakpointMark>} breakpoints by their addresses
+   */
+  show(lines, counter, breakpoints) {
+    this.used = Math.min(lines.length, this.rows.length);
+    this.rows.forEach((row, at) => {
+      const line = lines[at];
+      row.button.hidden = line === undefined;
+      if (!line) return;
+      const own = breakpoints.get(line.first);
+      const mark = own || insideMark(line.second, breakpoints);
+      const title = [mark ? mark.words : "", line.source].filter(Boolean).join("; ");
+      row.address = line.address;
+      row.marked = mark && !own ? parseInt(line.second, 16) : line.address;
+      row.bytes.set(line.bytes);
+      row.labels.set(line.labels);
+      row.instruction.set(line.instruction);
+      if (row.button.title !== title) row.button.title = title;
+      row.mark.set(mark ? mark.mark : "");
+      row.next.set(line.address === counter);
+      row.breakpoint.set(mark !== undefined);
+    });
+  }
+
+  /**
+   * The address of the line that a part of the page belongs to; null where there is none.
+   * @param {Node} node
+   */
+  addressAt(node) {
+    const found = this.rows.find(({ button }) => button.contains(node));
+    return found ? found.address : null;
+  }
+
+  /** The place of the row with the focus; -1 where none has it. */
+  get focused() {
+    return this.rows.findIndex(({ button }) => button === document.activeElement);
+  }
+
+  /** @param {number} at */
+  focus(at) {
+    this.rows[Math.max(0, Math.min(at, this.used - 1))].button.focus({ preventScroll: true });
+  }
+
+  /** The first row becomes the last one, so that a place is another element, and a screen reader says what has the focus there. */
+  turn() {
+    const [first] = this.rows.splice(0, 1);
+    this.rows.push(first);
+    this.root.append(first.button);
+  }
+}

@@ -1,0 +1,246 @@
+// The program as the bench lists it: the stretch round the counter, or where one has gone to, with its breakpoints.
+
+import { block, field } from "../ui/dom.js";
+import { namedLine, widthOfLabels } from "../../core/machine/listing_names.js";
+import { ListingReader } from "../../core/machine/listing_reader.js";
+import { ListingRows } from "./listing_rows.js";
+import { ListingScroll } from "./listing_scroll.js";
+import { isInsideLine, stretchOf } from "../../core/machine/listing_stretch.js";
+import { LAST_ADDRESS } from "../../core/bench/numbers.js";
+
+/**
+ * @typedef {import("../../core/bench/answers.js").Listed} Listed
+ * @typedef {import("../../core/machine/listing_names.js").NamedLine} NamedLine
+ * @typedef {import("../../core/machine/listing_stretch.js").Goal} Goal
+ * @typedef {import("../../core/machine/source_map.js").SourceMap} SourceMap
+ */
+
+/** Until the page has been laid out. */
+const USUAL_ROWS = 18;
+/** The stretch round the counter begins so many bytes before it, or fewer where few rows have room. */
+const BYTES_BEFORE = 10;
+/** While time runs the listing follows the counter so often, in milliseconds, that it can be read. */
+const FOLLOW_TIME = 300;
+
+export class ListingView {
+  /**
+   * @param {(lines: string) => Promise<string[]>} ask gives the answers to questions
+   * @param {(address: number) => void} toggleBreakpoint
+   * @param {() => void} moved another stretch is wanted
+   */
+  constructor(ask, toggleBreakpoint, moved) {
+    this.reader = new ListingReader(ask);
+    this.moved = moved;
+    this.block = block("lines-of-program");
+    this.follows = true;
+    /** Where the counter stood when a user went elsewhere: the listing follows again once it has moved; -1 for never. */
+    this.leftAt = -1;
+    /** The address that the stretch begins at where it does not follow the counter. */
+    this.from = 0;
+    this.counter = 0;
+    /** @type {Map<string, import("../../core/machine/breakpoint_marks.js").BreakpointMark>} by their addresses */
+    this.breakpoints = new Map();
+    /** @type {Listed[]} */
+    this.lines = [];
+    /** @type {NamedLine[]} the same, as they are shown */
+    this.named = [];
+    /** @type {SourceMap | null} the program that stands in ROM */
+    this.map = null;
+    // What is read while another stretch is asked for is not shown.
+    this.asked = 0;
+    /** Whether time ran when it was shown last. */
+    this.isRunning = false;
+    /** When it followed the counter last. */
+    this.followed = 0;
+    this.scroll = new ListingScroll(this.block, {
+      resized: (rows) => this.resize(rows),
+      scrolled: (address) => this.scrolledTo(address),
+      went: (rows) => this.go(rows),
+      wentTo: (end) => this.goToEnd(end),
+    });
+    this.rows = new ListingRows(this.scroll.rows, toggleBreakpoint);
+    this.rows.resize(USUAL_ROWS);
+    this.listen();
+  }
+
+  listen() {
+    const follow = field("follow");
+    follow.checked = this.follows;
+    follow.addEventListener("change", () => {
+      this.follows = follow.checked;
+      this.leftAt = -1;
+      this.anew();
+    });
+  }
+
+  /** The same stretch, read anew. */
+  anew() {
+    if (!this.follows && this.lines.length > 0) this.from = this.lines[0].address;
+    this.forget();
+    this.moved();
+  }
+
+  /** @param {number} rows as many as have room */
+  resize(rows) {
+    if (rows === this.rows.count) return;
+    this.rows.resize(rows);
+    if (this.lines.length > 0) this.anew();
+  }
+
+  /**
+   * From here on the stretch begins at an address, wherever the counter is.
+   * @param {number} address
+   */
+  stayAt(address) {
+    this.from = address;
+    this.follows = field("follow").checked = false;
+  }
+
+  /**
+   * Shows the stretch from an address on. Where the listing has followed the counter that stands still, it does so again once that moves.
+   * @param {number} address
+   */
+  goTo(address) {
+    if (this.follows && !this.isRunning) this.leftAt = this.counter;
+    this.stayAt(address);
+    this.forget();
+  }
+
+  /** @param {SourceMap | null} map */
+  nameLines(map) {
+    this.map = map;
+    this.block.style.setProperty("--label-width", `${widthOfLabels(map)}ch`);
+    this.take(this.lines);
+  }
+
+  /** The bytes of ROM may have changed. */
+  forget() {
+    this.take([]);
+    this.asked += 1;
+  }
+
+  /** @param {Listed[]} lines */
+  take(lines) {
+    this.lines = lines;
+    this.named = lines.map((line) => namedLine(line, this.map));
+  }
+
+  showRows() {
+    this.rows.show(this.named, this.counter, this.breakpoints);
+  }
+
+  /**
+   * Shows where the counter is, and reads another stretch where that is needed.
+   * @param {boolean} isRunning
+   */
+  async show(isRunning) {
+    const { counter, from } = this;
+    this.isRunning = isRunning;
+    if (this.leftAt >= 0 && counter !== this.leftAt) {
+      this.leftAt = -1;
+      this.follows = field("follow").checked = true;
+    }
+    if (this.lines.length > 0 && !this.hasToMove(isRunning)) {
+      this.showRows();
+    } else if (this.follows) {
+      this.followed = performance.now();
+      const before = Math.min(BYTES_BEFORE, Math.floor(this.rows.count / 2));
+      await this.read({ from: Math.max(0, counter - before), anchor: counter });
+    } else {
+      await this.read({ from, anchor: from });
+    }
+  }
+
+  /**
+   * Where the listing does not follow, it stays; but lines that the counter shows to be out of step are read again.
+   * @param {boolean} isRunning
+   */
+  hasToMove(isRunning) {
+    if (!this.follows) return !isRunning && isInsideLine(this.lines, this.counter);
+    if (this.hasInside(this.counter)) return false;
+    return !isRunning || performance.now() - this.followed > FOLLOW_TIME;
+  }
+
+  /** @param {number} counter */
+  hasInside(counter) {
+    const at = this.lines.findIndex((line) => line.address === counter);
+    if (at < 0) return false;
+    const isAtEnd = this.lines[this.lines.length - 1].address >= LAST_ADDRESS - 1;
+    return (at >= 1 || counter === 0) && (at < this.lines.length - 3 || isAtEnd);
+  }
+
+  /**
+   * Reads a stretch and shows it; false where another one was wanted meanwhile.
+   * @param {Goal} goal
+   * @param {boolean} isScrolled whether a user has scrolled there: then the box stays where it is
+   */
+  async read(goal, isScrolled = false) {
+    this.asked += 1;
+    const { asked, counter } = this;
+    const rows = this.rows.count;
+    let lines = await this.reader.read(goal, rows);
+    if (goal.anchor !== counter && isInsideLine(lines, counter)) lines = await this.reader.read({ ...goal, anchor: counter }, rows);
+    if (asked !== this.asked) return false;
+    this.take(stretchOf(lines, goal.from, rows));
+    this.showRows();
+    if (!isScrolled && this.lines.length > 0) this.scroll.beginAt(this.lines[0].address);
+    return true;
+  }
+
+  // --- going through it ---
+
+  /** @param {number} address */
+  scrolledTo(address) {
+    this.stayAt(Math.max(0, Math.min(address, LAST_ADDRESS)));
+    // In step with what is shown, where that is near.
+    const known = this.lines.find((line) => line.address >= this.from);
+    const isNear = known && Math.abs(this.lines[0].address - this.from) <= this.rows.count;
+    this.read({ from: this.from, anchor: known && isNear ? known.address : null }, true);
+  }
+
+  /**
+   * A key goes so many rows on from the row with the focus, and scrolls where it leaves what is seen.
+   * @param {number} rows
+   */
+  async go(rows) {
+    const { focused } = this.rows;
+    if (focused < 0 || this.lines.length === 0) return;
+    const goal = focused + rows;
+    const last = this.lines.length - 1;
+    if (goal >= 0 && goal <= last) {
+      this.rows.focus(goal);
+      return;
+    }
+    if (await this.goBy(goal < 0 ? goal : goal - last)) this.focusAnew(rows < 0 ? 0 : last);
+  }
+
+  /**
+   * Goes on by so many lines, or back.
+   * @param {number} count
+   */
+  async goBy(count) {
+    const [top] = this.lines;
+    if (count > 0) {
+      this.stayAt(this.lines[Math.min(count, this.lines.length - 1)].address);
+      return this.read({ from: this.from, anchor: this.from });
+    }
+    // A line has one or two bytes.
+    const before = await this.reader.read({ from: Math.max(0, top.address + 2 * count), anchor: top.address }, this.rows.count);
+    const at = before.findIndex((line) => line.address >= top.address);
+    this.stayAt((before[Math.max(0, at + count)] || top).address);
+    return this.read({ from: this.from, anchor: top.address });
+  }
+
+  /** @param {"first" | "last"} end */
+  async goToEnd(end) {
+    this.stayAt(end === "first" ? 0 : LAST_ADDRESS);
+    if (await this.read({ from: this.from, anchor: null })) this.focusAnew(end === "first" ? 0 : this.lines.length - 1);
+  }
+
+  /** @param {number} at */
+  focusAnew(at) {
+    this.rows.turn();
+    this.showRows();
+    this.rows.focus(at);
+  }
+}

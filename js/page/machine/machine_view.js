@@ -1,0 +1,188 @@
+// What is in the machine: registers, ports and chains, each from its answer.
+
+import { Cell, Switch, block, element, oneStop, setStop } from "../ui/dom.js";
+import { upTo } from "../../core/bench/numbers.js";
+import * as say from "../../words/machine.js";
+
+/**
+ * @typedef {import("../../core/bench/answers.js").Board} Board
+ * @typedef {import("../../core/bench/answers.js").Ports} Ports
+ * @typedef {import("../../core/bench/answers.js").Registers} Registers
+ * @typedef {import("./cell_editor.js").CellEditor} CellEditor
+ * @typedef {import("./changes.js").Changes} Changes
+ * @typedef {import("../../core/board/face.js").Face} Face
+ * @typedef {(name: string) => string} Explain what a cell of this name shows, in words; "" for none
+ */
+
+/**
+ * @param {string[]} words
+ * @param {Explain} explain
+ */
+function headOf(words, explain) {
+  const heads = words.map((word) => element("th", { scope: "col", title: explain(word) }, word));
+  return element("thead", {}, element("tr", {}, ...heads));
+}
+
+/** @param {number} count */
+function cells(count) {
+  return upTo(count).map(() => new Cell(element("span")));
+}
+
+/** @param {Cell[]} some */
+function nodesOf(some) {
+  return some.map((cell) => cell.node);
+}
+
+/** How many digits of those registers have more than one. */
+const DIGITS = new Map([["pc", 3]]);
+
+export class RegistersView {
+  /**
+   * @param {Changes} changes
+   * @param {CellEditor} editor
+   * @param {Explain} explain
+   */
+  constructor(changes, editor, explain) {
+    this.changes = changes;
+    this.editor = editor;
+    this.explain = explain;
+    /** @type {Map<string, Cell>} */
+    this.cells = new Map();
+    const numbered = upTo(16).map((number) => `R${number}`);
+    block("registers").append(this.group(["acc", "cy", "pc", "dcl", "owed"]), this.group(numbered, "cells of-eight"));
+  }
+
+  /**
+   * @param {string[]} names
+   * @param {string} className
+   */
+  group(names, className = "cells") {
+    const group = element("dl", { className }, ...names.map((name) => {
+      const title = element("dt", { id: `name-${name}`, title: this.explain(name) }, name);
+      const value = element("button", { type: "button", id: `value-${name}` });
+      value.setAttribute("aria-labelledby", `${title.id} ${value.id}`);
+      this.cells.set(name, new Cell(value));
+      if (name === "owed") this.editor.refuse(value, say.OWED_STAYS);
+      else this.editor.offer(value, { place: name.toLowerCase(), name, digits: DIGITS.get(name) || 1 });
+      return element("div", {}, title, element("dd", {}, value));
+    }));
+    oneStop(group, () => 8);
+    setStop(group);
+    return group;
+  }
+
+  /** @param {Registers} told */
+  show(told) {
+    /** @type {Record<string, string>} */
+    const values = {
+      acc: told.accumulator, cy: told.carry, pc: told.counter, dcl: told.bank, owed: told.owed,
+    };
+    told.registers.forEach((value, number) => {
+      values[`R${number}`] = value;
+    });
+    for (const [name, cell] of this.cells) this.changes.set(cell, values[name]);
+  }
+}
+
+
+export class PortsView {
+  /**
+   * @param {Changes} changes
+   * @param {CellEditor} editor
+   * @param {Explain} explain
+   */
+  constructor(changes, editor, explain) {
+    this.changes = changes;
+    this.editor = editor;
+    this.explain = explain;
+    this.block = block("ports-told");
+    this.sources = element("dl", { className: "cells" });
+    /** @type {Map<string, Cell>} */
+    this.sourceCells = new Map();
+    /** @type {Cell[][]} */
+    this.roms = [];
+    /** @type {{ bits: Cell[], ones: Switch[], shown: string }[]} */
+    this.chains = [];
+  }
+
+  /**
+   * @param {Board} board
+   * @param {Face} face has the names of ports and chains
+   */
+  draw(board, face) {
+    /** @type {(place: string) => string} */
+    const nameOf = (place) => (face.ports.get(place) || { text: "" }).text;
+    this.sources = element("dl", { className: "cells" });
+    this.sourceCells.clear();
+    this.roms = board.roms.map(() => cells(2));
+    for (const cell of this.roms.flat()) this.editor.refuse(cell.node, say.PORTS_STAY);
+    this.chains = board.chains.map((chain) => {
+      const bits = upTo(chain.chips * 10).map(() => new Cell(element("i")));
+      const ones = bits.map(({ node }) => new Switch((isOne) => node.classList.toggle("one", isOne)));
+      return { bits, ones, shown: "" };
+    });
+    const lines = this.chains.map(({ bits }, at) => this.chainLine(`chain ${at}`, nameOf(`chain${at}`), nodesOf(bits)));
+    this.block.replaceChildren(this.sources, ...(board.roms.length > 0 ? [this.romTable(board.roms, nameOf)] : []), ...lines);
+  }
+
+  /**
+   * @param {Board["roms"]} roms
+   * @param {(place: string) => string} nameOf
+   */
+  romTable(roms, nameOf) {
+    const rows = roms.map((rom, at) => element("tr", {},
+      element("th", { scope: "row" }, String(rom.chip), element("small", {}, nameOf(`rom${rom.chip}`))),
+      element("td", {}, rom.port),
+      ...nodesOf(this.roms[at]).map((node) => element("td", {}, node))));
+    const head = headOf(["ROM", say.LINES_3_TO_0, "latch", "reads"], this.explain);
+    return element("table", { className: "roms", "aria-label": say.PORTS_OF_ROMS }, head, element("tbody", {}, ...rows));
+  }
+
+  /**
+   * @param {string} chain
+   * @param {string} name
+   * @param {HTMLElement[]} bits
+   */
+  chainLine(chain, name, bits) {
+    const groups = [];
+    for (let from = 0; from < bits.length; from += 10) groups.push(element("span", {}, ...bits.slice(from, from + 10)));
+    return element("p", { className: "chain" }, element("b", {}, chain, element("small", {}, name)), ...groups);
+  }
+
+  /**
+   * What SRC has chosen: `10` for the ROMs, `0.10` for bank 0.
+   * @param {string[]} sources
+   */
+  showSources(sources) {
+    for (const source of sources) {
+      const [first, second] = source.split(".");
+      const name = second === undefined ? say.SRC_OF_ROMS : `bank ${first}`;
+      const cell = this.sourceCells.get(name) || this.newSource(name);
+      this.changes.set(cell, second === undefined ? first : second);
+    }
+  }
+
+  /** @param {string} name */
+  newSource(name) {
+    const cell = new Cell(element("dd"));
+    this.sourceCells.set(name, cell);
+    this.sources.append(element("div", {}, element("dt", { title: this.explain(name) }, name), cell.node));
+    return cell;
+  }
+
+  /** @param {Ports} told */
+  show(told) {
+    this.showSources(told.sources);
+    told.roms.forEach((rom, at) => {
+      this.changes.set(this.roms[at][0], rom.out);
+      this.changes.set(this.roms[at][1], rom.in);
+    });
+    told.chains.forEach((bits, at) => {
+      const chain = this.chains[at];
+      if (chain.shown === bits) return;
+      chain.shown = bits;
+      chain.bits.forEach((cell, index) => cell.set(bits[index]));
+      chain.ones.forEach((one, index) => one.set(bits[index] === "1"));
+    });
+  }
+}

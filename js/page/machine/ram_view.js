@@ -1,0 +1,225 @@
+// The RAM of a board, bank by bank: each character with its address, watched by a click and edited in place.
+
+import { Cell, block, element, oneStop, pressedSwitch, setStop } from "../ui/dom.js";
+import { hex, upTo } from "../../core/bench/numbers.js";
+import { CHARACTERS, STATUS } from "../../core/bench/places.js";
+import * as say from "../../words/machine.js";
+
+/**
+ * @typedef {import("../../core/bench/answers.js").Board} Board
+ * @typedef {import("../../core/bench/answers.js").Ram} Ram
+ * @typedef {import("./cell_editor.js").CellEditor} CellEditor
+ * @typedef {import("./changes.js").Changes} Changes
+ * @typedef {import("./heat_view.js").Warm} Warm
+ * @typedef {import("../ui/dom.js").Switch} Switch
+ * @typedef {{ bank: number, chip: number, register: number }} Register where a register is
+ * @typedef {{ characters: Cell[], status: Cell[], names: HTMLElement, shown: string }} ShownRegister
+ */
+
+/** @param {Register} register */
+function wordsOf({ bank, chip, register }) {
+  return say.registerOfChip(bank, chip, register);
+}
+
+/**
+ * The names of a register's characters, each behind the character's number.
+ * @param {string} register as it is called here
+ * @param {ReadonlyMap<string, string[]>} names
+ */
+function namesIn(register, names) {
+  const [bank, chip, number] = register.split(".").map(Number);
+  const at = chip * 4 + number;
+  /** @type {(place: string, label: string) => string[]} */
+  const told = (place, label) => (names.get(place) || []).map((name) => `${label} ${name}`);
+  return [
+    ...upTo(CHARACTERS).flatMap((each) => told(`ram.${bank}.0x${hex(at * CHARACTERS + each, 2)}`, hex(each, 1))),
+    ...upTo(STATUS).flatMap((each) => told(`st.${bank}.${at}.${each}`, `status ${each}`)),
+  ];
+}
+
+export class RamView {
+  /**
+   * @param {Changes} changes
+   * @param {CellEditor} editor
+   * @param {(bank: number, source: number, isWatched: boolean, cell: HTMLElement) => void} toggleWatch
+   */
+  constructor(changes, editor, toggleWatch) {
+    this.changes = changes;
+    this.editor = editor;
+    this.toggleWatch = toggleWatch;
+    /** @type {Map<string, Switch>} whether a character is watched, by its name in answers */
+    this.watched = new Map();
+    /** @type {Map<string, ShownRegister>} */
+    this.registers = new Map();
+    /** @type {Map<string, { node: HTMLElement, title: string }>} characters, by what `poke` calls them */
+    this.characters = new Map();
+    /** @type {ReadonlyMap<string, string[]>} what they are called */
+    this.names = new Map();
+    /** @type {ReadonlyMap<string, Warm>} those that have changed lately */
+    this.warm = new Map();
+    /** @type {Map<string, Cell>} */
+    this.ports = new Map();
+    this.block = block("banks");
+    oneStop(this.block, () => CHARACTERS + STATUS);
+  }
+
+  /**
+   * Draws the banks that have chips.
+   * @param {Board} board
+   */
+  draw(board) {
+    this.watched.clear();
+    this.registers.clear();
+    this.characters.clear();
+    this.ports.clear();
+    this.warm = new Map();
+    this.block.replaceChildren(...board.banks.map((bank) => this.drawBank(bank)));
+    block("memory-hint").hidden = board.banks.length === 0;
+    if (board.banks.length === 0) this.block.textContent = say.NO_RAM;
+    setStop(this.block);
+  }
+
+  /** @param {{ bank: number, chips: number }} bank */
+  drawBank({ bank, chips }) {
+    const rows = upTo(chips).flatMap((chip) => upTo(4).map((register) => this.drawRegister({ bank, chip, register })));
+    const heads = [say.CHARACTERS, "status", "port"].map((word) => element("th", { scope: "col" }, word));
+    const head = element("thead", {}, element("tr", {}, element("td"), ...heads));
+    return element("table", { className: "ram" }, element("caption", {}, `bank ${bank}`), head, element("tbody", {}, ...rows));
+  }
+
+  /** @param {Register} at */
+  drawRegister(at) {
+    const { bank, chip, register } = at;
+    const characters = upTo(CHARACTERS).map((character) => this.drawCharacter(at, character));
+    const status = upTo(STATUS).map((character) => this.drawStatus(at, character));
+    const names = element("small", { className: "cell-names", hidden: true });
+    this.registers.set(`${bank}.${chip}.${register}`, { characters, status, names, shown: "" });
+    const cells = [characters, status].map((some) => element("td", {}, ...some.map(({ node }) => node)));
+    cells[0].append(names);
+    const row = element("tr", {}, element("th", { scope: "row", title: wordsOf(at) }, `${chip}.${register}`), ...cells);
+    if (register === 0) row.append(this.drawPort(bank, chip));
+    return row;
+  }
+
+  /**
+   * @param {Register} at
+   * @param {number} character
+   */
+  drawCharacter(at, character) {
+    const { bank } = at;
+    const source = at.chip * 64 + at.register * 16 + character;
+    const button = element("button", { type: "button", title: say.characterTitle(wordsOf(at), character, hex(source, 2)) });
+    const watched = pressedSwitch(button);
+    this.watched.set(`${bank}.${hex(source, 2)}`, watched);
+    this.offer(`ram.${bank}.0x${hex(source, 2)}`, button);
+    let wasOn = false;
+    button.addEventListener("click", (event) => {
+      if (event.detail > 0) button.blur();
+      if (event.detail > 2) return;
+      // The second click of a double click takes back what the first one did.
+      wasOn = event.detail === 2 ? !wasOn : watched.isOn;
+      this.toggleWatch(bank, source, wasOn, button);
+    });
+    return new Cell(button);
+  }
+
+  /**
+   * @param {Register} at
+   * @param {number} character
+   */
+  drawStatus(at, character) {
+    const button = element("button", { type: "button", className: "status", title: say.statusTitle(wordsOf(at), character) });
+    const place = `st.${at.bank}.${at.chip * 4 + at.register}.${character}`;
+    this.offer(place, button);
+    return new Cell(button);
+  }
+
+  /**
+   * A character of RAM, edited where it stands.
+   * @param {string} place what `poke` calls it
+   * @param {HTMLButtonElement} node
+   */
+  offer(place, node) {
+    this.editor.offer(node, { place, name: node.title, digits: 1 });
+    this.characters.set(place, { node, title: node.title });
+  }
+
+  /**
+   * @param {number} bank
+   * @param {number} chip
+   */
+  drawPort(bank, chip) {
+    const cell = new Cell(element("span", { title: say.portTitle(bank, chip) }));
+    this.editor.refuse(cell.node, say.RAM_PORTS_STAY);
+    this.ports.set(`${bank}.${chip}`, cell);
+    return element("td", { rowSpan: 4, className: "port" }, cell.node);
+  }
+
+  /** @param {Ram} told */
+  show(told) {
+    for (const [name, { characters, status }] of told.registers) {
+      const shown = this.registers.get(name);
+      if (!shown || shown.shown === characters + status) continue;
+      shown.shown = characters + status;
+      shown.characters.forEach((cell, at) => this.changes.set(cell, characters[at]));
+      shown.status.forEach((cell, at) => this.changes.set(cell, status[at]));
+    }
+    for (const [name, value] of told.ports) {
+      const port = this.ports.get(name);
+      if (port) this.changes.set(port, value);
+    }
+  }
+
+  /**
+   * What a character is called, else where it is.
+   * @param {string} place what `poke` calls it
+   */
+  nameOf(place) {
+    const [name] = this.names.get(place) || [];
+    const found = this.characters.get(place);
+    return name || (found ? found.title : place);
+  }
+
+  /** @param {ReadonlyMap<string, string[]>} names what characters are called */
+  showNames(names) {
+    this.names = names;
+    for (const place of this.characters.keys()) this.tellOf(place);
+    for (const [name, { names: line }] of this.registers) {
+      line.textContent = namesIn(name, names).join("  ");
+      line.hidden = line.textContent === "";
+    }
+  }
+
+  /** @param {ReadonlyMap<string, Warm>} warm those that have changed lately */
+  showWarm(warm) {
+    const before = this.warm;
+    this.warm = warm;
+    for (const place of new Set([...before.keys(), ...warm.keys()])) {
+      const found = this.characters.get(place);
+      if (!found) continue;
+      const { warmth } = warm.get(place) || { warmth: 0 };
+      if (warmth > 0) found.node.dataset.warmth = String(warmth);
+      else delete found.node.dataset.warmth;
+      this.tellOf(place);
+    }
+  }
+
+  /**
+   * What the title of a character says: what it is called, where it is, and how it has changed.
+   * @param {string} place
+   */
+  tellOf(place) {
+    const found = this.characters.get(place);
+    if (!found) return;
+    const names = this.names.get(place) || [];
+    const { words } = this.warm.get(place) || { words: "" };
+    found.node.title = [...names, found.title].join(", ") + (words && `; ${words}`);
+    found.node.classList.toggle("named", names.length > 0);
+  }
+
+  /** @param {string[]} names */
+  showWatches(names) {
+    const watched = new Set(names);
+    for (const [name, isWatched] of this.watched) isWatched.set(watched.has(name));
+  }
+}

@@ -1,0 +1,44 @@
+// Run to here: to a line of the listing by Control and a click, by the second button, or by Control and Enter; to the line of the source
+// that the caret is in by Control and F10.
+
+import * as say from "../../words/machine.js";
+
+/**
+ * @param {HTMLElement} root the listing
+ * @param {(node: Node) => number | null} addressAt the address of a line that a node belongs to
+ * @param {(address: number) => void} runTo
+ */
+export function listenToHere(root, addressAt, runTo) {
+  /** @param {Event} event */
+  const act = (event) => {
+    const address = event.target instanceof Node ? addressAt(event.target) : null;
+    if (address === null) return;
+    event.preventDefault();
+    event.stopPropagation();
+    runTo(address);
+  };
+  root.addEventListener("click", (event) => {
+    if (event.ctrlKey || event.metaKey) act(event);
+  }, { capture: true });
+  root.addEventListener("contextmenu", act);
+  root.addEventListener("keydown", (event) => {
+    if (event.key === "Enter" && (event.ctrlKey || event.metaKey)) act(event);
+  }, { capture: true });
+}
+
+
+/**
+ * @param {HTMLElement} root the editor of the source
+ * @param {() => number | undefined} addressOfCaret
+ * @param {(address: number) => void} runTo
+ * @param {(words: string) => void} tell
+ */
+export function listenToCaret(root, addressOfCaret, runTo, tell) {
+  root.addEventListener("keydown", (event) => {
+    if (event.key !== "F10" || !event.ctrlKey || event.shiftKey || event.altKey) return;
+    event.preventDefault();
+    const address = addressOfCaret();
+    if (address === undefined) tell(say.NO_ADDRESS);
+    else runTo(address);
+  }, { capture: true });
+}

@@ -1,0 +1,133 @@
+// Where the processor is: the counter and the return addresses, with their names and lines of the source while time stands still.
+
+import { Cell, Switch, block, element, onClick, oneStop, setStop } from "../ui/dom.js";
+import { linesOf, matchAnswers, readInputs } from "../../core/bench/inputs.js";
+import { hex } from "../../core/bench/numbers.js";
+import { areLive, callBefore, noteOfCounter, noteOfReturn } from "../../core/machine/returns.js";
+import * as say from "../../words/machine.js";
+
+/**
+ * @typedef {import("../../core/bench/answers.js").Registers} Registers
+ * @typedef {import("./changes.js").Changes} Changes
+ * @typedef {import("../../core/machine/returns.js").Note} Note
+ * @typedef {import("../../core/machine/source_map.js").SourceMap} SourceMap
+ * @typedef {{ button: HTMLButtonElement, value: Cell, note: Cell, isLive: Switch }} Row
+ */
+
+/** A byte of ROM stands there in a line of a listing. */
+const BYTE_FROM = 4;
+const BYTE_END = 6;
+
+export class StackView {
+  /**
+   * @param {Changes} changes
+   * @param {(name: string) => string} explain what a cell of this name shows
+   * @param {(lines: string) => Promise<string[]>} ask gives the answers to questions
+   * @param {(address: number) => void} goTo shows the program there
+   */
+  constructor(changes, explain, ask, goTo) {
+    this.changes = changes;
+    this.ask = ask;
+    /** @type {number[]} the counter, and the return addresses, the newest first */
+    this.addresses = [];
+    /** What the notes are of. */
+    this.noted = "";
+    /** @type {SourceMap | null} */
+    this.map = null;
+    // What is read for addresses of before is not shown.
+    this.asked = 0;
+    this.rows = ["pc", "ret 1", "ret 2", "ret 3"].map((name, at) => (
+      this.makeRow(name, explain(name), () => goTo(this.addressOf(at)))));
+    const root = element("div", { className: "stack" }, ...this.rows.map((row) => row.button));
+    root.setAttribute("role", "group");
+    root.setAttribute("aria-label", say.COUNTER_AND_RETURNS);
+    oneStop(root, () => 1);
+    setStop(root);
+    block("registers").append(root);
+  }
+
+  /**
+   * @param {string} name
+   * @param {string} title what the row shows
+   * @param {() => void} act
+   * @returns {Row}
+   */
+  makeRow(name, title, act) {
+    const value = new Cell(element("span", { className: "value" }));
+    const note = new Cell(element("span", { className: "note" }));
+    const head = element("span", { className: "name", title }, name);
+    const button = element("button", { type: "button" }, head, value.node, note.node);
+    onClick(button, act);
+    return { button, value, note, isLive: new Switch((isLive) => button.classList.toggle("left-over", !isLive)) };
+  }
+
+  /**
+   * Where the program is shown for a row: at the counter, or at the call.
+   * @param {number} at
+   */
+  addressOf(at) {
+    const address = this.addresses[at] || 0;
+    return at > 0 && this.rows[at].isLive.isOn ? callBefore(address) : address;
+  }
+
+  /** @param {Registers} told */
+  show(told) {
+    const texts = [told.counter, ...told.returns];
+    texts.forEach((text, at) => this.changes.set(this.rows[at].value, text));
+    this.addresses = texts.map((text) => parseInt(text, 16));
+  }
+
+  /** The bytes of ROM may have changed. */
+  forget() {
+    this.noted = "";
+  }
+
+  /**
+   * Says what the addresses are, while time stands still.
+   * @param {SourceMap | null} map the program that stands in ROM
+   * @param {boolean} isRunning
+   */
+  async explain(map, isRunning) {
+    if (isRunning) {
+      this.clear();
+      return;
+    }
+    const noted = this.addresses.join(" ");
+    if (noted === this.noted && map === this.map) return;
+    this.noted = noted;
+    this.map = map;
+    this.asked += 1;
+    const { asked } = this;
+    const [counter, ...returns] = this.addresses;
+    const bytes = await this.bytesAt(returns.map(callBefore));
+    if (asked !== this.asked) return;
+    const live = areLive(returns, bytes, map);
+    this.showNotes([noteOfCounter(counter, map), ...returns.map((address, at) => noteOfReturn(address, live[at], map))]);
+  }
+
+  clear() {
+    this.noted = "";
+    this.asked += 1;
+    for (const { note, isLive } of this.rows) {
+      note.set("");
+      isLive.set(true);
+    }
+  }
+
+  /** @param {number[]} addresses */
+  async bytesAt(addresses) {
+    const lines = linesOf(addresses.map((address) => `list 0x${hex(address, 3)} 1`));
+    const answers = matchAnswers(readInputs(lines), await this.ask(lines));
+    return answers.map(([line = ""]) => line.slice(BYTE_FROM, BYTE_END));
+  }
+
+  /** @param {Note[]} notes */
+  showNotes(notes) {
+    notes.forEach(({ isLive, words, title }, at) => {
+      const row = this.rows[at];
+      row.note.set(words);
+      row.isLive.set(isLive);
+      if (row.button.title !== title) row.button.title = title;
+    });
+  }
+}

@@ -1,0 +1,62 @@
+// Faults that everyone makes once, as they happen: a row for each that was told since time began to run, with its line, and a switch that
+// stops time at the next one of its kind.
+
+import { block, element, onClick } from "../ui/dom.js";
+import { KINDS } from "../../words/debug.js";
+import * as say from "../../words/machine.js";
+
+/**
+ * @typedef {import("../../core/debug/usual_faults.js").Kind} Kind
+ * @typedef {import("../../core/debug/usual_faults.js").UsualFault} UsualFault
+ *
+ * What it calls: an address with its name and its line; it is shown; time stops at these from here on, which is kept; how it was chosen.
+ * @typedef {{ wordsOf: (address: number) => string, goTo: (address: number) => void, stopAt: (kinds: Kind[]) => void,
+ *   chosen: () => string, choose: (kinds: string) => void }} UsualCalls
+ */
+
+export class UsualView {
+  /** @param {UsualCalls} calls */
+  constructor(calls) {
+    this.calls = calls;
+    this.block = block("usual");
+    this.list = block("usual-list");
+    const chosen = calls.chosen().split(" ");
+    /** @type {Set<Kind>} */
+    this.stops = new Set(/** @type {Kind[]} */ (Object.keys(KINDS)).filter((kind) => chosen.includes(kind)));
+  }
+
+  /** Time begins to run, or another session is shown. The worker may be another one, too. */
+  clear() {
+    this.calls.stopAt([...this.stops]);
+    this.block.hidden = true;
+    this.list.replaceChildren();
+  }
+
+  /** @param {UsualFault[]} faults */
+  show(faults) {
+    if (faults.length === 0) return;
+    this.list.append(...faults.map((fault) => this.row(fault)));
+    this.block.hidden = false;
+  }
+
+  /** @param {UsualFault} fault */
+  row({ kind, address, words }) {
+    const button = element("button", { type: "button", className: "place" }, this.calls.wordsOf(address));
+    onClick(button, () => this.calls.goTo(address));
+    const stops = element("input", { type: "checkbox", checked: this.stops.has(kind), autocomplete: "off" });
+    stops.addEventListener("change", () => this.choose(kind, stops.checked));
+    const label = element("label", { className: "check", title: say.stopsBefore(KINDS[kind]) }, stops, say.STOP_AT_THIS);
+    return element("li", {}, element("span", { className: "words" }, button, ` ${words}`), label);
+  }
+
+  /**
+   * @param {Kind} kind
+   * @param {boolean} isStop
+   */
+  choose(kind, isStop) {
+    if (isStop) this.stops.add(kind);
+    else this.stops.delete(kind);
+    this.calls.choose([...this.stops].join(" "));
+    this.calls.stopAt([...this.stops]);
+  }
+}

@@ -1,0 +1,114 @@
+// The list of watched expressions: each with its name and what it is now, edited in place.
+
+import { Cell, block, element, field, onClick } from "../ui/dom.js";
+import { MOST_WATCHED, readAllWatched, readWatched } from "../../core/debug/watched.js";
+import * as say from "../../words/machine.js";
+
+/**
+ * @typedef {import("../../core/debug/standing.js").Standing} Standing
+ * @typedef {import("../../core/debug/watched.js").Watched} Watched
+ * @typedef {{ root: HTMLLIElement, value: HTMLElement, shape: string, cells: Cell[] }} Row
+ *
+ * What it calls: a cell that shows a value can be edited; what stands in the machine, null while time runs; the list is another one; its
+ * texts are kept.
+ * @typedef {{ offer: import("../text/meaning_view.js").Offer, standing: () => Standing | null, listed: () => void,
+ *   keep: (texts: string[]) => void }} WatchedCalls
+ */
+
+export class WatchedView {
+  /** @param {WatchedCalls} calls */
+  constructor(calls) {
+    this.calls = calls;
+    this.list = block("watched-list");
+    this.told = block("watched-told");
+    /** @type {Watched[]} */
+    this.all = [];
+    /** @type {Row[]} */
+    this.rows = [];
+    block("watched-form").addEventListener("submit", (event) => {
+      event.preventDefault();
+      this.add();
+    });
+  }
+
+  /** @param {unknown} texts that were kept with a session */
+  open(texts) {
+    this.told.textContent = "";
+    this.take(readAllWatched(texts));
+  }
+
+  add() {
+    const written = field("watched-field");
+    const { watched, fault } = readWatched(written.value);
+    const isFull = this.all.length >= MOST_WATCHED;
+    this.told.textContent = isFull ? say.mostWatched(MOST_WATCHED) : fault;
+    written.setAttribute("aria-invalid", String(this.told.textContent !== ""));
+    if (!watched || isFull) return;
+    written.value = "";
+    this.take([...this.all.filter(({ name }) => name !== watched.name), watched]);
+    this.keep();
+  }
+
+  keep() {
+    this.calls.keep(this.all.map(({ text }) => text));
+  }
+
+  /** @param {Watched[]} all */
+  take(all) {
+    this.all = all;
+    this.rows = all.map((watched) => this.rowOf(watched));
+    this.list.replaceChildren(...this.rows.map(({ root }) => root));
+    this.calls.listed();
+    this.show();
+  }
+
+  /**
+   * @param {Watched} watched
+   * @returns {Row}
+   */
+  rowOf(watched) {
+    const value = element("span", { className: "values" });
+    const remove = element("button", { "type": "button", "className": "small", "aria-label": say.stopWatching(watched.name) }, say.REMOVE);
+    onClick(remove, () => {
+      this.take(this.all.filter((each) => each !== watched));
+      this.keep();
+    });
+    const root = element("li", { title: watched.text }, element("b", {}, watched.name), " ", value, " ", remove);
+    return { root, value, shape: "", cells: [] };
+  }
+
+  /** What they are now; while time runs, what they were. */
+  show() {
+    const standing = this.calls.standing();
+    if (!standing) return;
+    this.all.forEach((watched, at) => this.showRow(this.rows[at], watched, standing));
+  }
+
+  /**
+   * @param {Row} row
+   * @param {Watched} watched
+   * @param {Standing} standing
+   */
+  showRow(row, watched, standing) {
+    const pieces = watched.pieces(standing);
+    const shape = pieces.map((piece) => (typeof piece === "string" ? piece : piece.place)).join("\n");
+    const values = pieces.flatMap((piece) => (typeof piece === "string" ? [] : [piece]));
+    if (shape !== row.shape) {
+      row.shape = shape;
+      row.cells = [];
+      row.value.replaceChildren(...pieces.map((piece) => {
+        if (typeof piece === "string") return piece;
+        const label = `${watched.name}, ${piece.name}`;
+        const cell = new Cell(element("button", { "type": "button", "className": "value", "aria-label": label }));
+        cell.set(piece.value);
+        this.calls.offer(cell.node, piece);
+        row.cells.push(cell);
+        return cell.node;
+      }));
+      return;
+    }
+    row.cells.forEach((cell, at) => {
+      cell.node.classList.toggle("changed", cell.set(values[at].value));
+    });
+  }
+}

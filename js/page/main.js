@@ -1,0 +1,171 @@
+// Starts the page.
+
+import { Bench } from "../core/bench/bench.js";
+import { startWorker } from "./bench/early_replies.js";
+import { block, button, byId, element, field, isDialogOpen, onClick } from "./ui/dom.js";
+import { fromBase64 } from "../core/session/base64.js";
+import { Locks } from "./session/locks.js";
+import { Notice } from "./ui/notice.js";
+import { Page } from "./page.js";
+import { storyOf } from "./session/address.js";
+import { guideOf } from "./session_ties.js";
+import { SPEEDS, speedOf } from "../core/time/speeds.js";
+import { Stepping } from "./time/stepping.js";
+import { inTime, MemoryStore, Store } from "./session/store.js";
+import { Words } from "../core/bench/words.js";
+import * as say from "../words/page.js";
+
+/**
+ * @typedef {import("../core/engine/examples.js").Example} Example
+ * @typedef {import("./session/store.js").SessionStore} SessionStore
+ * @typedef {import("../core/help/manual.js").ManualSection} ManualSection
+ * @typedef {{ refusals: Record<string, string>, examples: Example[], manual: ManualSection[] }} Data what page/build puts into the page
+ */
+
+/** A module that fills memory at once (bulk memory), which the bench's own does: a memory, and a function with `memory.fill`. */
+const BULK_MEMORY_TRIAL = Uint8Array.of(0, 97, 115, 109, 1, 0, 0, 0, 1, 4, 1, 96, 0, 0, 3, 2, 1, 0, 5, 3, 1, 0, 1, 10, 13, 1, 11, 0,
+  65, 0, 65, 0, 65, 0, 252, 11, 0, 11);
+
+/** What the bench needs and this browser lacks, in words; "" where it has all. */
+function lackOfBrowser() {
+  if (typeof WebAssembly !== "object" || !WebAssembly.validate(BULK_MEMORY_TRIAL)) return say.BULK_MEMORY;
+  if (typeof BigInt !== "function") return say.BIG_INTEGERS;
+  if (typeof Worker !== "function") return "workers";
+  if (typeof HTMLDialogElement !== "function") return "dialogs";
+  return "";
+}
+
+/**
+ * @param {boolean} hasLocks
+ * @returns {Promise<SessionStore>}
+ */
+async function openStore(hasLocks) {
+  try {
+    return await inTime(Store.open(hasLocks));
+  } catch {
+    return new MemoryStore();
+  }
+}
+
+/**
+ * The text of a part of the page.
+ * @param {string} id
+ */
+function textOf(id) {
+  return (block(id).textContent || "").trim();
+}
+
+/**
+ * What makes benches, each in a worker that is made of the page's own text.
+ * @param {Example[]} examples
+ */
+function benchMaker(examples) {
+  const address = URL.createObjectURL(new Blob([textOf("worker")], { type: "text/javascript" }));
+  const module = fromBase64(textOf("module")).buffer;
+  return () => new Bench(() => startWorker(address), module, examples);
+}
+
+/** @param {Page} page */
+function listenToButtons(page) {
+  const { recovery, running, serving, travel } = page;
+  const runOrStop = () => running.runOrStop();
+  onClick(button("run"), runOrStop);
+  onClick(button("step"), () => running.step());
+  onClick(button("reset"), () => serving.act("reset\n"));
+  onClick(button("test"), () => serving.act(`test ${page.lookView.test.isOn ? 0 : 1}\n`));
+  onClick(button("from-rom"), () => page.texts.takeFromRom());
+  onClick(button("share-button"), () => page.sharing.share().catch((fault) => recovery.failed(fault)));
+  listenToChoices(page);
+  new Stepping({
+    into: () => running.step(), goOn: (goal) => travel.goOn(goal), goBack: (goal) => travel.goBack(goal), runOrStop, isClosed: isDialogOpen,
+  });
+}
+
+/** @param {Page} page */
+function listenToChoices(page) {
+  const speed = byId("speed", HTMLSelectElement);
+  const typing = field("typing");
+  const { choices } = page.layout;
+  const chosen = SPEEDS.find(({ id }) => id === choices.get("speed"));
+  if (chosen) page.running.clock.setSpeed(chosen);
+  const show = () => {
+    speed.value = page.running.clock.speed.id;
+    typing.checked = page.types;
+  };
+  speed.replaceChildren(...SPEEDS.map(({ id, words }) => element("option", { value: id }, words)));
+  speed.addEventListener("change", () => {
+    choices.set("speed", speed.value);
+    page.running.setSpeed(speedOf(speed.value)).catch((fault) => page.recovery.failed(fault));
+  });
+  typing.addEventListener("change", () => {
+    page.types = typing.checked;
+  });
+  show();
+  // A page that is come back to may have been filled in again by the browser.
+  addEventListener("pageshow", show);
+}
+
+/**
+ * What the browser tells when the page is hidden or goes away: the session is kept at once.
+ * @param {Page} page
+ */
+function listenToLeaving(page) {
+  document.addEventListener("visibilitychange", () => page.running.setHidden(document.hidden));
+  addEventListener("pagehide", () => page.current.keepNow());
+  addEventListener("beforeunload", (event) => {
+    if (!page.store.keeps) event.preventDefault();
+  });
+  // What fails where nothing waits for it is told all the same.
+  addEventListener("error", (event) => {
+    // Browsers tell so that what was measured is shown a frame later; nothing fails.
+    if (!event.error && /^ResizeObserver loop/.test(event.message)) return;
+    page.recovery.failed(event.error || event.message);
+  });
+  addEventListener("unhandledrejection", (event) => page.recovery.failed(event.reason));
+  addEventListener("hashchange", () => page.sessionsController.follow());
+}
+
+/**
+ * @param {Words} words
+ * @param {Notice} notice
+ * @param {Data} data
+ */
+async function start(words, notice, { examples, manual }) {
+  const locks = await Locks.find();
+  const makeBench = benchMaker(examples);
+  const bench = makeBench();
+  const [store] = await Promise.all([openStore(locks.areThere), bench.start()]);
+  const page = new Page({ bench, makeBench, store, locks, words, notice, examples, manual });
+  bench.listener = page.listener();
+  if (!store.keeps) notice.show(say.NO_STORE, "store");
+  const guide = guideOf(page, manual);
+  const story = storyOf(location.search);
+  page.pressing.listenToKeyboard();
+  listenToButtons(page);
+  listenToLeaving(page);
+  await page.sessionsController.openFirst(story);
+  if (story) guide.tell(story, examples);
+  // How many milliseconds it took.
+  document.body.dataset.ready = String(Math.round(performance.now()));
+}
+
+async function main() {
+  const notice = new Notice();
+  // It is for browsers that cannot even run this.
+  block("needs").hidden = true;
+  const lack = lackOfBrowser();
+  if (lack) {
+    notice.show(say.hasNo(lack, textOf("needs")));
+    return;
+  }
+  /** @type {Data} */
+  const data = JSON.parse(textOf("data"));
+  const words = new Words(data.refusals);
+  try {
+    await start(words, notice, data);
+  } catch (fault) {
+    notice.show(say.cannotStart(words.ofFault(fault), textOf("needs")));
+  }
+}
+
+main();

@@ -1,0 +1,173 @@
+// The page: its parts, and what they show of a session. All that is shown comes from answers of the bench.
+
+import { AskView } from "./ui/ask_view.js";
+import { Face } from "../core/board/face.js";
+import { currentSessionOf, recoveryOf, runningOf, servingOf } from "./core.js";
+import { drawSound, drawingOf, lookViewOf, pressingOf, scopeOf } from "./board_ties.js";
+import { breakpointsOf, heatOf, historyOf, travelOf, usualOf, valuesOf, watchedOf } from "./debug_ties.js";
+import { lampNames } from "../core/board/face_board.js";
+import { cellWords } from "../core/help/manual.js";
+import { Layout } from "./layout.js";
+import { LogView } from "./lines/log_view.js";
+import { KeptPast } from "./session/kept_past.js";
+import { exportOf, romFilesOf, sessionsControllerOf, sharingOf } from "./session_ties.js";
+import { editorsOf, exploreOf, nameCharacters, sourceOf, testsOf, textsOf } from "./text_ties.js";
+import { CyclesView } from "./time/cycles_view.js";
+import { TextLooks } from "./text/text_looks.js";
+import { WorkView } from "./ui/work_view.js";
+
+/**
+ * @typedef {import("../core/bench/bench.js").Bench} Bench
+ * @typedef {import("../core/engine/examples.js").Example} Example
+ * @typedef {import("./session/locks.js").Locks} Locks
+ * @typedef {import("../core/help/manual.js").ManualSection} ManualSection
+ * @typedef {import("./ui/notice.js").Notice} Notice
+ * @typedef {import("../core/bench/protocol.js").Shown} Shown
+ * @typedef {import("./session/store.js").SessionRecord} SessionRecord
+ * @typedef {import("./session/store.js").SessionStore} SessionStore
+ * @typedef {import("../core/bench/words.js").Words} Words
+ * @typedef {{ bench: Bench, makeBench: () => Bench, store: SessionStore, locks: Locks, words: Words, notice: Notice, examples: Example[],
+ *   manual: ManualSection[] }} Parts `makeBench` makes another bench, in a worker of its own
+ */
+
+export class Page {
+  /** @param {Parts} parts */
+  constructor(parts) {
+    const { bench, makeBench, store, words, notice, manual } = parts;
+    this.cellWords = cellWords(manual);
+    this.bench = bench;
+    this.store = store;
+    this.words = words;
+    this.notice = notice;
+    /** Whether the keyboard presses keys of the board. */
+    this.types = true;
+    this.past = new KeptPast();
+    this.current = currentSessionOf(this);
+    this.recovery = recoveryOf(this);
+    this.running = runningOf(this);
+    this.serving = servingOf(this);
+    this.pressing = pressingOf(this);
+    this.lookView = lookViewOf(this);
+    this.log = new LogView(words);
+    this.layout = new Layout(() => this.printed());
+    this.work = new WorkView();
+    this.editors = editorsOf(this, manual);
+    this.breakpoints = breakpointsOf(this);
+    this.source = sourceOf(this);
+    this.values = valuesOf(this);
+    this.watched = watchedOf(this);
+    this.heat = heatOf(this);
+    this.cycles = new CyclesView(() => this.current.keep());
+    this.travel = travelOf(this);
+    this.history = historyOf(this);
+    this.ask = new AskView();
+    this.tests = testsOf(this, manual);
+    this.explore = exploreOf(this, manual, makeBench);
+    this.looks = new TextLooks(this.layout.choices, this.textEditors.map(({ editor }) => editor.editor));
+    this.usual = usualOf(this);
+    this.texts = textsOf(this);
+    this.rom = romFilesOf(this);
+    this.export = exportOf(this);
+    this.sessionsController = sessionsControllerOf(this, parts);
+    this.sharing = sharingOf(this);
+    this.drawing = drawingOf(this);
+    this.scope = scopeOf(this);
+  }
+
+  get boardEditor() {
+    return this.editors.board;
+  }
+
+  get programEditor() {
+    return this.editors.program;
+  }
+
+  get textEditors() {
+    return [this.boardEditor, this.programEditor, this.tests.editor, this.explore.editor];
+  }
+
+  get sessions() {
+    return this.sessionsController.view;
+  }
+
+  /**
+   * What the bench tells by itself.
+   * @returns {import("../core/bench/bench.js").Listener}
+   */
+  listener() {
+    return {
+      frame: (frame) => this.running.ran(frame),
+      failed: (fault) => this.recovery.failed(fault),
+      died: () => this.recovery.restart(),
+    };
+  }
+
+  /** The program's text, or what stands in ROM, may be another one. */
+  checkSource() {
+    this.source.check().catch((fault) => this.recovery.failed(fault));
+  }
+
+  /**
+   * What is printed beside the lamps.
+   * @returns {import("./print_view.js").Printed}
+   */
+  printed() {
+    return { name: this.current.name, board: this.boardEditor.text, program: this.programEditor.text };
+  }
+
+  /**
+   * Another session is shown from here on: its texts, and nothing of the one before.
+   * @param {SessionRecord} record
+   */
+  begin(record) {
+    this.past.begin(record.id);
+    this.breakpoints.open(record);
+    this.pressing.forget();
+    this.scope.forget();
+    this.tests.forget();
+    this.usual.clear();
+    this.values.forget();
+    this.heat.clear();
+    this.watched.open(record.watched);
+    this.texts.show(record);
+    this.drawing.begin();
+    this.explore.begin(record.id);
+    this.source.forget();
+    this.log.clear();
+    this.cycles.open(record.cycles);
+  }
+
+  /**
+   * Takes what the session is now, and shows it.
+   * @param {Shown} shown
+   * @param {boolean} [isPassing] whether time has come here and goes on
+   * @param {import("../core/engine/shining.js").Shone | null} [shone] what was lit in that time
+   */
+  show({ look, file, board, total, reset, future, past, waves, printed, waiting }, isPassing = false, shone = null) {
+    const { session } = this.current;
+    if (!session) return;
+    this.bench.giveBack(session.take(file));
+    this.running.asked.waiting = waiting;
+    this.past.take(past, { file: session.record.file, total, reset });
+    this.cycles.take({ total, reset }, this.running.clock.isRunning);
+    session.record.cycles = this.cycles.cycles.kept;
+    this.history.showFuture(future);
+    if (board) {
+      this.lookView.draw(board, this.boardEditor.text);
+      this.drawing.wired(board);
+      this.history.draw(this.lookView.board, lampNames(new Face(this.boardEditor.text), this.lookView.board.lamps.length));
+      this.editors.look(board.length === 1);
+      this.heat.wired();
+      drawSound(this, this.boardEditor.text);
+      nameCharacters(this);
+    }
+    this.lookView.show(look, isPassing, shone);
+    if (printed) {
+      session.record.printed = printed;
+      this.lookView.strip.take(printed);
+    }
+    this.values.looked(total);
+    this.heat.looked();
+    this.scope.take(waves);
+  }
+}

@@ -1,0 +1,180 @@
+// The session that is shown: another one is shown in its place, it is kept, and its name stands where names stand.
+
+import { field, block } from "../ui/dom.js";
+import { wordsOfBroken } from "../../words/stops.js";
+import { NONE } from "../../core/time/cycles.js";
+import { addressOf } from "./address.js";
+import { KeptSession } from "./kept_session.js";
+import { shortName } from "../../core/session/names.js";
+import * as say from "../../words/session.js";
+
+/**
+ * @typedef {import("./locks.js").Release} Release
+ * @typedef {import("../../core/bench/bench.js").Bench} Bench
+ * @typedef {import("../../core/bench/ran.js").RanEntry} RanEntry
+ * @typedef {import("./kept_past.js").KeptPast} KeptPast
+ * @typedef {import("../../core/bench/protocol.js").Shown} Shown
+ * @typedef {import("./store.js").SessionRecord} SessionRecord
+ * @typedef {import("./store.js").SessionStore} SessionStore
+ *
+ * What it calls: another session is shown from here on; what it is now is shown; whether the source is what stands in ROM; time runs, or
+ * stands still, and words tell why; no more of it passes; where it stands still; something was done in the session; what time
+ * has done since that was logged last, and it is logged; why the session is not kept, "" where it is.
+ * @typedef {{ begin: (record: SessionRecord) => void, show: (shown: Shown) => void, checkSource: () => void, run: () => void,
+ *   halted: (words: string) => void, standStill: () => Promise<void>, where: () => string, touched: () => void, ran: () => RanEntry[],
+ *   showRan: (ran: RanEntry[], fault: string) => void, notKept: (words: string) => void }} CurrentCalls
+ */
+
+export class CurrentSession {
+  /**
+   * @param {Bench} bench
+   * @param {SessionStore} store
+   * @param {CurrentCalls} calls
+   * @param {KeptPast} past
+   */
+  constructor(bench, store, calls, past) {
+    this.bench = bench;
+    this.store = store;
+    this.calls = calls;
+    this.past = past;
+    /** @type {KeptSession | null} */
+    this.session = null;
+    /** When it was kept last. */
+    this.kept = 0;
+  }
+
+  /**
+   * Shows a session in the place of the one that is here, which stays where the new one is refused.
+   * @param {SessionRecord} record
+   * @param {Release} release
+   * @param {string} example where nothing was done yet in a session of an example, its name
+   */
+  async use(record, release, example) {
+    const { bench, store, calls } = this;
+    await bench.call("settled", [record.file]);
+    const old = this.session;
+    if (old) await this.leave();
+    const shown = await this.open(record);
+    if (old) old.release();
+    this.session = new KeptSession(store, record, release, example);
+    calls.begin(record);
+    calls.show(shown);
+    this.showName();
+    block("bench").hidden = false;
+    block("session-bar").hidden = false;
+    calls.checkSource();
+    await this.keep();
+    const { goal, runs } = record;
+    if (runs && !goal) calls.run();
+    else calls.halted(goal ? wordsOfBroken(goal, runs, calls.where()) : say.STOPPED);
+    await this.remember();
+  }
+
+  /** What was done before the page was loaded anew can be gone back to. */
+  async remember() {
+    const { bench, past } = this;
+    const recalled = past.recalled();
+    const count = recalled.length > 0 ? await bench.call("recall", [recalled]).catch(() => -1) : -1;
+    if (count >= 0) past.goOn(recalled, count);
+  }
+
+  /** Keeps the session that is left. Whether its time runs stays in its record, so that it goes on when it is come back to. */
+  async leave() {
+    await this.calls.standStill();
+    await this.keep();
+  }
+
+  /**
+   * @param {SessionRecord} record
+   * @returns {Promise<Shown>}
+   */
+  async open(record) {
+    try {
+      return await this.callOpen(record);
+    } catch (fault) {
+      if (this.session) this.calls.halted(say.STOPPED);
+      throw fault;
+    }
+  }
+
+  /**
+   * @param {SessionRecord} record
+   * @returns {Promise<Shown>}
+   */
+  callOpen({ file, cycles = NONE, printed }) {
+    return this.bench.call("open", [file, cycles.total, cycles.reset, printed || null]);
+  }
+
+  get name() {
+    return this.session ? this.session.record.name : "";
+  }
+
+  showTitle() {
+    field("name").value = this.name;
+    document.title = say.titleOfPage(this.name);
+  }
+
+  /** Its name stands in its field and in the title of the tab; its address is the one of this session, or of the example that it is yet. */
+  showName() {
+    if (!this.session) return;
+    const { record, example } = this.session;
+    this.showTitle();
+    block("hello").hidden = example === "";
+    location.replace(example ? addressOf("example", example) : addressOf("session", record.id));
+  }
+
+  /**
+   * A session that was given no name is called by its title, once it has one.
+   * @param {string} title
+   */
+  takeTitle(title) {
+    const name = shortName(title.replace(/\.$/, ""));
+    if (!this.session || !this.session.record.isTitled || name === "" || name === this.session.record.name) return;
+    this.session.record.name = name;
+    this.showTitle();
+  }
+
+  /** @param {string} name */
+  async rename(name) {
+    if (!this.session) return;
+    this.session.record.isTitled = false;
+    this.session.record.name = name.trim() || "session";
+    this.touch();
+    this.showName();
+    await this.keep();
+  }
+
+  /** Something is done in it: from here on it is kept. */
+  touch() {
+    if (!this.session) return;
+    this.calls.touched();
+    if (!this.session.touch()) return;
+    this.showName();
+    this.keep();
+  }
+
+  /** The same, and it is kept now; gives why it was not, "" where it was. */
+  touchAndKeep() {
+    this.touch();
+    return this.keep();
+  }
+
+  /** Writes it to the store; what time has done is in the log once that is through. */
+  async keep() {
+    if (!this.session) return "";
+    const { calls } = this;
+    this.kept = performance.now();
+    const ran = calls.ran();
+    const fault = await this.session.keep();
+    calls.showRan(ran, fault);
+    calls.notKept(fault && say.notKept(fault));
+    return fault;
+  }
+
+  /** The same for a page that is just going away. */
+  keepNow() {
+    if (!this.session) return;
+    this.session.keepNow();
+    this.past.leave();
+  }
+}

@@ -1,0 +1,63 @@
+// The dialog that puts a part of the session into a file of its own: a text, or what stands in ROM.
+
+import { button, element, onClick } from "../ui/dom.js";
+import { download } from "./download.js";
+import * as say from "../../words/session.js";
+
+/**
+ * What it calls: the session's name; its texts; what stands in ROM, in Intel HEX and byte by byte; a call failed.
+ * @typedef {{ name: () => string, board: () => string, program: () => string, hex: () => Promise<string>, image: () => Promise<Uint8Array>,
+ *   failed: (fault: unknown) => void }} ExportCalls
+ *
+ * A file: its ending, what is in it, and whether there is anything to put into it now.
+ * @typedef {{ ending: string, what: string, make: () => string | Uint8Array | Promise<string | Uint8Array> }} ExportedFile
+ */
+
+export class ExportView {
+  /** @param {ExportCalls} calls */
+  constructor(calls) {
+    this.calls = calls;
+    this.told = element("p", { className: "told", role: "status" });
+    const close = element("button", { type: "button" }, say.CLOSE);
+    this.dialog = element("dialog", { "id": "export", "aria-labelledby": "export-title" },
+      element("div", { className: "bar" }, element("h2", { id: "export-title" }, say.EXPORT), close),
+      element("ul", { "aria-label": say.FILES }, ...this.files().map((file) => this.row(file))), this.told);
+    document.body.append(this.dialog);
+    onClick(close, () => this.dialog.close());
+    onClick(button("export-button"), () => this.open());
+  }
+
+  /** @returns {ExportedFile[]} */
+  files() {
+    const { calls } = this;
+    return [
+      { ending: ".asm", what: say.SOURCE_FILE, make: calls.program },
+      { ending: ".toml", what: say.BOARD_FILE, make: calls.board },
+      { ending: ".hex", what: say.HEX_FILE, make: calls.hex },
+      { ending: ".bin", what: say.BIN_FILE, make: calls.image },
+    ];
+  }
+
+  /** @param {ExportedFile} file */
+  row(file) {
+    const save = element("button", { type: "button" }, say.saveAs(file.ending));
+    onClick(save, () => this.save(file).catch(this.calls.failed));
+    return element("li", {}, save, element("span", { className: "grow" }, file.what));
+  }
+
+  open() {
+    this.told.textContent = "";
+    this.dialog.showModal();
+  }
+
+  /** @param {ExportedFile} file */
+  async save({ ending, what, make }) {
+    const made = await make();
+    if (made.length === 0) {
+      this.told.textContent = say.nothingSaved(what);
+      return;
+    }
+    download(this.calls.name(), ending, new Blob([made], { type: "application/octet-stream" }));
+    this.dialog.close();
+  }
+}

@@ -1,0 +1,77 @@
+// The files of a folder that is dropped on the page, and those of several files of which one is a project file.
+
+import { PROJECT_FILE } from "../../core/project/project_toml.js";
+
+/** @typedef {{ name: string, files: Map<string, File> }} Folder its files by their paths in it */
+
+/** A project has fewer, and its folders are not as deep. */
+const MOST_FILES = 400;
+const MOST_DEPTH = 6;
+
+/**
+ * The folders among what is dropped. They are asked for while the event is there.
+ * @param {DataTransfer | null} data
+ * @returns {FileSystemDirectoryEntry[]}
+ */
+export function foldersOf(data) {
+  const items = (data ? [...data.items] : []).filter((item) => item.kind === "file" && item.webkitGetAsEntry);
+  const entries = items.map((item) => item.webkitGetAsEntry());
+  return entries.flatMap((entry) => (entry && entry.isDirectory ? [/** @type {FileSystemDirectoryEntry} */ (entry)] : []));
+}
+
+/**
+ * All that a folder has; a browser tells it in parts.
+ * @param {FileSystemDirectoryEntry} folder
+ * @returns {Promise<FileSystemEntry[]>}
+ */
+async function entriesIn(folder) {
+  const reader = folder.createReader();
+  /** @type {FileSystemEntry[]} */
+  const all = [];
+  for (;;) {
+    /** @type {FileSystemEntry[]} */
+    const some = await new Promise((resolve, reject) => { reader.readEntries(resolve, reject); });
+    if (some.length === 0 || all.length > MOST_FILES) return all;
+    all.push(...some);
+  }
+}
+
+/**
+ * @param {FileSystemDirectoryEntry} folder
+ * @param {string} before its path in the one that was dropped
+ * @param {Map<string, File>} files
+ * @param {number} depth
+ */
+async function readInto(folder, before, files, depth) {
+  for (const entry of await entriesIn(folder)) {
+    if (files.size >= MOST_FILES) return;
+    const path = before + entry.name;
+    if (entry.isFile) {
+      const own = /** @type {FileSystemFileEntry} */ (entry);
+      files.set(path, await new Promise((resolve, reject) => { own.file(resolve, reject); }));
+    } else if (depth < MOST_DEPTH && !entry.name.startsWith(".")) {
+      await readInto(/** @type {FileSystemDirectoryEntry} */ (entry), `${path}/`, files, depth + 1);
+    }
+  }
+}
+
+/**
+ * @param {FileSystemDirectoryEntry} entry
+ * @returns {Promise<Folder>}
+ */
+export async function readFolder(entry) {
+  /** @type {Map<string, File>} */
+  const files = new Map();
+  await readInto(entry, "", files, 0);
+  return { name: entry.name, files };
+}
+
+/**
+ * Several files as a folder, where one of them is a project file; null for any others.
+ * @param {File[]} files
+ * @returns {Folder | null}
+ */
+export function folderOfFiles(files) {
+  const isProject = files.length > 1 && files.some(({ name }) => name === PROJECT_FILE);
+  return isProject ? { name: "", files: new Map(files.map((file) => [file.name, file])) } : null;
+}

@@ -1,0 +1,72 @@
+// The texts of a folder with a project file: what a new session on the page begins with.
+
+import { ProjectFault, readProject } from "../../core/project/project_folder.js";
+import { LONGEST_PROJECT_FILE, PROJECT_FILE } from "../../core/project/project_toml.js";
+import { NotForTheBench, openedFile } from "../../core/session/opened_file.js";
+import { LONGEST_PROJECT } from "../../core/session/project_file.js";
+import * as say from "../../words/session.js";
+
+/**
+ * @typedef {import("./folder_files.js").Folder} Folder
+ * @typedef {import("../../core/engine/examples.js").Example} Example
+ * @typedef {import("../../core/session/opened_file.js").FileTexts} FileTexts
+ *
+ * The texts, the speed that is wanted ("" for none), and words of what the page has no room for.
+ * @typedef {{ texts: Example, speed: string, words: string }} FolderTexts
+ */
+
+/**
+ * @param {File} file
+ * @param {number} most
+ */
+async function bytesOf(file, most) {
+  return new Uint8Array(await file.slice(0, most + 1).arrayBuffer());
+}
+
+/**
+ * A text of a kind in a file of a folder; "" where none is named.
+ * @param {Map<string, File>} files
+ * @param {string} path
+ * @param {"board" | "program" | "tests" | "properties"} kind
+ */
+async function textIn(files, path, kind) {
+  const file = files.get(path);
+  if (!file) return "";
+  const opened = openedFile(path, await bytesOf(file, LONGEST_PROJECT));
+  const text = opened.kind === "texts" ? opened.texts[kind] : null;
+  if (text === null) throw new NotForTheBench(say.noText(path, kind.endsWith("s") ? kind : `a ${kind}`));
+  return text;
+}
+
+/**
+ * The page has one text of each kind; those that it leaves out are named.
+ * @param {string[][]} lists
+ */
+function leftOut(lists) {
+  const rest = lists.flatMap((paths) => paths.slice(1));
+  return rest.length === 0 ? "" : say.leftOut(rest.join(", "), rest.length === 1);
+}
+
+/**
+ * It throws where the folder is no project, or a file of it is not what it has to be.
+ * @param {Folder} folder
+ * @returns {Promise<FolderTexts>}
+ */
+export async function textsOfFolder({ name, files }) {
+  const own = files.get(PROJECT_FILE);
+  if (!own) throw new ProjectFault(PROJECT_FILE, say.NO_PROJECT_FILE);
+  /** @type {(path: string) => string} */
+  const look = (path) => (files.has(path) ? "" : say.noFile(path));
+  const { board, program, tests, properties, speed } = readProject(await bytesOf(own, LONGEST_PROJECT_FILE), look);
+  const texts = {
+    name: name || program.replace(/^.*\//, "").replace(/\.[^.]*$/, ""),
+    title: "",
+    board: await textIn(files, board, "board"),
+    program: await textIn(files, program, "program"),
+    tests: await textIn(files, tests[0], "tests"),
+    properties: await textIn(files, properties[0], "properties"),
+    lines: "",
+    project: "",
+  };
+  return { texts, speed, words: leftOut([tests, properties]) };
+}

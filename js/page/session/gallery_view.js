@@ -1,0 +1,32 @@
+// Draws the picture of an example.
+
+import { galleryPicture } from "../../core/session/gallery_picture.js";
+import { drawn } from "../ui/svg.js";
+
+/** @typedef {import("../../core/session/gallery_picture.js").Shape} Shape */
+
+/**
+ * @param {Shape} shape
+ * @returns {SVGElement[]}
+ */
+function nodesOf(shape) {
+  if (shape.kind === "lamp") {
+    return [drawn("circle", { class: `lamp ${shape.colour}${shape.isLit ? " lit" : ""}`, cx: shape.x, cy: shape.y, r: shape.size })];
+  }
+  const { x, y, width, height } = shape;
+  const [middle, base] = [x + width / 2, y + height / 2];
+  if (shape.kind === "key") {
+    return [drawn("rect", { class: "cap", x, y, width, height, rx: 2 }), drawn("text", { x: middle, y: base + 3 }, shape.legend)];
+  }
+  return [drawn("rect", { class: "glass", x, y, width, height, rx: 2 }),
+    drawn("text", { class: "digits", x: x + width - 5, y: base + 6 }, shape.digits)];
+}
+
+/**
+ * A picture of a board's front; those who do not see it have the example's words beside it.
+ * @param {string} boardText
+ */
+export function pictureOf(boardText) {
+  const { width, height, shapes } = galleryPicture(boardText);
+  return drawn("svg", { class: "picture", viewBox: `0 0 ${width} ${height}`, "aria-hidden": "true" }, ...shapes.flatMap(nodesOf));
+}

@@ -1,0 +1,129 @@
+// The list of the sessions that are kept: opened and copied one by one, deleted one by one or several at once, and brought back.
+
+import { block, button, element, field } from "../ui/dom.js";
+import { pictureOf } from "./gallery_view.js";
+import * as say from "../../words/session.js";
+
+/**
+ * @typedef {import("./store.js").SessionRecord} SessionRecord
+ *
+ * What it calls; `choose` does something that closes the dialog unless it is refused.
+ * @typedef {{ isShown: (id: string) => boolean, open: (id: string) => Promise<boolean>, copy: (id: string) => Promise<boolean>,
+ *   remove: (records: SessionRecord[]) => Promise<void>, deleted: () => SessionRecord[],
+ *   bringBack: (records: SessionRecord[]) => Promise<void>, choose: (act: () => Promise<boolean>) => void,
+ *   button: (word: string, label: string, act: () => void) => HTMLButtonElement }} ListCalls
+ */
+
+export class KeptList {
+  /** @param {ListCalls} calls */
+  constructor(calls) {
+    this.calls = calls;
+    this.list = block("kept");
+    this.bin = block("deleted");
+    /** @type {SessionRecord[]} */
+    this.records = [];
+    /** The sessions that are ticked, by their ids. */
+    this.chosen = new Set();
+    field("choose-all").addEventListener("change", () => this.chooseAll(field("choose-all").checked));
+    button("delete-chosen").addEventListener("click", () => this.removeChosen());
+  }
+
+  /** Those that can be deleted: the one that is shown stays. */
+  get removable() {
+    return this.records.filter((record) => !this.calls.isShown(record.id));
+  }
+
+  /** @param {SessionRecord[]} records */
+  draw(records) {
+    this.records = records;
+    const { removable } = this;
+    this.chosen = new Set(removable.map(({ id }) => id).filter((id) => this.chosen.has(id)));
+    this.list.replaceChildren(...records.map((record) => this.line(record)));
+    const deleted = this.calls.deleted();
+    block("bin").hidden = deleted.length === 0;
+    this.bin.replaceChildren(...deleted.map((record) => this.deletedLine(record)));
+    block("choosing").hidden = removable.length < 2;
+    this.showChosen();
+  }
+
+  showChosen() {
+    const remove = button("delete-chosen");
+    remove.disabled = this.chosen.size === 0;
+    remove.textContent = this.chosen.size === 0 ? say.DELETE_CHOSEN : say.deleteSome(this.chosen.size);
+    field("choose-all").checked = this.chosen.size > 0 && this.chosen.size === this.removable.length;
+  }
+
+  /** @param {boolean} isChosen */
+  chooseAll(isChosen) {
+    this.chosen = new Set(isChosen ? this.removable.map(({ id }) => id) : []);
+    this.draw(this.records);
+  }
+
+  /** @param {SessionRecord} record */
+  line(record) {
+    const isHere = this.calls.isShown(record.id);
+    const { name, id } = record;
+    const open = this.calls.button(isHere ? say.SHOWN : say.OPEN, say.openNamed(name), () => this.calls.choose(() => this.calls.open(id)));
+    open.disabled = isHere;
+    const copy = this.calls.button(say.COPY, say.copyNamed(name), () => this.calls.choose(() => this.calls.copy(id)));
+    const remove = this.calls.button(say.DELETE, say.deleteNamed(name), () => this.remove([record]));
+    remove.disabled = isHere;
+    return element("li", {}, this.tick(record, isHere), pictureOf(record.boardText), nameAndTime(record), open, copy, remove);
+  }
+
+  /**
+   * @param {SessionRecord} record
+   * @param {boolean} isHere
+   */
+  tick({ id, name }, isHere) {
+    const made = element("input", { type: "checkbox", checked: this.chosen.has(id), disabled: isHere, autocomplete: "off" });
+    made.setAttribute("aria-label", say.chooseNamed(name));
+    made.addEventListener("change", () => {
+      if (made.checked) this.chosen.add(id);
+      else this.chosen.delete(id);
+      this.showChosen();
+    });
+    return made;
+  }
+
+  /** @param {SessionRecord} record */
+  deletedLine(record) {
+    const back = this.calls.button(say.BRING_BACK, say.bringBackNamed(record.name), async () => {
+      await this.calls.bringBack([record]);
+      this.giveFocus(0);
+    });
+    return element("li", {}, pictureOf(record.boardText), nameAndTime(record), back);
+  }
+
+  removeChosen() {
+    return this.remove(this.records.filter(({ id }) => this.chosen.has(id)));
+  }
+
+  /**
+   * Whoever uses the keyboard goes on at the line that has come in the place of the first one.
+   * @param {SessionRecord[]} records
+   */
+  async remove(records) {
+    const at = this.records.indexOf(records[0]);
+    await this.calls.remove(records);
+    this.giveFocus(at);
+  }
+
+  /** @param {number} at */
+  giveFocus(at) {
+    const line = this.list.children[Math.min(at, this.list.children.length - 1)];
+    const next = line && line.querySelector("button:not(:disabled)");
+    if (next instanceof HTMLElement) next.focus();
+    else button("close-sessions").focus();
+  }
+}
+
+/**
+ * Its name, when it was changed last, and how many cycles it has counted.
+ * @param {SessionRecord} record
+ */
+function nameAndTime({ name, changed, cycles }) {
+  const when = new Date(changed).toLocaleString([], { dateStyle: "medium", timeStyle: "short" });
+  const counted = cycles && cycles.total > 0 ? say.withCycles(cycles.total.toLocaleString("en")) : "";
+  return element("span", { className: "grow" }, name, element("small", {}, `${when}${counted}`));
+}

@@ -1,0 +1,109 @@
+// A session that is open in this tab: its record, which is the newest that the bench has told, and how it is kept.
+
+import { shortName } from "../../core/session/names.js";
+import { inTime, wordsOfStoreFault } from "./store.js";
+
+/**
+ * @typedef {import("./locks.js").Release} Release
+ * @typedef {import("./store.js").SessionRecord} SessionRecord
+ * @typedef {import("./store.js").SessionStore} SessionStore
+ */
+
+let made = 0;
+
+/**
+ * @param {string} name
+ * @param {Uint8Array} file
+ * @param {{ boardText: string, programText: string, testText?: string, propertiesText?: string,
+ *   breakpoints?: SessionRecord["breakpoints"] }} texts
+ * @param {boolean} runs
+ * @returns {SessionRecord}
+ */
+export function newRecord(name, file, { boardText, programText, testText = "", propertiesText = "", breakpoints }, runs = false) {
+  made += 1;
+  const id = `${Date.now().toString(36)}-${made}-${Math.floor(Math.random() * 1e9).toString(36)}`;
+  const texts = { boardText, programText, testText, propertiesText };
+  const own = { id, name: shortName(name) || "session", file, ...texts, runs, revision: 0, changed: Date.now() };
+  return breakpoints ? { ...own, breakpoints } : own;
+}
+
+export class KeptSession {
+  /**
+   * @param {SessionStore} store
+   * @param {SessionRecord} record
+   * @param {Release} release gives the lock of the session back
+   * @param {string} example where nothing was done yet in a session of an example, the name of it; such a session is not kept
+   */
+  constructor(store, record, release, example = "") {
+    this.store = store;
+    this.record = record;
+    this.release = release;
+    this.example = example;
+    /** @type {Promise<string>} the write that is under way */
+    this.writing = Promise.resolve("");
+    /** @type {Promise<string> | null} the write after it */
+    this.waiting = null;
+  }
+
+  /**
+   * Takes the new bytes of the file; gives the array of the old ones, which is free then.
+   * @param {ArrayBuffer} file
+   * @returns {ArrayBuffer}
+   */
+  take(file) {
+    const old = this.record.file.buffer;
+    this.record.file = new Uint8Array(file);
+    return old;
+  }
+
+  /**
+   * Writes what the session is now. The promise gives "" once it is on the disk, and else what went wrong, in words. Calls that come
+   * while it writes share the next write. A store that does not answer is told, and written to again once it does.
+   * @returns {Promise<string>}
+   */
+  keep() {
+    return this.isUntouched ? Promise.resolve("") : inTime(this.writeNext()).catch(wordsOfStoreFault);
+  }
+
+  /** @returns {Promise<string>} */
+  writeNext() {
+    if (this.waiting === null) {
+      this.waiting = this.writing.then(() => {
+        this.waiting = null;
+        this.writing = this.write();
+        return this.writing;
+      });
+    }
+    return this.waiting;
+  }
+
+  /**
+   * The same for a page that is just going away and cannot wait. A store whose writes need an answer in between is asked for none: the
+   * answer would not come any more, and what was begun would hold the store against other pages.
+   */
+  keepNow() {
+    return this.store.isWhole && !this.isUntouched ? this.write() : Promise.resolve("");
+  }
+
+  get isUntouched() {
+    return this.example !== "";
+  }
+
+  /** Something is done in the session: from here on it is kept. Tells whether this is the first time. */
+  touch() {
+    const { isUntouched } = this;
+    this.example = "";
+    return isUntouched;
+  }
+
+  /** @returns {Promise<string>} */
+  async write() {
+    try {
+      this.record.changed = Date.now();
+      await this.store.put(this.record);
+      return "";
+    } catch (fault) {
+      return wordsOfStoreFault(fault);
+    }
+  }
+}

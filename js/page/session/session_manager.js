@@ -1,0 +1,220 @@
+// Sessions and files: opening, making, copying, saving. A session that cannot be opened leaves the one that is shown alone.
+
+import { download } from "./download.js";
+import { runsAtOnce } from "../../core/engine/examples.js";
+import { newRecord } from "./kept_session.js";
+import { textsOfFolder } from "./folder_project.js";
+import { openedFile } from "../../core/session/opened_file.js";
+import { LONGEST_PROJECT, projectText, readProject, wordsOfLength } from "../../core/session/project_file.js";
+import { NotKept, wordsOfStoreFault } from "./store.js";
+import * as say from "../../words/session.js";
+
+/**
+ * @typedef {import("../../core/bench/bench.js").Bench} Bench
+ * @typedef {import("../../core/engine/examples.js").Example} Example
+ * @typedef {import("./kept_session.js").KeptSession} KeptSession
+ * @typedef {import("./locks.js").Locks} Locks
+ * @typedef {import("./locks.js").Release} Release
+ * @typedef {import("./store.js").SessionRecord} SessionRecord
+ * @typedef {import("./store.js").SessionStore} SessionStore
+ * @typedef {import("../../core/bench/words.js").Words} Words
+ *
+ * What it calls: the session that is shown; it is kept; another one is shown in its place; one was left for a new one; something was
+ * refused; texts of a file come into the editors, and an image into ROM; time runs at another speed.
+ * @typedef {{ session: () => KeptSession | null, keep: () => Promise<string>, refuse: (words: string) => void,
+ *   speed: (id: string) => void,
+ *   left: (record: SessionRecord) => void, texts: (name: string, texts: import("../../core/session/opened_file.js").FileTexts) => void,
+ *   image: (name: string, bytes: Int16Array) => Promise<void>,
+ *   use: (record: SessionRecord, release: Release, example: string) => Promise<void> }} ManagerCalls where nothing was done yet in a
+ *   session of an example, `example` is its name
+ */
+
+
+export class SessionManager {
+  /**
+   * @param {Bench} bench
+   * @param {SessionStore} store
+   * @param {Locks} locks
+   * @param {Words} words
+   * @param {ManagerCalls} calls
+   */
+  constructor(bench, store, locks, words, calls) {
+    this.bench = bench;
+    this.store = store;
+    this.locks = locks;
+    this.words = words;
+    this.calls = calls;
+  }
+
+  /** The sessions that are kept, the one that was changed last before the others. */
+  async kept() {
+    try {
+      return (await this.store.all()).sort((a, b) => b.changed - a.changed);
+    } catch (fault) {
+      this.calls.refuse(say.cannotReadKept(wordsOfStoreFault(fault)));
+      return [];
+    }
+  }
+
+  /** @param {string} id */
+  async keptRecord(id) {
+    const record = await this.store.get(id);
+    if (!record) throw new NotKept(say.NO_LONGER_KEPT);
+    return record;
+  }
+
+  /**
+   * @param {string} words
+   * @returns {false}
+   */
+  refuse(words) {
+    this.calls.refuse(words);
+    return false;
+  }
+
+  /**
+   * Opens a session that is kept; false where it is in use elsewhere, gone or damaged, which is told.
+   * @param {string} id
+   */
+  async open(id) {
+    const release = await this.locks.take(id);
+    if (!release) return this.refuse(say.IN_ANOTHER_TAB);
+    try {
+      await this.calls.use(await this.keptRecord(id), release, "");
+      return true;
+    } catch (fault) {
+      release();
+      return this.refuse(say.notOpened(this.words.ofFault(fault)));
+    }
+  }
+
+  /**
+   * Makes a record, takes its lock and shows it.
+   * @param {() => Promise<SessionRecord>} make
+   * @param {string} example
+   */
+  async useNew(make, example = "") {
+    const before = this.calls.session();
+    try {
+      const record = await make();
+      await this.calls.use(record, (await this.locks.take(record.id)) || (() => {}), example);
+      if (before && !before.isUntouched) this.calls.left(before.record);
+      return true;
+    } catch (fault) {
+      return this.refuse(say.notMade(this.words.ofFault(fault)));
+    }
+  }
+
+  /**
+   * A new session from an example.
+   * @param {Example} example
+   */
+  begin(example) {
+    return this.useNew(() => (example.project === "" ? this.ofExample(example) : this.ofProjectOf(example)), example.name);
+  }
+
+  /** @param {Example} example */
+  async ofExample(example) {
+    const { board, program, tests, properties } = example;
+    const texts = { boardText: board, programText: program, testText: tests, propertiesText: properties };
+    const record = newRecord(example.name, await this.bench.call("make", [example]), texts, runsAtOnce(example));
+    return { ...record, isTitled: example.board === "" && example.program === "" };
+  }
+
+  /**
+   * An example that is a project; its properties stand beside it.
+   * @param {Example} example
+   */
+  async ofProjectOf({ project, properties }) {
+    return { ...(await this.ofProject(new TextEncoder().encode(project))), propertiesText: properties };
+  }
+
+  /** @param {string} id */
+  async copy(id) {
+    const shown = this.calls.session();
+    if (shown && shown.record.id === id) await this.calls.keep();
+    return this.useNew(async () => {
+      const record = await this.keptRecord(id);
+      return newRecord(say.aCopy(record.name), record.file, record);
+    });
+  }
+
+  /**
+   * A file becomes a new session, where it is a project or a session; its texts come into the editors of the one that is shown, and an
+   * image into its ROM.
+   * @param {File} file
+   */
+  async openFile(file) {
+    try {
+      const bytes = new Uint8Array(await file.slice(0, LONGEST_PROJECT + 1).arrayBuffer());
+      const opened = openedFile(file.name, bytes);
+      if (opened.kind === "texts") this.calls.texts(file.name, opened.texts);
+      else if (opened.kind === "image") await this.calls.image(file.name, opened.bytes);
+      else return await this.openSession(opened.kind === "project" ? await this.ofProject(bytes) : await this.ofSession(file.name, bytes));
+      return true;
+    } catch (fault) {
+      return this.refuse(say.fileNotOpened(file.name, this.words.ofFault(fault)));
+    }
+  }
+
+  /**
+   * A folder with a project file becomes a new session.
+   * @param {() => Promise<import("./folder_files.js").Folder>} read
+   */
+  async openFolder(read) {
+    let name = say.THE_FOLDER;
+    try {
+      const folder = await read();
+      name = folder.name || name;
+      const { texts, speed, words } = await textsOfFolder(folder);
+      const isDone = await this.openSession(await this.ofExample(texts));
+      if (isDone && speed) this.calls.speed(speed);
+      if (isDone && words) this.calls.refuse(words);
+      return isDone;
+    } catch (fault) {
+      return this.refuse(say.fileNotOpened(name, this.words.ofFault(fault)));
+    }
+  }
+
+  /** @param {SessionRecord} record that was read from a file */
+  openSession(record) {
+    return this.useNew(async () => record);
+  }
+
+  /**
+   * A project's session stays as it is, to the byte.
+   * @param {Uint8Array} bytes
+   */
+  async ofProject(bytes) {
+    const project = readProject(bytes, this.bench.size);
+    await this.bench.call("settled", [project.file]);
+    return newRecord(project.name || "session", project.file, project);
+  }
+
+  /**
+   * The bench itself says whether bytes are a session.
+   * @param {string} fileName
+   * @param {Uint8Array} bytes
+   */
+  async ofSession(fileName, bytes) {
+    // One byte more than a session has is enough for the bench to see that it is too long.
+    const settled = await this.bench.call("settled", [bytes.slice(0, this.bench.size + 1)]);
+    const texts = await this.bench.call("texts", [settled]);
+    return newRecord(fileName.replace(/\.mcs$/i, ""), settled, texts);
+  }
+
+  /** Saves the session that is shown with its texts, as a project; but not one that could not be opened. */
+  save() {
+    const session = this.calls.session();
+    if (!session) return;
+    const tooLong = wordsOfLength(session.record);
+    if (tooLong) this.refuse(say.noProjectSaved(tooLong));
+    else download(session.record.name, ".mcsp", new Blob([projectText(session.record)], { type: "application/octet-stream" }));
+  }
+
+  /** Saves the session alone, for the program. */
+  saveSession() {
+    const session = this.calls.session();
+    if (session) download(session.record.name, ".mcs", new Blob([session.record.file], { type: "application/octet-stream" }));
+  }
+}

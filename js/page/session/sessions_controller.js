@@ -1,0 +1,209 @@
+// Sessions on the page: which one is shown first, what the dialog of sessions does, and what an address names.
+
+import { readAddress } from "./address.js";
+import { Bin, namesOf } from "./bin.js";
+import { shortName } from "../../core/session/names.js";
+import { Openings } from "./openings.js";
+import { SessionManager } from "./session_manager.js";
+import { FIRST_PROGRAM } from "../../core/help/tour.js";
+import { OfferedLines } from "./offered_lines.js";
+import { Persistence } from "./persistence.js";
+import { SessionsView } from "./sessions_view.js";
+import * as say from "../../words/session.js";
+
+/**
+ * @typedef {import("../../core/engine/examples.js").Example} Example
+ * @typedef {import("./kept_session.js").KeptSession} KeptSession
+ * @typedef {import("./locks.js").Release} Release
+ * @typedef {import("./store.js").SessionRecord} SessionRecord
+ * @typedef {{ bench: import("../../core/bench/bench.js").Bench, store: import("./store.js").SessionStore, locks: import("./locks.js").Locks,
+ *   words: import("../../core/bench/words.js").Words, notice: import("../ui/notice.js").Notice, examples: Example[] }} Parts
+ *
+ * What it calls: the session that is shown; it is kept; another one is shown in its place; it gets another name; a link is opened; texts of
+ * a file come into the editors, and an image into ROM; time runs at another speed.
+ * @typedef {{ session: () => KeptSession | null, keep: () => Promise<string>, rename: (name: string) => void,
+ *   speed: (id: string) => void,
+ *   texts: (name: string, texts: import("../../core/session/opened_file.js").FileTexts) => void, image: (name: string, bytes: Int16Array) => Promise<void>,
+ *   use: (record: SessionRecord, release: Release, example: string) => Promise<void>, link: (text: string) => Promise<void> }} Calls
+ */
+
+
+export class SessionsController {
+  /**
+   * @param {Parts} parts
+   * @param {Calls} calls
+   */
+  constructor({ bench, store, locks, words, notice, examples }, calls) {
+    this.calls = calls;
+    this.store = store;
+    this.locks = locks;
+    this.notice = notice;
+    this.examples = examples;
+    /** @type {(example: Example) => void} an example's story is told */
+    this.tell = () => {};
+    /** Another session is shown. */
+    this.used = () => {};
+    this.persistence = new Persistence();
+    this.openings = new Openings();
+    addEventListener("pagehide", () => this.openings.leave());
+    this.lines = new OfferedLines(notice);
+    /** @type {(words: string) => void} */
+    const refuse = (told) => notice.show(told, "session");
+    this.manager = new SessionManager(bench, store, locks, words, {
+      ...calls,
+      refuse,
+      left: (record) => this.tellLeft(record),
+      use: async (record, release, example) => {
+        await this.openings.during(record.id, () => calls.use(record, release, example));
+        notice.hide("left");
+        this.used();
+        this.lines.offer("");
+      },
+    });
+    this.bin = new Bin(store, locks, refuse);
+    this.view = this.makeView();
+  }
+
+  makeView() {
+    const { manager, bin, calls } = this;
+    return new SessionsView(this.examples, this.notice, {
+      kept: () => manager.kept(),
+      isShown: (id) => this.isShown(id),
+      open: (id) => this.open(id),
+      copy: (id) => manager.copy(id),
+      remove: (records) => this.remove(records),
+      deleted: () => bin.deleted,
+      bringBack: (records) => bin.bringBack(records),
+      begin: (example) => this.begin(example),
+      beginStory: async (example) => {
+        const isDone = await this.begin(example);
+        if (isDone) this.tell(example);
+        return isDone;
+      },
+      openFile: (file) => manager.openFile(file),
+      openFolder: (read) => manager.openFolder(read),
+      save: () => manager.save(),
+      saveSession: () => manager.saveSession(),
+      rename: (name) => calls.rename(name),
+      keptWhere: () => (this.store.keeps ? say.KEPT_HERE + (this.persistence.isPromised ? say.PROMISED : "") : say.KEPT_NOWHERE),
+    });
+  }
+
+  /** @param {string} id */
+  isShown(id) {
+    const session = this.calls.session();
+    return session !== null && session.record.id === id;
+  }
+
+  /**
+   * A session was left for a new one, which may not have been meant.
+   * @param {SessionRecord} record
+   */
+  tellLeft({ id, name }) {
+    this.notice.show(say.sessionLeft(name, this.store.keeps), "left", { word: say.BACK_TO_IT, act: () => this.open(id) });
+  }
+
+  /** Something is done in the session that is shown: there is something to lose from here on, and it is the one that was meant. */
+  touched() {
+    this.notice.hide("left");
+    if (this.store.keeps) this.persistence.ask();
+  }
+
+  /** @param {string} id */
+  open(id) {
+    return this.manager.open(id);
+  }
+
+  /**
+   * A new session from an example. Its other lines are put where they can be sent.
+   * @param {Example} example
+   */
+  async begin(example) {
+    const isDone = await this.manager.begin(example);
+    if (isDone) this.lines.offer(example.lines);
+    return isDone;
+  }
+
+  /** @param {string} name of an example */
+  async beginNamed(name) {
+    const example = [...this.examples, FIRST_PROGRAM].find((each) => each.name === name);
+    if (example) return this.begin(example);
+    this.notice.show(say.noSuchExample(shortName(name)), "session");
+    return false;
+  }
+
+  /**
+   * Deletes sessions, which can be undone.
+   * @param {SessionRecord[]} records
+   */
+  async remove(records) {
+    const done = await this.bin.remove(records);
+    if (done.length === 0) return;
+    for (const { id } of done) this.openings.forget(id);
+    this.notice.show(say.deleted(namesOf(done)), "undo", { word: say.UNDO, act: () => this.bringBack(done) });
+  }
+
+  /** @param {SessionRecord[]} records */
+  async bringBack(records) {
+    await this.bin.bringBack(records);
+    if (this.view.isOpen) await this.view.draw();
+  }
+
+  /**
+   * What the address names, else the example whose story is told, else the session that was used last and is not open in another tab, else
+   * the first example.
+   * @param {string} story the example of it, "" for none
+   */
+  async openFirst(story) {
+    const named = readAddress(location.hash);
+    const isStory = named.kind === "" && this.examples.some((each) => each.name === story && each.story);
+    const { kind, value } = isStory ? { kind: "example", value: story } : named;
+    const isQuiet = kind === "" || kind === "link" || (kind === "session" && this.openings.isUnended(value));
+    if (isQuiet || !(await this.openNamed(kind, value))) await this.openLast(isQuiet);
+    if (kind === "link") await this.calls.link(value);
+  }
+
+  /**
+   * @param {string} kind
+   * @param {string} value
+   */
+  async openNamed(kind, value) {
+    if (kind === "session") return this.open(value);
+    return kind === "example" ? this.beginNamed(value) : false;
+  }
+
+  /** @param {boolean} isQuiet whether sessions that are open in other tabs are passed over without a word */
+  async openLast(isQuiet) {
+    const records = await this.manager.kept();
+    const unended = records.filter(({ id }) => this.openings.isUnended(id));
+    for (const record of unended) await this.tellUnended(record);
+    for (const record of records.filter((each) => !unended.includes(each))) {
+      if (await this.open(record.id)) return;
+      if (isQuiet) this.notice.hide("session");
+    }
+    await this.begin(this.examples[0]);
+  }
+
+  /**
+   * A session has perhaps hung the page when it was opened last, so it is not opened by itself. Another tab may be just opening it.
+   * @param {SessionRecord} record
+   */
+  async tellUnended(record) {
+    const release = await this.locks.take(record.id);
+    if (!release) return;
+    release();
+    const words = say.notByItself(shortName(record.name));
+    const remove = () => this.remove([record]);
+    this.notice.show(words, "unended", { word: say.OPEN_IT, act: () => this.open(record.id) }, { word: say.DELETE_IT, act: remove });
+  }
+
+  /** The address is another one: what it names is shown, if it is not here already. */
+  async follow() {
+    const { kind, value } = readAddress(location.hash);
+    const session = this.calls.session();
+    if (!session) return;
+    if (kind === "link") await this.calls.link(value);
+    else if (kind === "session" && !this.isShown(value)) await this.open(value);
+    else if (kind === "example" && session.example !== value) await this.beginNamed(value);
+  }
+}

@@ -1,0 +1,168 @@
+// The dialog of sessions: those that are kept, the examples, and files; and the session's own bar. What can be opened.
+
+import { pictureOf } from "./gallery_view.js";
+import { block, button, byId, element, field, onClick } from "../ui/dom.js";
+import { folderOfFiles, foldersOf, readFolder } from "./folder_files.js";
+import { KeptList } from "./kept_list.js";
+import * as say from "../../words/session.js";
+
+/**
+ * @typedef {import("../../core/engine/examples.js").Example} Example
+ * @typedef {import("../ui/notice.js").Notice} Notice
+ * @typedef {import("./store.js").SessionRecord} SessionRecord
+ *
+ * What it calls. A call that opens something gives false where that was refused.
+ * @typedef {{ kept: () => Promise<SessionRecord[]>, isShown: (id: string) => boolean, open: (id: string) => Promise<boolean>,
+ *   copy: (id: string) => Promise<boolean>, remove: (records: SessionRecord[]) => Promise<void>, deleted: () => SessionRecord[],
+ *   bringBack: (records: SessionRecord[]) => Promise<void>, begin: (example: Example) => Promise<boolean>,
+ *   beginStory: (example: Example) => Promise<boolean>, openFile: (file: File) => Promise<boolean>,
+ *   openFolder: (read: () => Promise<import("./folder_files.js").Folder>) => Promise<boolean>,
+ *   save: () => void, saveSession: () => void, rename: (name: string) => void,
+ *   keptWhere: () => string }} SessionsCalls
+ */
+
+/**
+ * The bench that one begins an own board with stands before the others.
+ * @param {Example[]} examples
+ */
+function emptyFirst(examples) {
+  /** @type {(example: Example) => boolean} */
+  const isEmpty = ({ board, program, lines, project }) => [board, program, lines, project].every((text) => text === "");
+  return [...examples.filter(isEmpty), ...examples.filter((example) => !isEmpty(example))];
+}
+
+export class SessionsView {
+  /**
+   * @param {Example[]} examples
+   * @param {Notice} notice is in the dialog while that is open
+   * @param {SessionsCalls} calls
+   */
+  constructor(examples, notice, calls) {
+    this.calls = calls;
+    this.notice = notice;
+    this.dialog = byId("sessions", HTMLDialogElement);
+    /** Whether the last button of the dialog was used by pointer. */
+    this.byPointer = false;
+    this.keptList = new KeptList({
+      ...calls,
+      choose: (act) => this.choose(act),
+      remove: (records) => this.changeKept(() => calls.remove(records)),
+      bringBack: (records) => this.changeKept(() => calls.bringBack(records)),
+      button: (word, label, act) => this.button(word, label, act),
+    });
+    for (const name of ["sessions-button", "first-example"]) onClick(button(name), () => this.open());
+    onClick(button("close-sessions"), () => this.close());
+    onClick(button("open-button"), () => field("file").click());
+    onClick(button("save-button"), () => this.calls.save());
+    onClick(button("save-session-button"), () => this.calls.saveSession());
+    field("file").addEventListener("change", () => this.take(field("file")));
+    field("name").addEventListener("change", () => this.calls.rename(field("name").value));
+    block("examples").replaceChildren(...emptyFirst(examples).map((example) => this.exampleLine(example)));
+    this.dialog.addEventListener("close", () => this.closed());
+    this.listenToDrops();
+  }
+
+  get isOpen() {
+    return this.dialog.open;
+  }
+
+  async open() {
+    await this.draw();
+    if (this.dialog.open) return;
+    this.dialog.showModal();
+    this.notice.moveTo(this.dialog);
+  }
+
+  close() {
+    if (this.dialog.open) this.dialog.close();
+  }
+
+  closed() {
+    this.notice.moveTo(document.body);
+    // The browser gives the focus back to the button that opened the dialog; after a click by pointer the keyboard is the board's.
+    if (this.byPointer && document.activeElement instanceof HTMLElement) document.activeElement.blur();
+  }
+
+  async draw() {
+    block("kept-where").textContent = this.calls.keptWhere();
+    this.keptList.draw(await this.calls.kept());
+  }
+
+  /**
+   * Changes what is kept, and shows it.
+   * @param {() => Promise<void>} act
+   */
+  async changeKept(act) {
+    await act();
+    await this.draw();
+  }
+
+  /** @param {Example} example */
+  exampleLine(example) {
+    const open = this.button(example.name, say.newSession(example.name), () => this.choose(() => this.calls.begin(example)));
+    open.prepend(pictureOf(example.board));
+    const title = element("span", { className: "grow" }, example.title);
+    if (!example.story) return element("li", {}, open, title);
+    const words = say.newStory(example.name);
+    return element("li", {}, open, title, this.button(say.WITH_STORY, words, () => this.choose(() => this.calls.beginStory(example))));
+  }
+
+  /**
+   * @param {string} word
+   * @param {string} label
+   * @param {() => void} act
+   */
+  button(word, label, act) {
+    const made = element("button", { type: "button" }, word);
+    made.setAttribute("aria-label", label);
+    made.addEventListener("click", (event) => {
+      this.byPointer = event.detail > 0;
+      act();
+    });
+    return made;
+  }
+
+  /**
+   * Does it, and closes unless it was refused.
+   * @param {() => Promise<boolean>} act
+   */
+  async choose(act) {
+    if (await act()) this.close();
+    else await this.draw();
+  }
+
+  /** @param {HTMLInputElement} input */
+  async take(input) {
+    await this.openAll(input.files ? [...input.files] : []);
+    // The same file may be chosen again.
+    input.value = "";
+  }
+
+  /** @param {File[]} files one after the other */
+  async openAll(files) {
+    const folder = folderOfFiles(files);
+    if (folder) return this.openFolder(async () => folder);
+    for (const file of files) {
+      if (await this.calls.openFile(file)) this.close();
+    }
+  }
+
+  /** @param {() => Promise<import("./folder_files.js").Folder>} read */
+  async openFolder(read) {
+    if (await this.calls.openFolder(read)) this.close();
+  }
+
+  /** Files and folders that are dropped anywhere on the page are opened; a text that is dragged is the editors'. */
+  listenToDrops() {
+    /** @type {(event: DragEvent) => boolean} */
+    const hasFiles = (event) => event.dataTransfer !== null && event.dataTransfer.types.includes("Files");
+    addEventListener("dragover", (event) => hasFiles(event) && event.preventDefault());
+    addEventListener("drop", (event) => {
+      if (!hasFiles(event)) return;
+      event.preventDefault();
+      const folders = foldersOf(event.dataTransfer);
+      if (folders.length > 0) this.openFolder(() => readFolder(folders[0]));
+      else this.openAll(event.dataTransfer ? [...event.dataTransfer.files] : []);
+    });
+  }
+}

@@ -1,0 +1,148 @@
+// Links: the texts of a session in an address. Nothing is sent anywhere: a link is copied, and whoever opens it reads it in his own page.
+
+import { addressOf } from "./address.js";
+import { readBoard, refusalOf } from "../../core/bench/answers.js";
+import { titleOf, wordsOfBoard } from "../../core/session/described.js";
+import { element } from "../ui/dom.js";
+import { shortName } from "../../core/session/names.js";
+import { wordsOfLength } from "../../core/session/project_file.js";
+import { LONGEST_LINK, SAFE_LINK, linkOf, readLink } from "./share_link.js";
+import { wordsOfLines } from "./texts_controller.js";
+import * as say from "../../words/session.js";
+
+/**
+ * @typedef {import("../ui/ask_view.js").AskView} AskView
+ * @typedef {import("../../core/bench/bench.js").Bench} Bench
+ * @typedef {import("../ui/notice.js").Notice} Notice
+ * @typedef {import("./share_link.js").Texts} Texts
+ * @typedef {import("../../core/bench/words.js").Words} Words
+ *
+ * What it calls: the session that is shown, by its name and texts; its own address is the one of the page again; a new session is made
+ * of texts and of the file that has them; a project is saved.
+ * @typedef {{ shown: () => Texts | null, address: () => void, begin: (texts: Texts, file: Uint8Array, runs: boolean) => Promise<boolean>,
+ *   save: () => void }} SharingCalls
+ */
+
+/**
+ * What a link holds, in words.
+ * @param {Texts} texts
+ */
+function whatOf({ testText, propertiesText }) {
+  const held = [...say.ALWAYS_HELD, ...(testText ? [say.THE_TESTS] : []), ...(propertiesText ? [say.THE_PROPERTIES] : [])];
+  return say.itHolds(held.slice(0, -1).join(", "), held[held.length - 1]);
+}
+
+export class Sharing {
+  /**
+   * @param {Bench} bench
+   * @param {AskView} ask
+   * @param {Notice} notice
+   * @param {Words} words
+   * @param {SharingCalls} calls
+   */
+  constructor(bench, ask, notice, words, calls) {
+    this.bench = bench;
+    this.ask = ask;
+    this.notice = notice;
+    this.words = words;
+    this.calls = calls;
+  }
+
+  /** Copies a link to the session that is shown. */
+  async share() {
+    const texts = this.calls.shown();
+    if (!texts) return;
+    const tooLong = wordsOfLength(texts);
+    if (tooLong) {
+      this.notice.show(say.noLink(tooLong), "share");
+      return;
+    }
+    const address = location.href.replace(/#.*$/, "") + addressOf("link", await linkOf(texts));
+    const size = say.characters(address.length.toLocaleString("en"));
+    if (address.length > LONGEST_LINK) {
+      await this.offerFile(size);
+      return;
+    }
+    const told = [`${whatOf(texts)}${location.protocol === "file:" ? say.OF_A_FILE : ""}`];
+    if (address.length > SAFE_LINK) told.push(say.LONG);
+    try {
+      await navigator.clipboard.writeText(address);
+      this.notice.show(say.linkCopied(size, told.join(" ")), "share");
+    } catch {
+      await this.showLink(address, told);
+    }
+  }
+
+  /** @param {string} size of the link that would be needed */
+  async offerFile(size) {
+    const isSaved = await this.ask.ask({
+      title: say.TOO_LONG_LINK,
+      words: [say.longLink(size, LONGEST_LINK.toLocaleString("en"))],
+      accept: say.SAVE_PROJECT,
+      refuse: say.LEAVE_IT,
+    });
+    if (isSaved) this.calls.save();
+  }
+
+  /**
+   * Where the browser lets nothing be copied: the user does it.
+   * @param {string} address
+   * @param {string[]} told
+   */
+  async showLink(address, told) {
+    const area = element("textarea", { id: "link", rows: 4, readOnly: true, value: address, autofocus: true });
+    area.setAttribute("aria-label", say.THE_LINK);
+    const answer = this.ask.ask({
+      title: say.COPY_LINK,
+      words: [say.COPY_BY_HAND, area, ...told],
+      accept: "",
+      refuse: say.CLOSE,
+    });
+    area.focus();
+    area.select();
+    await answer;
+  }
+
+  /**
+   * Shows what a link is, and opens it as a new session where that is wanted.
+   * @param {string} link
+   */
+  async open(link) {
+    try {
+      const texts = await readLink(link);
+      const tried = await this.bench.call("tryTexts", [texts]);
+      const isWanted = await this.ask.ask({
+        title: say.openFromLink(texts.name),
+        words: this.wordsOf(texts, tried),
+        accept: say.OPEN_AS_NEW,
+        refuse: say.LEAVE_IT,
+      });
+      if (isWanted) await this.calls.begin(texts, tried.file, tried.refused.length === 0 && texts.programText !== "");
+    } catch (fault) {
+      this.notice.show(say.linkNotOpened(this.words.ofFault(fault)), "session");
+    } finally {
+      this.calls.address();
+    }
+  }
+
+  /**
+   * @param {Texts} texts
+   * @param {import("../../core/engine/trying.js").Tried} tried
+   */
+  wordsOf({ boardText, programText, testText = "", propertiesText = "" }, { board, refused }) {
+    const title = shortName(titleOf(boardText, programText));
+    const told = refused.map(({ word, answer }) => {
+      const refusal = refusalOf(answer);
+      const why = refusal ? `${answer}: ${this.words.ofRefusal(refusal.number)}` : answer;
+      return say.benchRefusesText(word === "wire", why);
+    });
+    return [
+      ...(title ? [title] : []),
+      say.sizesOfTexts(wordsOfLines(boardText), wordsOfLines(programText), testText && wordsOfLines(testText),
+        propertiesText && wordsOfLines(propertiesText)),
+      say.onTheBoard(wordsOfBoard(readBoard(board))),
+      ...told,
+      say.BECOMES_SESSION,
+    ];
+  }
+}

@@ -1,0 +1,210 @@
+// What the browser keeps: sessions with their names, in IndexedDB. The page keeps them and not the worker, since what a page asks for
+// while it is going away gets through, and a worker is ended at once.
+
+import * as say from "../../words/session.js";
+
+/**
+ * A session as the store keeps it: its file, its name, and the texts of the editors, which a file does not hold; older ones have no text
+ * of tests, nor one of properties. `runs` tells whether time runs, so that a reload goes on as it was; `cycles` are those that were
+ * counted, and `breakpoints` those of the source, which a file does not hold either; `watched`, the list of values; `isTitled`, whether
+ * its name is the title that its texts tell, since it was given none; `goal`, what a move that is under way goes on to;
+ * `places`, where parts of the picture were dragged to; `printed`, what was sent to the board's printer.
+ * @typedef {{ id: string, name: string, file: Uint8Array, boardText: string, programText: string, testText?: string,
+ *   propertiesText?: string, runs: boolean, revision: number, changed: number, cycles?: import("../../core/time/cycles.js").KeptCycles,
+ *   isTitled?: boolean, breakpoints?: import("../../core/debug/breakpoints.js").KeptBreakpoint[], watched?: string[],
+ *   goal?: import("../../core/debug/goals.js").Goal, places?: [string, import("../../core/board/wiring.js").Point][],
+ *   printed?: import("../../core/engine/printing.js").Printed }} SessionRecord
+ *
+ * @typedef {{ keeps: boolean, isWhole: boolean, all: () => Promise<SessionRecord[]>,
+ *   get: (id: string) => Promise<SessionRecord | undefined>, put: (record: SessionRecord) => Promise<void>,
+ *   remove: (id: string) => Promise<void> }} SessionStore `isWhole` tells whether `put` needs nothing to come back to it
+ */
+
+/** What went wrong where a session was not kept, in words. */
+export class NotKept extends Error {}
+
+/** A store that does not answer in so many milliseconds counts as one that fails; what it was asked for may still come to pass. */
+const TIME_OF_STORE = 10000;
+
+/**
+ * The answer of the browser's store, or of what else it has of one, which must not hold up the page for ever.
+ * @template Result
+ * @param {Promise<Result>} answer
+ * @returns {Promise<Result>}
+ */
+export function inTime(answer) {
+  return new Promise((done, fail) => {
+    const late = setTimeout(() => fail(new NotKept(say.STORE_SILENT)), TIME_OF_STORE);
+    answer.then(done, fail).finally(() => clearTimeout(late));
+  });
+}
+
+/**
+ * @template Result
+ * @param {IDBRequest<Result>} asked
+ * @returns {Promise<Result>}
+ */
+function resultOf(asked) {
+  return new Promise((done, fail) => {
+    asked.onsuccess = () => done(asked.result);
+    asked.onerror = () => fail(asked.error);
+  });
+}
+
+/** @implements {SessionStore} */
+export class Store {
+  /**
+   * @param {boolean} hasLocks whether one tab alone has a session open
+   * @returns {Promise<Store>}
+   */
+  static open(hasLocks) {
+    return new Promise((done, fail) => {
+      const asked = indexedDB.open("fethsaim", 1);
+      asked.onupgradeneeded = () => asked.result.createObjectStore("sessions", { keyPath: "id" });
+      asked.onsuccess = () => done(new Store(asked.result, hasLocks));
+      asked.onerror = () => fail(asked.error);
+      asked.onblocked = () => fail(new Error(say.OLDER_STORE));
+    });
+  }
+
+  /**
+   * @param {IDBDatabase} base
+   * @param {boolean} hasLocks
+   */
+  constructor(base, hasLocks) {
+    this.base = base;
+    this.keeps = true;
+    this.isWhole = hasLocks;
+    // Without this a newer page in another tab would wait for ever.
+    base.onversionchange = () => base.close();
+  }
+
+  get sessions() {
+    return this.base.transaction("sessions").objectStore("sessions");
+  }
+
+  /** @returns {Promise<SessionRecord[]>} */
+  async all() {
+    return inTime(resultOf(this.sessions.getAll()));
+  }
+
+  /**
+   * @param {string} id
+   * @returns {Promise<SessionRecord | undefined>}
+   */
+  async get(id) {
+    return inTime(resultOf(this.sessions.get(id)));
+  }
+
+  /**
+   * Keeps a record; it is on the disk when the promise is kept. All is asked for at once, so that a page that is just being closed
+   * still gets it through: nothing has to come back to it.
+   * @param {SessionRecord} record
+   * @returns {Promise<void>}
+   */
+  async put(record) {
+    if (!this.isWhole) return this.putNext(record);
+    return new Promise((done, fail) => {
+      const change = this.change(done, fail);
+      record.revision += 1;
+      change.objectStore("sessions").put(record);
+      change.commit();
+    });
+  }
+
+  /**
+   * Where the browser has no locks: a record that is not the successor of what is there is refused, so that two tabs never overwrite
+   * each other.
+   * @param {SessionRecord} record
+   * @returns {Promise<void>}
+   */
+  putNext(record) {
+    return new Promise((done, fail) => {
+      /** @type {Error | null} */
+      let fault = null;
+      // The bytes of the record may be others by the time that the answer comes.
+      const written = { ...record, file: record.file.slice(), revision: record.revision + 1 };
+      const keep = () => {
+        record.revision = written.revision;
+        done();
+      };
+      const change = this.change(keep, (error) => fail(fault || error));
+      const asked = change.objectStore("sessions").get(record.id);
+      asked.onsuccess = () => {
+        if ((asked.result ? asked.result.revision : 0) === record.revision) {
+          change.objectStore("sessions").put(written);
+        } else {
+          fault = new NotKept(say.CHANGED_ELSEWHERE);
+          change.abort();
+        }
+      };
+    });
+  }
+
+  /**
+   * A change that is answered once it is on the disk.
+   * @param {() => void} done
+   * @param {(fault: Error) => void} fail
+   */
+  change(done, fail) {
+    const change = this.base.transaction("sessions", "readwrite", { durability: "strict" });
+    change.oncomplete = () => done();
+    change.onabort = () => fail(new NotKept(wordsOfStoreFault(change.error)));
+    return change;
+  }
+
+  /**
+   * @param {string} id
+   * @returns {Promise<void>}
+   */
+  remove(id) {
+    return new Promise((done, fail) => {
+      this.change(done, fail).objectStore("sessions").delete(id);
+    });
+  }
+}
+
+/**
+ * What went wrong with a session that is to be kept, in words.
+ * @param {unknown} error
+ */
+export function wordsOfStoreFault(error) {
+  if (error instanceof NotKept) return error.message;
+  const name = error instanceof DOMException || error instanceof Error ? error.name : say.NO_WORD;
+  if (name === "QuotaExceededError") return say.NO_SPACE;
+  return say.storeFailed(name);
+}
+
+/**
+ * In the place of the store where the browser has none: it forgets all when the page is closed.
+ * @implements {SessionStore}
+ */
+export class MemoryStore {
+  constructor() {
+    /** @type {Map<string, SessionRecord>} */
+    this.records = new Map();
+    this.keeps = false;
+    this.isWhole = true;
+  }
+
+  async all() {
+    return [...this.records.values()];
+  }
+
+  /** @param {string} id */
+  async get(id) {
+    const record = this.records.get(id);
+    return record && { ...record, file: record.file.slice() };
+  }
+
+  /** @param {SessionRecord} record */
+  async put(record) {
+    record.revision += 1;
+    this.records.set(record.id, { ...record, file: record.file.slice() });
+  }
+
+  /** @param {string} id */
+  async remove(id) {
+    this.records.delete(id);
+  }
+}

@@ -1,0 +1,182 @@
+// The texts of the editors, as the session that is shown has them: they are kept, and one that is replaced can be brought back.
+
+import { counted } from "../../core/bench/numbers.js";
+import * as say from "../../words/session.js";
+
+/**
+ * @typedef {import("../ui/ask_view.js").AskView} AskView
+ * @typedef {import("./kept_session.js").KeptSession} KeptSession
+ * @typedef {import("../ui/notice.js").Notice} Notice
+ * @typedef {{ text: string, open: (session: string, text: string) => void, replaceText: (text: string) => void }} TextEditor
+ *
+ * What it calls: the session that is shown; something is done in it; it is kept; names in the board's text may be others; a source
+ * text of what is in ROM; texts of a file were taken, of which one is to be seen, with lines for the bench; a call failed.
+ * @typedef {{ session: () => KeptSession | null, touch: () => void, keep: () => Promise<string>, named: (boardText: string) => void,
+ *   source: () => Promise<string>, took: (seen: TextName, lines: string) => void, failed: (fault: unknown) => void }} TextsCalls
+ */
+
+/** @typedef {keyof typeof say.WHICH_TEXT} TextName */
+
+/** The texts are kept so many milliseconds after the last change. */
+const EDIT_TIME = 600;
+
+/**
+ * How many lines a text has, in words.
+ * @param {string} text
+ */
+export function wordsOfLines(text) {
+  const count = text === "" ? 0 : text.replace(/\n$/, "").split("\n").length;
+  return counted(count, "line");
+}
+
+export class TextsController {
+  /**
+   * @param {TextEditor} board
+   * @param {TextEditor} program
+   * @param {TextEditor} tests
+   * @param {TextEditor} properties
+   * @param {AskView} ask
+   * @param {Notice} notice
+   * @param {TextsCalls} calls
+   */
+  constructor(board, program, tests, properties, ask, notice, calls) {
+    this.board = board;
+    this.program = program;
+    this.tests = tests;
+    this.properties = properties;
+    this.ask = ask;
+    this.notice = notice;
+    this.calls = calls;
+    /** The timer of an edit that is to be kept. */
+    this.editing = 0;
+  }
+
+  /**
+   * Shows the texts of another session.
+   * @param {{ id: string, boardText: string, programText: string, testText?: string, propertiesText?: string }} record
+   */
+  show({ id, boardText, programText, testText = "", propertiesText = "" }) {
+    clearTimeout(this.editing);
+    this.board.open(id, boardText);
+    this.program.open(id, programText);
+    this.tests.open(id, testText);
+    this.properties.open(id, propertiesText);
+  }
+
+  /** They are kept a moment after the last change; the names of the keys are taken from the board's text then. */
+  edited() {
+    const session = this.calls.session();
+    if (!session) return;
+    const { record } = session;
+    record.boardText = this.board.text;
+    record.programText = this.program.text;
+    record.testText = this.tests.text;
+    record.propertiesText = this.properties.text;
+    this.calls.touch();
+    clearTimeout(this.editing);
+    this.editing = setTimeout(() => {
+      this.calls.named(record.boardText);
+      this.calls.keep();
+    }, EDIT_TIME);
+  }
+
+  /**
+   * Texts of a file come into the editors; those that were there can be brought back, and the bench has none of them yet.
+   * @param {string} name of the file
+   * @param {import("../../core/session/opened_file.js").FileTexts} texts
+   */
+  take(name, { board, program, tests, properties, lines }) {
+    if (tests !== null) this.takeBeside("tests", name, tests);
+    if (properties !== null) this.takeBeside("properties", name, properties);
+    if (tests !== null || properties !== null) return;
+    if (board !== null) this.replace("board", board, say.boardReplaced(name));
+    if (program !== null) this.replace("program", program, say.sourceReplaced(name));
+    this.calls.took(board !== null ? "board" : "program", lines);
+    const [where, what] = board === null ? [say.SOURCE, say.ASSEMBLES] : [say.BOARD, say.WIRES];
+    const both = board !== null && program !== null ? say.BOARD_AND_SOURCE : where;
+    this.notice.show(say.textIsIn(name, both, what, both === where ? "" : say.THEN_ASSEMBLE), "file");
+  }
+
+  /**
+   * @param {"tests" | "properties"} where
+   * @param {string} name of the file
+   * @param {string} text
+   */
+  takeBeside(where, name, text) {
+    this.replace(where, text, say.textReplaced(say.WHICH_TEXT[where], name));
+    this.calls.took(where, "");
+    this.notice.show(`${name} ${say.BESIDE[where]}`, "file");
+  }
+
+  async takeFromRom() {
+    const session = this.calls.session();
+    if (!session) return;
+    try {
+      const found = await this.calls.source();
+      const old = this.program.text;
+      if (found === old) {
+        this.notice.show(say.SAME_AS_ROM, "refusal");
+      } else if (old.trim() === "" || (await this.isMeant(old, found))) {
+        if (this.isShown(session)) this.replace("program", found, say.TAKEN_FROM_ROM);
+      }
+    } catch (fault) {
+      this.calls.failed(fault);
+    }
+  }
+
+  /**
+   * @param {string} old
+   * @param {string} found
+   */
+  isMeant(old, found) {
+    return this.ask.ask({
+      title: say.REPLACE_SOURCE,
+      words: [say.sizesOfSources(wordsOfLines(old), wordsOfLines(found))],
+      accept: say.REPLACE_IT,
+      refuse: say.LEAVE_AS_IS,
+    });
+  }
+
+  /** @param {KeptSession} session */
+  isShown(session) {
+    const shown = this.calls.session();
+    return shown !== null && shown.record.id === session.record.id;
+  }
+
+  /**
+   * Puts another text in the place of the one that is here, which can be brought back.
+   * @param {TextName} name
+   * @param {string} text
+   * @param {string} words what was done
+   */
+  replace(name, text, words) {
+    const session = this.calls.session();
+    if (!session) return;
+    const old = this[name].text;
+    this[name].replaceText(text);
+    this.edited();
+    if (old.trim() !== "" && old !== text) this.offer(session, { name, old, words });
+  }
+
+  /**
+   * @param {KeptSession} session
+   * @param {{ name: TextName, old: string, words: string }} replaced
+   */
+  offer(session, replaced) {
+    this.notice.show(replaced.words, "undo", { word: say.UNDO, act: () => this.bringBack(session, replaced) });
+  }
+
+  /**
+   * Brings a text back; what is there by then can be brought back in its turn.
+   * @param {KeptSession} session
+   * @param {{ name: TextName, old: string, words: string }} replaced
+   */
+  bringBack(session, replaced) {
+    if (this.isShown(session)) {
+      this.replace(replaced.name, replaced.old, say.textIsBack(say.WHICH_TEXT[replaced.name]));
+    } else {
+      this.offer(session, replaced);
+      this.notice.show(say.inOtherSession(session.record.name), "refusal");
+    }
+  }
+}

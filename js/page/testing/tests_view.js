@@ -1,0 +1,87 @@
+// The results of tests on the page: a row for each, with what is wrong; what was run of the program; and where its cycles went.
+
+import { Cell, below, block, buttonOf, element } from "../ui/dom.js";
+import { hex } from "../../core/bench/numbers.js";
+import { wordsOfCounts, wordsOfTime } from "../../words/results.js";
+import { wordsOfLine } from "../../words/stops.js";
+import * as say from "../../words/testing.js";
+
+/**
+ * @typedef {import("../../core/testing/profile.js").Profile} Profile
+ * @typedef {import("../../core/testing/testing.js").Report} Report
+ * @typedef {import("../../core/testing/test_run.js").Failure} Failure
+ * @typedef {import("../../core/testing/test_run.js").Outcome} Outcome
+ *
+ * What it calls: a line of the text of tests is to be seen; an address of the program; the session of a failure is to be opened.
+ * @typedef {{ goTo: (line: number) => void, goToAddress: (address: number) => void, open: (outcome: Outcome) => void }} ResultCalls
+ */
+
+/** @param {number} cycles */
+function milliseconds(cycles) {
+  return say.cyclesAndTime(cycles.toLocaleString("en"), (cycles * 0.0108).toFixed(1));
+}
+
+export class TestsView {
+  /** @param {ResultCalls} calls */
+  constructor(calls) {
+    this.calls = calls;
+    this.block = block("test-results");
+    this.list = block("test-list");
+    this.coverage = new Cell(block("coverage-told"));
+    this.labels = block("profile-labels");
+    this.keys = block("profile-keys");
+  }
+
+  clear() {
+    this.block.hidden = true;
+    this.list.replaceChildren();
+    this.coverage.set("");
+  }
+
+  /** @param {Report} report */
+  show(report) {
+    this.list.replaceChildren(...report.outcomes.map((outcome) => this.row(outcome)));
+    this.coverage.set(wordsOfCounts(report));
+    if (report.profile) this.showProfile(report.profile);
+    this.block.hidden = false;
+  }
+
+  /** @param {Outcome} outcome */
+  row(outcome) {
+    const { name, line, failure } = outcome;
+    const mark = element("b", { className: failure ? "not-ok" : "ok" }, failure ? say.NOT_OK : "ok");
+    const head = element("p", {}, mark, " ", buttonOf(name, () => this.calls.goTo(line), { className: "name", title: wordsOfLine(line) }),
+      element("span", { className: "time" }, ` ${wordsOfTime(outcome)}`));
+    return element("li", {}, head, ...(failure ? this.failed(outcome, failure) : []));
+  }
+
+  /**
+   * @param {Outcome} outcome
+   * @param {Failure} failure
+   */
+  failed(outcome, { line, text, words, lamps, registers, trace, file }) {
+    const told = element("p", { className: "wrong" }, buttonOf(wordsOfLine(line), () => this.calls.goTo(line)), ` ${text}: ${words}`);
+    if (!file) return [told];
+    const state = `${lamps && `lamps ${lamps}\n`}${registers}\n`;
+    const last = element("pre", { tabIndex: 0 }, `${state}${trace.join("\n")}`);
+    return [told,
+      element("details", {}, element("summary", {}, say.LAST_INSTRUCTIONS), last),
+      element("p", { className: "bar" }, buttonOf(say.OPEN_THERE, () => this.calls.open(outcome)))];
+  }
+
+  /** @param {Profile} profile */
+  showProfile({ rows, total, begunBefore, keys }) {
+    const cells = (/** @type {(string | Node)[]} */ ...texts) => element("tr", {}, ...texts.map((text) => element("td", {}, text)));
+    const percent = (/** @type {number} */ own) => ((100 * own) / total).toFixed(1);
+    const told = rows.map(({ label, address, own, calls }) => {
+      const name = address < 0 ? say.NO_LABEL : buttonOf(label, () => this.calls.goToAddress(address), { className: "name" });
+      const called = calls ? [calls.times, calls.withCalls, calls.longest].map((each) => each.toLocaleString("en")) : ["", "", ""];
+      return cells(name, address < 0 ? "" : hex(address, 3), own.toLocaleString("en"), percent(own), ...called);
+    });
+    if (begunBefore > 0) told.push(cells(say.BEGUN_BEFORE, "", begunBefore.toLocaleString("en"), percent(begunBefore), "", "", ""));
+    this.labels.replaceChildren(...told);
+    this.keys.hidden = keys.length === 0;
+    below(this.keys, "tbody", HTMLElement).replaceChildren(...keys.map(({ key, presses, answered, first, last }) => (
+      cells(key, String(presses), String(answered), ...(answered > 0 ? [milliseconds(first), milliseconds(last)] : ["", ""])))));
+  }
+}

@@ -1,0 +1,17 @@
+// Colours of a program's text.
+
+import { tokensOf } from "../../core/text/assembly.js";
+
+/** @type {Record<string, string>} the colours by the kinds of words */
+const STYLES = {
+  comment: "comment", label: "def", instruction: "keyword", directive: "keyword", register: "atom", number: "number", name: "variable-2",
+  unknown: "error",
+};
+
+/**
+ * @param {Set<string>} mnemonics in upper case
+ * @returns {import("./line_colours.js").Colours}
+ */
+export function assemblyColours(mnemonics) {
+  return (line) => tokensOf(line, (word) => mnemonics.has(word)).map(({ from, to, kind }) => ({ from, to, style: STYLES[kind] }));
+}

@@ -1,0 +1,78 @@
+// How often the lines of a program were run, in the margin of its text. The counts are those of one text: an edit takes them away.
+
+import * as say from "../../words/text.js";
+
+/**
+ * @typedef {import("./line_editor.js").LineEditor} LineEditor
+ * @typedef {import("../../core/testing/coverage.js").Covered} Covered
+ */
+
+/**
+ * What stands beside a line.
+ * @param {Covered} covered
+ */
+export function textOfCount({ count, isJump, taken }) {
+  if (count === 0) return "never";
+  return isJump ? `${count} ${taken}/${count - taken}` : String(count);
+}
+
+/** @param {number} number */
+function times(number) {
+  return say.timesOf(number);
+}
+
+/**
+ * The same in words.
+ * @param {Covered} covered
+ */
+export function wordsOfCount({ count, isJump, taken }) {
+  if (count === 0) return say.NO_TEST_RUNS;
+  return say.ran(times(count)) + (isJump ? say.jumped(times(taken), times(count - taken)) : "");
+}
+
+export class CountMarks {
+  /**
+   * @param {LineEditor} editor
+   * @param {import("./line_marks.js").LineMarks} marks
+   */
+  constructor(editor, marks) {
+    this.editor = editor;
+    this.marks = marks;
+    this.isShown = false;
+    editor.onEdit(() => this.clear());
+  }
+
+  /** @param {Covered[]} covered lines */
+  show(covered) {
+    this.clear();
+    const lines = new Map(covered.map((each) => [each.line, each]));
+    const { editor } = this;
+    this.isShown = true;
+    const longest = Math.max(...covered.map((each) => textOfCount(each).length), 1);
+    editor.container.classList.add("counted");
+    editor.container.style.setProperty("--counts-width", `${longest + 1}ch`);
+    this.marks.showAt("counts", (line) => textAt(lines.get(line), textOfCount), (line) => textAt(lines.get(line), wordsOfCount));
+    // The lines that were never run, or whose jump went one way alone.
+    const lacking = covered.filter(({ count, isJump, taken }) => count === 0 || (isJump && (taken === 0 || taken === count)));
+    editor.showLook("lacking", lacking.map(({ line }) => line - 1).filter((line) => line <= editor.lastLine()));
+    editor.refresh();
+  }
+
+  clear() {
+    if (!this.isShown) return;
+    const { editor } = this;
+    this.isShown = false;
+    editor.container.classList.remove("counted");
+    this.marks.showAt("counts", () => "");
+    editor.showLook("lacking", []);
+    editor.refresh();
+  }
+}
+
+/**
+ * @param {Covered | undefined} covered
+ * @param {(covered: Covered) => string} tell
+ */
+function textAt(covered, tell) {
+  return covered ? tell(covered) : "";
+}

@@ -1,0 +1,289 @@
+// The texts of the board and of the program: an editor each, with its faults, its search, and words about what is pointed at.
+
+import { Cell, below, block, element, onClick } from "../ui/dom.js";
+import { CountMarks } from "./count_marks.js";
+import { FaultView } from "./fault_view.js";
+import { keysOfFolding } from "./fold_view.js";
+import { LineMarks } from "./line_marks.js";
+import { LineValues } from "./line_values.js";
+import { MeaningView } from "./meaning_view.js";
+import { NameView } from "./name_view.js";
+import { SearchBar } from "./search_bar.js";
+import { TextEditor } from "./text_editor.js";
+import { LONGEST_KEPT, LONGEST_TEXT, alignedText, sentText } from "../../core/text/text_fault.js";
+import * as say from "../../words/text.js";
+
+/**
+ * @typedef {import("../../core/machine/breakpoint_marks.js").BreakpointMark} BreakpointMark
+ * @typedef {import("../../core/text/completion.js").Completion} Completion
+ * @typedef {import("../../core/debug/value_words.js").Piece} Piece
+ * @typedef {import("../../core/text/text_fault.js").Fault} Fault
+ * @typedef {import("./line_editor.js").Position} Position
+ * @typedef {import("../../core/debug/breakpoints.js").Edit} Edit
+ *
+ * What an editor calls: its text was edited; it is sent; a breakpoint is wanted at a line, or is not wanted any more.
+ * @typedef {{ edited: (edits: Edit[]) => void, send: () => void, toggleBreakpoint: (line: number) => void,
+ *   editBreakpoint?: (line: number) => void }} EditorCalls
+ *
+ * What kind of text it is: what its comments begin with, its colours, its gutters, the blanks that a new line begins with, where it is not
+ * those of the line before, what folds in it; whether a word (in upper case) is an
+ * instruction, where the text has names; whether it is never sent, and so measured as it stands; what is said of a word, by its line
+ * (from 0) and its place in that, what it stands for now, and how one of these values can be edited; and what a word can become.
+ * @typedef {{ mark: import("../../core/text/text_fault.js").CommentMark, colours: import("./line_colours.js").Colours, gutters: string[],
+ *   indent?: string,
+ *   folds?: import("../../core/text/folding.js").Parts, isInstruction?: (word: string) => boolean,
+ *   isUnsent?: boolean,
+ *   wordsAt: (lines: string[], line: number, at: number) => string,
+ *   valuesAt?: (text: string, at: number) => Piece[], offer?: import("./meaning_view.js").Offer,
+ *   complete: (lines: string[], line: number, at: number) => Completion }} Language
+ */
+
+/** The pointer or the caret rests so many milliseconds before words are shown. */
+const REST_TIME = 150;
+
+export class EditorView {
+  /**
+   * @param {string} id
+   * @param {Language} language
+   * @param {EditorCalls} calls
+   */
+  constructor(id, language, calls) {
+    this.language = language;
+    this.calls = calls;
+    const root = block(id);
+    const paper = below(root, ".paper", HTMLElement);
+    const container = element("div", { className: "text" });
+    const list = element("ul", { "className": "faults-told", "aria-label": say.FAULTS });
+    this.meaning = new MeaningView(language.offer || (() => {}));
+    this.counter = new Cell(element("p", { className: "size" }));
+    paper.append(container, list, element("div", { className: "strip" }, this.meaning.node, this.counter.node));
+    this.told = new Cell(below(root, ".told", HTMLElement));
+    const label = below(root, "h2", HTMLElement).textContent || "";
+    const { colours, gutters, indent, folds, isInstruction = () => false } = language;
+    this.editor = new TextEditor({ container, label, colours, gutters, indent, folds, keys: this.keys(), calls: this.textCalls() });
+    const { editor } = this.editor;
+    this.marks = new LineMarks(editor);
+    this.counts = new CountMarks(editor, this.marks);
+    this.lineValues = new LineValues(editor);
+    this.faults = new FaultView(editor, this.marks, list, ({ line, from }) => this.editor.goTo({ line: line - 1, ch: from }));
+    this.search = new SearchBar(editor, paper, label);
+    this.names = new NameView(this.editor, paper, { isInstruction, tell: (words) => this.told.set(words) });
+    /** Timers: the pointer or the caret rests, and typing does. */
+    this.resting = 0;
+    this.counting = 0;
+    this.listenToPointer(editor.getWrapperElement());
+    editor.onScroll(() => this.meaning.hideTip());
+    onClick(below(root, ".send", HTMLButtonElement), () => calls.send());
+  }
+
+  /** @returns {import("./text_editor.js").KeyMap} */
+  keys() {
+    /** @type {(name: string, act: () => void) => import("./text_editor.js").KeyMap} */
+    const withControl = (name, act) => ({ [`Ctrl-${name}`]: act, [`Cmd-${name}`]: act });
+    return {
+      ...withControl("Enter", () => this.calls.send()),
+      ...withControl("F", () => this.search.open()),
+      ...withControl("H", () => this.search.open(true)),
+      ...withControl("G", () => this.names.goToLine()),
+      ...withControl("/", () => this.editor.comment(this.language.mark)),
+      ...(this.language.isInstruction ? this.keysOfNames() : {}),
+      ...(this.language.folds ? keysOfFolding(this.language.folds) : {}),
+      "Ctrl-Space": () => this.editor.editor.complete(),
+      "F9": (editor) => this.calls.toggleBreakpoint(editor.getCursor().line + 1),
+      "Shift-F9": (editor) => this.askedFor(editor.getCursor().line + 1),
+    };
+  }
+
+  /** @returns {import("./text_editor.js").KeyMap} */
+  keysOfNames() {
+    return { "F12": () => this.names.define(), "Shift-F12": () => this.names.find(), "F2": () => this.names.rename() };
+  }
+
+  /** @returns {import("./text_editor.js").TextCalls} */
+  textCalls() {
+    return {
+      edited: (edits) => this.changed(edits),
+      moved: () => this.moved(),
+      clickedGutter: (line) => this.calls.toggleBreakpoint(line),
+      askedGutter: (line, event) => this.askedFor(line, event),
+      clickedName: () => this.language.isInstruction && this.names.define(),
+      refused: (size) => this.told.set(say.notPutIn(size.toLocaleString("en"), LONGEST_KEPT.toLocaleString("en"))),
+      complete: ({ line, ch }) => this.language.complete(this.lines, line, ch),
+    };
+  }
+
+  /**
+   * The words of a line's breakpoint are wanted.
+   * @param {number} line
+   * @param {Event} [event]
+   */
+  askedFor(line, event) {
+    const { editBreakpoint } = this.calls;
+    if (!editBreakpoint) return;
+    if (event) event.preventDefault();
+    editBreakpoint(line);
+  }
+
+  /** @param {HTMLElement} wrapper */
+  listenToPointer(wrapper) {
+    wrapper.addEventListener("pointermove", (event) => {
+      this.meaning.hideTip();
+      clearTimeout(this.resting);
+      this.resting = window.setTimeout(() => this.pointedAt(event.clientX, event.clientY), REST_TIME);
+    });
+    wrapper.addEventListener("pointerleave", () => {
+      this.meaning.hideTip();
+      this.moved();
+    });
+  }
+
+  /**
+   * Shows what stands under the pointer.
+   * @param {number} left
+   * @param {number} top
+   */
+  pointedAt(left, top) {
+    const position = this.editor.editor.positionAt({ left, top });
+    const words = this.wordsAt(position);
+    const values = this.valuesAt(position);
+    if (words || values.length > 0) this.meaning.set(values, words);
+    this.meaning.tellAt(values, { left, top });
+  }
+
+  /**
+   * What the word at a position stands for now; none behind the end of its line.
+   * @param {Position} position
+   * @returns {Piece[]}
+   */
+  valuesAt({ line, ch }) {
+    const { valuesAt } = this.language;
+    return valuesAt ? valuesAt(this.editor.editor.getLine(line) || "", ch) : [];
+  }
+
+  /** What stands at the caret. */
+  tellCaret() {
+    const position = this.editor.editor.getCursor();
+    this.meaning.hideTip();
+    this.meaning.set(this.valuesAt(position), this.wordsAt(position));
+  }
+
+  /**
+   * What is wrong at a position, or what its word is; "" where there is nothing to say.
+   * @param {Position} position
+   */
+  wordsAt(position) {
+    return this.faults.wordsAt(position) || this.language.wordsAt(this.lines, position.line, position.ch);
+  }
+
+  /** The caret has another place; what stands there is told once it rests, so that no key waits for it. */
+  moved() {
+    clearTimeout(this.resting);
+    this.resting = window.setTimeout(() => this.tellCaret(), REST_TIME);
+  }
+
+  get text() {
+    return this.editor.text;
+  }
+
+  set text(text) {
+    this.open(this.editor.name, text);
+  }
+
+  /** The text as it is sent. */
+  get sent() {
+    return sentText(this.text, this.language.mark);
+  }
+
+  /** The text in which faults have their places. */
+  get aligned() {
+    return alignedText(this.text, this.language.mark);
+  }
+
+  get lines() {
+    return this.text.split("\n");
+  }
+
+  /**
+   * Shows the text of a session.
+   * @param {string} session its name
+   * @param {string} text
+   */
+  open(session, text) {
+    this.counts.clear();
+    this.lineValues.show(new Map());
+    this.marks.forget();
+    this.showFaults([]);
+    this.told.set("");
+    this.editor.open(session, text);
+    this.count();
+    this.meaning.set([], "");
+  }
+
+  /**
+   * Puts another text in the place of all, as one step that can be undone.
+   * @param {string} text
+   */
+  replaceText(text) {
+    this.editor.replaceText(text);
+  }
+
+  /**
+   * The line whose instruction comes next, or 0 for none; it is brought into view.
+   * @param {number} line
+   */
+  showNext(line) {
+    this.marks.showNext(line);
+    if (line > 0) this.editor.reveal(line);
+  }
+
+  /** @param {number} line to be seen */
+  reveal(line) {
+    this.editor.reveal(line);
+  }
+
+  /** @param {Map<number, BreakpointMark>} marks of the lines that have a breakpoint */
+  showBreakpoints(marks) {
+    const none = { mark: "", words: "" };
+    this.marks.showAt("breakpoints", (line) => (marks.get(line) || none).mark, (line) => (marks.get(line) || none).words);
+  }
+
+  /** @param {string[]} addresses of the lines, "" for a line that has none to show */
+  showAddresses(addresses) {
+    this.marks.showAt("addresses", (line) => addresses[line - 1] || "");
+  }
+
+  /**
+   * @param {Fault[]} faults
+   * @param {string} [more]
+   */
+  showFaults(faults, more = "") {
+    this.faults.show(faults, more);
+    this.moved();
+  }
+
+  /**
+   * Says what came of sending it.
+   * @param {string} words
+   */
+  tell(words) {
+    this.told.set(words);
+  }
+
+  /** @param {Edit[]} edits */
+  changed(edits) {
+    this.told.set("");
+    this.count();
+    this.calls.edited(edits);
+  }
+
+  /** How long the text is, once no key waits for it. */
+  count() {
+    clearTimeout(this.counting);
+    this.counting = window.setTimeout(() => {
+      const { isUnsent } = this.language;
+      const [{ length }, most, unit] = isUnsent ? [this.text, LONGEST_KEPT, "characters"] : [this.sent, LONGEST_TEXT, "bytes"];
+      this.counter.set(say.sizeOf(length.toLocaleString("en"), most.toLocaleString("en"), unit));
+      this.counter.node.classList.toggle("too-many", length > most);
+    }, REST_TIME);
+  }
+}

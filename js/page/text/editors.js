@@ -1,0 +1,239 @@
+// Both editors and the bench: their texts are tried while they are typed, and sent.
+
+import { readBoard, refusalOf } from "../../core/bench/answers.js";
+import { counted } from "../../core/bench/numbers.js";
+import { AllFaultsOfTexts, faultsOfFace, refusalOfText } from "../../core/text/all_faults.js";
+import { programTexts, wordsOfAssembled } from "../../core/text/assembling.js";
+import { assemblyColours } from "./assembly_colours.js";
+import { boardColours } from "./board_colours.js";
+import { completeBoard } from "../../core/text/board_completion.js";
+import { completeProgram } from "../../core/text/completion.js";
+import { block, button, onClick } from "../ui/dom.js";
+import { EditorView } from "./editor_view.js";
+import { moreThan } from "../../core/board/face.js";
+import { PARTS } from "../../core/text/folding.js";
+import { LiveFaults } from "./live_faults.js";
+import { instructionsOf } from "../../core/help/manual.js";
+import { MOST_FAULTS } from "../../core/text/program_faults.js";
+import { boardTables, helpForBoard, helpForProgram } from "../../core/text/text_help.js";
+import { TOUR_BOARD } from "../../words/help.js";
+import * as say from "../../words/text.js";
+
+/**
+ * @typedef {import("../../core/bench/bench.js").Bench} Bench
+ * @typedef {import("../../core/help/manual.js").ManualSection} ManualSection
+ * @typedef {import("../../core/text/program_faults.js").AllFaults} AllFaults
+ * @typedef {import("../../core/debug/breakpoints.js").Edit} Edit
+ * @typedef {import("../../core/text/text_fault.js").Fault} Fault
+ * @typedef {import("../../core/bench/words.js").Words} Words
+ *
+ * What they call: a text was edited, the program by these edits; its bytes came into ROM, where `isBegun` with a reset; lines are sent,
+ * which gives the first answer, or null where they failed; time is stopped, and runs; the counter, as it is written; a breakpoint is
+ * wanted at a line of the program, or is not wanted any more, or its words are; what a name of the program means, and a word at a place of
+ * a line stands for now; a cell that shows such a value can be edited; a text has so many faults; a board's text is put in the place of the
+ * one that is there, with words about it; a call failed.
+ * @typedef {{ edited: (edits: Edit[]) => void, assembled: (isBegun: boolean) => Promise<void>,
+ *   act: (lines: string) => Promise<string | null>, stop: () => Promise<void>, run: () => void,
+ *   counter: () => string, toggleBreakpoint: (line: number) => void, editBreakpoint: (line: number) => void,
+ *   meaningOf: (name: string) => string,
+ *   valuesAt: (text: string, at: number) => import("../../core/debug/value_words.js").Piece[], offer: import("./meaning_view.js").Offer,
+ *   hasFaults: (name: "program" | "board", count: number) => void, replaceBoard: (text: string, words: string) => void,
+ *   failed: (fault: unknown) => void }} EditorsCalls
+ */
+
+export class Editors {
+  /**
+   * @param {Bench} bench
+   * @param {Words} words
+   * @param {ManualSection[]} manual
+   * @param {EditorsCalls} calls
+   */
+  constructor(bench, words, manual, calls) {
+    this.bench = bench;
+    this.words = words;
+    this.calls = calls;
+    this.instructions = instructionsOf(manual);
+    this.tables = boardTables(manual);
+    this.program = this.makeProgram();
+    this.board = this.makeBoard();
+    const all = this.allFaults(words);
+    this.programFaults = new LiveFaults((isWanted) => all.ofProgram(this.program.text, isWanted),
+      (found) => this.show("program", found), calls.failed);
+    onClick(button("assemble-only"), () => this.assembleOnly().catch(calls.failed));
+    onClick(button("first-board"), () => this.wireFirst().catch(calls.failed));
+    this.boardFaults = new LiveFaults((isWanted) => all.ofBoard(this.board.text, isWanted),
+      (found) => this.show("board", found), calls.failed);
+  }
+
+  /** @param {Words} words */
+  allFaults(words) {
+    return new AllFaultsOfTexts({
+      refuse: (word, text) => this.refuse(word, text),
+      map: async (sent) => (await this.bench.call("checkProgram", [sent])).map,
+      roms: () => this.roms(),
+      boardFault: (sent, number) => this.bench.call("boardFault", [sent, number]),
+    }, this.instructions, (number) => words.ofRefusal(number));
+  }
+
+  makeProgram() {
+    return new EditorView("program-editor", {
+      mark: ";",
+      colours: assemblyColours(new Set(this.instructions.keys())),
+      gutters: ["breakpoints", "numbers", "addresses", "counts"],
+      // A line begins as a statement does.
+      indent: "\t",
+      folds: PARTS.program,
+      isInstruction: (word) => this.instructions.has(word),
+      wordsAt: (lines, line, at) => helpForProgram(lines, line, at, this.instructions, this.calls.meaningOf),
+      valuesAt: (text, at) => this.calls.valuesAt(text, at),
+      offer: (cell, value) => this.calls.offer(cell, value),
+      complete: (lines, line, at) => completeProgram(lines, line, at, this.instructions),
+    }, {
+      edited: (edits) => {
+        this.programFaults.edited();
+        this.calls.edited(edits);
+      },
+      send: () => this.assembleAndRun().catch(this.calls.failed),
+      toggleBreakpoint: this.calls.toggleBreakpoint,
+      editBreakpoint: this.calls.editBreakpoint,
+    });
+  }
+
+  makeBoard() {
+    return new EditorView("board-editor", {
+      mark: "#",
+      colours: boardColours,
+      gutters: ["numbers"],
+      folds: PARTS.board,
+      wordsAt: (lines, line, at) => helpForBoard(lines, line, at, this.tables),
+      complete: (lines, line, at) => completeBoard(lines, line, at, this.tables),
+    }, {
+      edited: () => {
+        this.boardFaults.edited();
+        this.calls.edited([]);
+      },
+      send: () => this.wire().catch(this.calls.failed),
+      toggleBreakpoint: () => {},
+    });
+  }
+
+  /**
+   * The texts of another session are shown, or the board is another one.
+   * @param {boolean} isEmpty whether the bench has no board
+   */
+  look(isEmpty) {
+    this.offerBoard(isEmpty);
+    this.programFaults.look().catch(this.calls.failed);
+    this.boardFaults.look().catch(this.calls.failed);
+  }
+
+  /**
+   * An empty bench says what it can begin with. Whoever has chosen by the keyboard goes on in that panel.
+   * @param {boolean} isOffered
+   */
+  offerBoard(isOffered) {
+    const offer = block("board-offer");
+    const hadFocus = offer.contains(document.activeElement);
+    offer.hidden = !isOffered;
+    const heading = block("front-title").querySelector("button");
+    if (hadFocus && !isOffered && heading) heading.focus();
+  }
+
+  /**
+   * What a text would be answered; the session stays as it is.
+   * @param {"asm" | "wire"} word
+   * @param {string} text
+   */
+  async refuse(word, text) {
+    const [answer] = await this.bench.call("ask", [`${word}\n${text}.\n`]);
+    return refusalOfText(refusalOf(answer));
+  }
+
+  /**
+   * @param {"program" | "board"} name
+   * @param {AllFaults} found
+   */
+  show(name, { faults, areAll }) {
+    const told = name === "board" ? [...faults, ...faultsOfFace(this.board.text)] : faults;
+    const more = areAll || faults.length < 2 ? "" : say.MAY_BE_MORE;
+    this[name].showFaults(told.slice(0, MOST_FAULTS), moreThan(told, MOST_FAULTS) || more);
+    this.calls.hasFaults(name, told.length);
+  }
+
+  /**
+   * Puts the program into ROM, as the only one there, and begins with it.
+   */
+  async assembleAndRun() {
+    if (!(await this.hasNoFaults("program"))) return;
+    await this.calls.stop();
+    const { sent } = this.program;
+    const { size, left } = await this.bench.call("leftovers", [sent]);
+    const lines = programTexts(sent, left).map((text) => `asm\n${text}.\n`).join("");
+    const answer = await this.calls.act(`${lines}reset\n`);
+    if (answer === null) return;
+    const refusal = refusalOf(answer);
+    const done = say.assembledAll(counted(size, "byte"));
+    this.program.tell(refusal ? this.wordsOfRefusal(refusal) : done);
+    if (refusal) return;
+    await this.calls.assembled(true);
+    this.calls.run();
+  }
+
+  /** Puts the program's bytes into ROM; nothing else changes. */
+  async assembleOnly() {
+    if (!(await this.hasNoFaults("program"))) return;
+    const { sent } = this.program;
+    const answer = await this.calls.act(`asm\n${sent}.\n`);
+    if (answer === null) return;
+    const refusal = refusalOf(answer);
+    if (!refusal) await this.calls.assembled(false);
+    const leftovers = await this.bench.call("leftovers", [sent]);
+    this.program.tell(refusal ? this.wordsOfRefusal(refusal) : wordsOfAssembled(leftovers, this.calls.counter()));
+  }
+
+  async wire() {
+    if (!(await this.hasNoFaults("board"))) return;
+    const answer = await this.calls.act(`wire\n${this.board.sent}.\n`);
+    if (answer === null) return;
+    const refusal = refusalOf(answer);
+    this.board.tell(refusal ? this.wordsOfRefusal(refusal) : say.BOARD_WIRED);
+    await this.programFaults.look();
+  }
+
+  /** An empty bench gets a board. */
+  async wireFirst() {
+    this.calls.replaceBoard(TOUR_BOARD, say.FIRST_BOARD);
+    await this.wire();
+  }
+
+  /** @param {import("../../core/bench/answers.js").Refusal} refusal */
+  wordsOfRefusal({ number }) {
+    return `no ${number}: ${this.words.ofRefusal(number)}`;
+  }
+
+  /**
+   * Looks at a text before it is sent: one with faults is not sent, and says so.
+   * @param {"program" | "board"} name
+   */
+  async hasNoFaults(name) {
+    const found = await (name === "program" ? this.programFaults : this.boardFaults).look();
+    if (found && found.faults.length > 0) this.refuseFaults(name, found.faults);
+    return found !== undefined && found.faults.length === 0;
+  }
+
+  /**
+   * A text with faults is not sent.
+   * @param {"program" | "board"} name
+   * @param {Fault[]} faults
+   */
+  refuseFaults(name, faults) {
+    const [{ line, words }] = faults;
+    this[name].tell(say.firstFault(line, words, faults.length - 1));
+    this[name].reveal(line);
+  }
+
+  /** The numbers of the ROMs of the board that is wired. */
+  async roms() {
+    return new Set(readBoard(await this.bench.call("ask", ["board\n"])).roms.map(({ chip }) => chip));
+  }
+}

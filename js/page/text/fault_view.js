@@ -1,0 +1,74 @@
+// The faults of a text: each one in the margin of its line, its word underlined, and all of them in a list below the text.
+
+import { element, onClick } from "../ui/dom.js";
+import { underlined } from "./line_layers.js";
+import { wordsOfLine } from "../../words/stops.js";
+
+/**
+ * @typedef {import("./line_editor.js").LineEditor} LineEditor
+ * @typedef {import("./line_marks.js").LineMarks} LineMarks
+ * @typedef {import("../../core/text/text_fault.js").Fault} Fault
+ */
+
+export class FaultView {
+  /**
+   * @param {LineEditor} editor
+   * @param {LineMarks} marks
+   * @param {HTMLElement} list
+   * @param {(fault: Fault) => void} goTo a user wants to go to a fault
+   */
+  constructor(editor, marks, list, goTo) {
+    this.editor = editor;
+    this.marks = marks;
+    this.list = list;
+    this.goTo = goTo;
+    /** @type {Fault[]} */
+    this.faults = [];
+    list.hidden = true;
+  }
+
+  /**
+   * @param {Fault[]} faults
+   * @param {string} more words after the last one
+   */
+  show(faults, more = "") {
+    if (faults.length === 0 && this.faults.length === 0) return;
+    this.faults = faults;
+    /** @type {Map<number, string>} */
+    const words = new Map();
+    for (const fault of faults) words.set(fault.line, [words.get(fault.line), fault.words].filter(Boolean).join("; "));
+    this.marks.showAt("faults", (line) => (words.has(line) ? "!" : ""), (line) => words.get(line) || "");
+    this.editor.showFaults(faults.flatMap((fault) => this.underline(fault)));
+    this.list.replaceChildren(...faults.map((fault) => this.entry(fault)), ...(more ? [element("li", {}, more)] : []));
+    this.list.hidden = faults.length === 0;
+  }
+
+  /**
+   * What is underlined of a fault; nothing in an empty line.
+   * @param {Fault} fault
+   */
+  underline({ line, from, to, words }) {
+    const length = (this.editor.getLine(line - 1) || "").length;
+    // A word that is missing has no place of its own: the character before it has.
+    const start = to > from ? from : Math.max(0, Math.min(from, length) - 1);
+    const end = Math.max(to, start + 1);
+    const [begin, behind] = [start, end].map((ch) => this.editor.offset({ line: line - 1, ch }));
+    return begin < behind ? [underlined("fault", words).range(begin, behind)] : [];
+  }
+
+  /** @param {Fault} fault */
+  entry(fault) {
+    const button = element("button", { type: "button" }, element("b", {}, `${wordsOfLine(fault.line)}: `), fault.words);
+    onClick(button, () => this.goTo(fault));
+    return element("li", {}, button);
+  }
+
+  /**
+   * What is wrong at a position of the text; "" where nothing is.
+   * @param {import("./line_editor.js").Position} position
+   */
+  wordsAt({ line, ch }) {
+    const found = this.faults.find((fault) => fault.line === line + 1 && ch >= fault.from && ch <= Math.max(fault.to, fault.from + 1));
+    return found ? found.words : "";
+  }
+}

@@ -1,0 +1,65 @@
+// A bar above a text with one field: a line to go to, another name.
+
+import { Cell, element, onClick } from "../ui/dom.js";
+import * as say from "../../words/text.js";
+
+/**
+ * What is asked: its label, what stands in the field at first, the word of the button; and what is done with what was typed, which gives
+ * words where it was refused, and "" where it was done.
+ * @typedef {{ label: string, value: string, word: string, act: (typed: string) => string }} Asked
+ */
+
+export class FieldBar {
+  /**
+   * @param {HTMLElement} parent takes the bar, before all else
+   * @param {() => void} closed the keyboard is the text's again
+   */
+  constructor(parent, closed) {
+    this.closed = closed;
+    this.label = new Cell(element("span"));
+    this.field = element("input", { autocomplete: "off", spellcheck: false });
+    this.told = new Cell(element("p", { role: "status" }));
+    this.act = element("button", { type: "button", title: "Enter" }, say.GO);
+    const close = element("button", { type: "button", title: "Escape" }, say.CLOSE);
+    this.bar = element("div", { role: "group", className: "search bar", hidden: true },
+      element("label", {}, this.label.node, " ", this.field), this.act, close, this.told.node);
+    parent.prepend(this.bar);
+    /** @type {Asked["act"]} */
+    this.done = () => "";
+    onClick(this.act, () => this.finish());
+    onClick(close, () => this.close());
+    this.field.addEventListener("keydown", (event) => this.typed(event));
+  }
+
+  /** @param {Asked} asked */
+  open({ label, value, word, act }) {
+    this.label.set(label);
+    this.bar.setAttribute("aria-label", label);
+    this.act.textContent = word;
+    this.done = act;
+    this.told.set("");
+    this.field.value = value;
+    this.bar.hidden = false;
+    this.field.focus();
+    this.field.select();
+  }
+
+  finish() {
+    const words = this.done(this.field.value.trim());
+    if (words === "") this.close();
+    else this.told.set(words);
+  }
+
+  close() {
+    this.bar.hidden = true;
+    this.closed();
+  }
+
+  /** @param {KeyboardEvent} event */
+  typed(event) {
+    if (event.key !== "Enter" && event.key !== "Escape") return;
+    event.preventDefault();
+    if (event.key === "Escape") this.close();
+    else this.finish();
+  }
+}

@@ -1,0 +1,93 @@
+// Parts of a text that fold away: by the margin, or by keys.
+
+import { counted } from "../../core/bench/numbers.js";
+import { element } from "../ui/dom.js";
+import { codeFolding, foldAll, foldCode, foldGutter, foldService, foldedRanges, unfoldAll, unfoldEffect } from "@codemirror/language";
+import { headOf, lastFolded } from "../../core/text/folding.js";
+import * as say from "../../words/text.js";
+
+/**
+ * @typedef {import("./line_editor.js").LineEditor} LineEditor
+ * @typedef {import("./line_editor.js").KeyMap} KeyMap
+ * @typedef {import("../../core/text/folding.js").Parts} Parts
+ */
+
+/**
+ * The lines of a text, as folding.js wants them.
+ * @param {import("@codemirror/state").Text} doc
+ * @returns {import("../../core/text/folding.js").LineAt}
+ */
+function linesOf(doc) {
+  return (line) => (line < doc.lines ? doc.line(line + 1).text : undefined);
+}
+
+/**
+ * What stands in the place of lines that are folded away.
+ * @param {number} count
+ * @param {(event: Event) => void} unfoldIt
+ */
+function makeWidget(count, unfoldIt) {
+  const node = element("span", { className: "folded-lines", title: say.UNFOLDS }, `… ${counted(count, "line")}`);
+  node.addEventListener("click", unfoldIt);
+  return node;
+}
+
+/**
+ * Lets parts of an editor's text fold.
+ * @param {Parts} parts
+ */
+export function folding(parts) {
+  return [
+    foldService.of(({ doc }, from) => {
+      const { number, to } = doc.lineAt(from);
+      const last = lastFolded(linesOf(doc), number - 1, parts) + 1;
+      return last === number ? null : { from: to, to: doc.line(last).to };
+    }),
+    codeFolding({
+      preparePlaceholder: ({ doc }, { from, to }) => doc.lineAt(to).number - doc.lineAt(from).number,
+      placeholderDOM: (_, unfoldIt, count) => makeWidget(count, unfoldIt),
+    }),
+    foldGutter({ markerDOM: (isOpen) => element("span", { className: isOpen ? "fold-open" : "fold-closed" }) }),
+  ];
+}
+
+/**
+ * @param {Parts} parts
+ * @returns {KeyMap}
+ */
+export function keysOfFolding(parts) {
+  return {
+    "Shift-Ctrl-[": (editor) => {
+      const head = headOf(linesOf(editor.doc), editor.getCursor().line, parts);
+      if (head < 0) return;
+      editor.setCursor({ line: head, ch: Infinity });
+      foldCode(editor.view);
+    },
+    "Shift-Ctrl-]": (editor) => unfold(editor, editor.getCursor().line),
+    "Shift-Ctrl-Alt-[": (editor) => foldAllOf(editor),
+    "Shift-Ctrl-Alt-]": (editor) => void unfoldAll(editor.view),
+  };
+}
+
+/**
+ * All parts fold; the caret is at the begin of its line then.
+ * @param {LineEditor} editor
+ */
+function foldAllOf(editor) {
+  editor.setCursor({ line: editor.getCursor().line, ch: 0 });
+  foldAll(editor.view);
+}
+
+/**
+ * A line is to be seen.
+ * @param {LineEditor} editor
+ * @param {number} line from 0
+ */
+export function unfold({ view, doc }, line) {
+  if (line < 0 || line >= doc.lines) return;
+  const found = doc.line(line + 1);
+  /** @type {import("@codemirror/state").StateEffect<any>[]} */
+  const effects = [];
+  foldedRanges(view.state).between(found.from, found.to, (from, to) => void effects.push(unfoldEffect.of({ from, to })));
+  if (effects.length > 0) view.dispatch({ effects });
+}

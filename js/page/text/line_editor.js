@@ -1,0 +1,449 @@
+// An editor of lines: CodeMirror 6 behind the calls that the page has for it. A place is a line and a character of it, both from 0. A text
+// has a state of its own, with its undo history, its caret and its marks.
+
+import { defaultKeymap, history, historyKeymap, indentLess, insertTab, isolateHistory, redo, redoDepth, undo, undoDepth }
+  from "@codemirror/commands";
+import { autocompletion, startCompletion } from "@codemirror/autocomplete";
+import { indentUnit } from "@codemirror/language";
+import { ChangeSet, Compartment, EditorState, Prec, Transaction } from "@codemirror/state";
+import { EditorView, dropCursor, highlightSpecialChars, keymap, lineNumbers } from "@codemirror/view";
+import { lineColours } from "./line_colours.js";
+import { gutterLayer, gutterOf, lookOf, markLayer, textLayer, textMark } from "./line_layers.js";
+import { keepRulesInSheet } from "./style_rules.js";
+
+/**
+ * @typedef {{ line: number, ch: number }} Position
+ * @typedef {import("@codemirror/state").Extension} Extension
+ * @typedef {import("../../core/debug/breakpoints.js").Edit} Edit
+ * @typedef {import("../../core/text/completion.js").Completion} Completion
+ * @typedef {import("./line_layers.js").Layer} Layer
+ * @typedef {Record<string, (editor: LineEditor) => void>} KeyMap by names of keys, as `Shift-Ctrl-[`
+ *
+ * What it calls: the text was edited; the caret was moved; a gutter was clicked at a line (from 0), or by the second button; a text of so
+ * many characters is pasted or dropped, and it is said whether it is taken; what the word at a place can become.
+ * @typedef {{ edited: (edits: Edit[]) => void, moved: () => void, clickedGutter: (line: number) => void,
+ *   askedGutter: (line: number, event: Event) => void, takes: (size: number) => boolean,
+ *   complete: (position: Position) => Completion }} EditorCalls
+ *
+ * What an editor is made of: what holds it, its name for those who do not see it, and what they are told beside it; the colours of its
+ * lines; its gutters, "numbers" for those of its lines; the blanks that a new line begins with, where it is not those of the line before;
+ * its own keys, and more of CodeMirror's parts.
+ * @typedef {{ container: HTMLElement, label: string, description: string, colours: import("./line_colours.js").Colours, gutters: string[],
+ *   indent?: string, keys: KeyMap, more: Extension[], calls: EditorCalls }} EditorParts
+ */
+
+const INDENT = 8;
+const HISTORY = { minDepth: 1000, newGroupDelay: 1250 };
+/** What comes in by one act of these has to have room. */
+const AT_ONCE = ["input.paste", "input.drop"];
+
+keepRulesInSheet();
+
+/**
+ * @param {import("@codemirror/state").Text} doc
+ * @param {number} offset
+ * @returns {Position}
+ */
+function positionIn(doc, offset) {
+  const line = doc.lineAt(offset);
+  return { line: line.number - 1, ch: offset - line.from };
+}
+
+/**
+ * The edits of a transaction, the last one first, so that each has its place in the text as it was.
+ * @param {Transaction} transaction
+ */
+function editsOf(transaction) {
+  const { startState: { doc } } = transaction;
+  const origin = transaction.annotation(Transaction.userEvent);
+  /** @type {Edit[]} */
+  const edits = [];
+  transaction.changes.iterChanges((from, to, _from, _to, inserted) => {
+    const removed = doc.slice(from, to).toJSON();
+    edits.unshift({ from: positionIn(doc, from), to: positionIn(doc, to), text: inserted.toJSON(), removed, origin });
+  });
+  return edits;
+}
+
+/** @param {string} name of a key; a letter stands in lower case, where it is typed without Shift */
+function keyName(name) {
+  return name.replace(/-([A-Z])$/, (_, letter) => `-${letter.toLowerCase()}`);
+}
+
+export class LineEditor {
+  /** @param {EditorParts} parts */
+  constructor(parts) {
+    this.calls = parts.calls;
+    this.container = parts.container;
+    this.wrapping = new Compartment();
+    this.wraps = false;
+    /** @type {Map<string, Layer>} by the names of the gutters */
+    this.marks = new Map(parts.gutters.filter((name) => name !== "numbers").map((name) => [name, markLayer()]));
+    this.layers = { next: textLayer(), nextNumber: gutterLayer(), lacking: gutterLayer(), faults: textLayer(), values: textLayer() };
+    /** @type {(() => void)[]} what is to be done after each edit */
+    this.afterEdits = [];
+    this.extensions = this.extensionsOf(parts);
+    this.view = new EditorView({ parent: parts.container, state: this.stateOf("") });
+    // Who looks at the page from outside finds the editor by its element.
+    Object.assign(this.view.dom, { lineEditor: this });
+  }
+
+  /**
+   * @param {EditorParts} parts
+   * @returns {Extension[]}
+   */
+  extensionsOf({ label, description, colours, gutters, indent, keys, more }) {
+    const own = Object.entries(keys).map(([key, act]) => ({ key: keyName(key), run: () => {
+      act(this);
+      return true;
+    } }));
+    return [
+      Prec.high(keymap.of([...own, { key: "Enter", run: () => this.breakLine(indent) }])),
+      keymap.of([...historyKeymap, ...defaultKeymap]),
+      history(HISTORY),
+      EditorState.tabSize.of(INDENT),
+      indentUnit.of("\t"),
+      highlightSpecialChars(),
+      dropCursor(),
+      lineColours(colours),
+      ...gutters.map((name) => this.gutterOf(name)),
+      ...more,
+      ...[...this.marks.values(), ...Object.values(this.layers)].map(({ field }) => field),
+      autocompletion({ override: [(context) => this.choices(context)], activateOnTyping: false, icons: false, interactionDelay: 0 }),
+      EditorView.contentAttributes.of({ "aria-label": label, "aria-description": description }),
+      EditorState.transactionFilter.of((transaction) => (this.takes(transaction) ? transaction : [])),
+      EditorView.updateListener.of((update) => this.updated(update)),
+    ];
+  }
+
+  /** @param {string} name */
+  gutterOf(name) {
+    /** @type {(view: EditorView, block: { from: number }) => number} */
+    const lineOf = ({ state }, { from }) => state.doc.lineAt(from).number - 1;
+    const domEventHandlers = {
+      click: (/** @type {EditorView} */ view, /** @type {{ from: number }} */ block) => {
+        this.calls.clickedGutter(lineOf(view, block));
+        return true;
+      },
+      contextmenu: (/** @type {EditorView} */ view, /** @type {{ from: number }} */ block, /** @type {Event} */ event) => {
+        this.calls.askedGutter(lineOf(view, block), event);
+        return false;
+      },
+    };
+    const layer = this.marks.get(name);
+    return layer ? gutterOf(name, layer, { domEventHandlers }) : lineNumbers({ domEventHandlers });
+  }
+
+  /** @param {string} text of a state, which has no history */
+  stateOf(text) {
+    return EditorState.create({ doc: text, extensions: [this.extensions, this.wrapping.of(this.wraps ? EditorView.lineWrapping : [])] });
+  }
+
+  get state() {
+    return this.view.state;
+  }
+
+  get doc() {
+    return this.view.state.doc;
+  }
+
+  /** @param {import("@codemirror/view").ViewUpdate} update */
+  updated({ docChanged, selectionSet, transactions }) {
+    if (docChanged) {
+      this.calls.edited(transactions.flatMap(editsOf));
+      for (const act of this.afterEdits) act();
+    }
+    if (docChanged || selectionSet) this.calls.moved();
+  }
+
+  /**
+   * Whether there is room for what is pasted or dropped.
+   * @param {Transaction} transaction
+   */
+  takes(transaction) {
+    const isAtOnce = transaction.docChanged && AT_ONCE.some((event) => transaction.isUserEvent(event));
+    return !isAtOnce || this.calls.takes(transaction.newDoc.length);
+  }
+
+  /**
+   * Begins a new line, with the blanks that are told, or those of the line before.
+   * @param {string} [indent]
+   */
+  breakLine(indent) {
+    const { from, to } = this.state.selection.main;
+    const before = this.doc.lineAt(from);
+    const blanks = /^[ \t]*/.exec(before.text.slice(0, from - before.from)) || [""];
+    const behind = /^[ \t]*/.exec(this.doc.sliceString(to, this.doc.lineAt(to).to)) || [""];
+    const insert = `\n${indent === undefined ? blanks[0] : indent}`;
+    this.view.dispatch({ changes: { from, to: to + behind[0].length, insert }, selection: { anchor: from + insert.length },
+      scrollIntoView: true, userEvent: "input" });
+    return true;
+  }
+
+  /**
+   * The lines that are selected go in, or out; else a tab is put in.
+   * @param {boolean} isOut
+   */
+  indent(isOut) {
+    return (isOut ? indentLess : insertTab)(this.view);
+  }
+
+  /** @param {import("@codemirror/autocomplete").CompletionContext} context */
+  choices({ pos }) {
+    const { line, ch } = positionIn(this.doc, pos);
+    const { from, to, list } = this.calls.complete({ line, ch });
+    if (list.length === 0) return null;
+    const options = list.map(({ text, what }) => {
+      const [first] = text.split("\n");
+      return { label: text, displayLabel: `${first}${what && !what.startsWith(" ") ? "   " : ""}${what}`, apply: text };
+    });
+    return { from: pos - ch + from, to: pos - ch + to, options, filter: false };
+  }
+
+  /** Offers what the word at the caret can become. */
+  complete() {
+    startCompletion(this.view);
+  }
+
+  getValue() {
+    return this.doc.toString();
+  }
+
+  /**
+   * Shows another text in the place of all, as an edit.
+   * @param {string} text
+   */
+  setValue(text) {
+    this.edit([{ from: 0, to: this.doc.length, insert: text }]);
+  }
+
+  /** @param {number} line from 0; undefined where there is none */
+  getLine(line) {
+    return line >= 0 && line < this.doc.lines ? this.doc.line(line + 1).text : undefined;
+  }
+
+  lineCount() {
+    return this.doc.lines;
+  }
+
+  lastLine() {
+    return this.doc.lines - 1;
+  }
+
+  /**
+   * Where a position is in the text; one that the text lacks is the next one that it has.
+   * @param {Position} position
+   */
+  offset({ line, ch }) {
+    const { from, to } = this.doc.line(Math.min(Math.max(line, 0), this.lastLine()) + 1);
+    return line > this.lastLine() ? to : Math.min(from + Math.max(0, ch), to);
+  }
+
+  /** @param {number} offset */
+  position(offset) {
+    return positionIn(this.doc, Math.min(Math.max(0, offset), this.doc.length));
+  }
+
+  /** @param {"head" | "from" | "to"} which end of what is selected */
+  getCursor(which = "head") {
+    return this.position(this.state.selection.main[which]);
+  }
+
+  /** Where what is selected stands in the text. */
+  get selected() {
+    const { from, to } = this.state.selection.main;
+    return { from, to };
+  }
+
+  getSelection() {
+    const { from, to } = this.state.selection.main;
+    return this.state.sliceDoc(from, to);
+  }
+
+  /**
+   * @param {Position} anchor
+   * @param {Position} head
+   */
+  setSelection(anchor, head = anchor) {
+    this.view.dispatch({ selection: { anchor: this.offset(anchor), head: this.offset(head) }, scrollIntoView: true, userEvent: "select" });
+  }
+
+  /** @param {Position} position of the caret */
+  setCursor(position) {
+    this.setSelection(position);
+  }
+
+  /**
+   * What is selected becomes another text, behind which the caret stands.
+   * @param {string} text
+   * @param {string} [event] what it is called where it goes together with what was typed before
+   */
+  replaceSelection(text, event) {
+    const { from, to } = this.state.selection.main;
+    this.view.dispatch({ changes: { from, to, insert: text }, selection: { anchor: from + text.length }, scrollIntoView: true,
+      ...(event ? { userEvent: event } : { annotations: isolateHistory.of("full") }) });
+  }
+
+  /**
+   * @param {string} text in the place of what stands between two places
+   * @param {Position} from
+   * @param {Position} [to]
+   */
+  replaceRange(text, from, to = from) {
+    this.edit([{ from: this.offset(from), to: this.offset(to), insert: text }]);
+  }
+
+  /**
+   * Edits that are told one after the other, each in the text that those before it have left, as one step that can be undone.
+   * @param {import("../../core/drawing/text_edits.js").TextEdit[]} edits
+   */
+  edit(edits) {
+    const changes = edits.reduce((all, each) => all.compose(ChangeSet.of(each, all.newLength, this.state.lineBreak)),
+      ChangeSet.empty(this.doc.length));
+    this.view.dispatch({ changes, annotations: isolateHistory.of("full") });
+  }
+
+  /**
+   * The last step is undone, or done again; false where there is none.
+   * @param {"undo" | "redo"} which
+   */
+  undoOrRedo(which) {
+    const [depth, act] = which === "undo" ? [undoDepth, undo] : [redoDepth, redo];
+    return depth(this.state) > 0 && act(this.view);
+  }
+
+  undo() {
+    this.undoOrRedo("undo");
+  }
+
+  /**
+   * What a gutter shows; other lines have nothing in it.
+   * @param {string} gutter
+   * @param {import("./line_layers.js").GutterMark[]} marks in the order of their lines
+   */
+  showMarks(gutter, marks) {
+    const layer = this.marks.get(gutter);
+    if (layer) layer.show(this.view, marks.map((mark) => textMark(gutter, mark).range(this.doc.line(mark.line + 1).from)));
+  }
+
+  /**
+   * The lines (from 0) that have a mark in a gutter.
+   * @param {string} gutter
+   */
+  marksIn(gutter) {
+    /** @type {number[]} */
+    const lines = [];
+    const layer = this.marks.get(gutter);
+    if (layer) this.state.field(layer.field).between(0, this.doc.length, (from) => void lines.push(this.position(from).line));
+    return lines;
+  }
+
+  /**
+   * Lines have a look in the gutters, and in the text where `isWhole`.
+   * @param {"next" | "lacking"} name
+   * @param {number[]} lines from 0, in their order
+   */
+  showLook(name, lines) {
+    const look = lookOf(name);
+    const starts = lines.map((line) => this.doc.line(line + 1).from);
+    this.layers[name === "next" ? "nextNumber" : "lacking"].show(this.view, starts.map((from) => look.gutters.range(from)));
+    if (name === "next") this.layers.next.show(this.view, starts.map((from) => look.line.range(from)));
+  }
+
+  /** @param {import("@codemirror/state").Range<any>[]} ranges underlined words */
+  showFaults(ranges) {
+    this.layers.faults.show(this.view, ranges);
+  }
+
+  /** @param {import("@codemirror/state").Range<any>[]} ranges words behind lines */
+  showValues(ranges) {
+    this.layers.values.show(this.view, ranges);
+  }
+
+  focus() {
+    this.view.focus();
+  }
+
+  getInputField() {
+    return this.view.contentDOM;
+  }
+
+  getWrapperElement() {
+    return this.view.dom;
+  }
+
+  /**
+   * The position nearest to a point of the window.
+   * @param {{ left: number, top: number }} point
+   */
+  positionAt({ left, top }) {
+    return this.position(this.view.posAtCoords({ x: left, y: top }, false));
+  }
+
+  getScrollInfo() {
+    const { scrollTop, scrollWidth, clientWidth, clientHeight } = this.view.scrollDOM;
+    return { top: scrollTop, width: scrollWidth, clientWidth, clientHeight };
+  }
+
+  /** @param {number} top in pixels */
+  scrollTo(top) {
+    this.view.scrollDOM.scrollTop = top;
+  }
+
+  /** @param {() => void} act */
+  onScroll(act) {
+    this.view.scrollDOM.addEventListener("scroll", act);
+  }
+
+  /** @param {() => void} act is to be done after each edit */
+  onEdit(act) {
+    this.afterEdits.push(act);
+  }
+
+  /**
+   * How far below the text's begin a line stands.
+   * @param {number} line
+   */
+  heightAtLine(line) {
+    return this.view.lineBlockAt(this.offset({ line, ch: 0 })).top;
+  }
+
+  /**
+   * Brings a position into view, with so many pixels above and below.
+   * @param {Position} position
+   * @param {number} margin
+   */
+  scrollIntoView(position, margin) {
+    this.view.dispatch({ effects: EditorView.scrollIntoView(this.offset(position), { yMargin: margin }) });
+  }
+
+  /** @param {boolean} wraps whether long lines are broken */
+  wrap(wraps) {
+    if (wraps === this.wraps) return;
+    this.wraps = wraps;
+    this.view.dispatch({ effects: this.wrapping.reconfigure(wraps ? EditorView.lineWrapping : []) });
+  }
+
+  /** What surrounds the text has another size. */
+  refresh() {
+    this.view.requestMeasure();
+  }
+
+  /** @param {() => void} act is done once the text that is shown has been measured, and nothing keeps its place in view any more */
+  whenMeasured(act) {
+    this.view.requestMeasure({ read: () => null, write: () => queueMicrotask(act) });
+  }
+
+  /**
+   * Shows another state; gives the one that was there.
+   * @param {EditorState} state
+   */
+  swap(state) {
+    const before = this.state;
+    // It would be kept at the line that stands there, as heights are measured.
+    this.scrollTo(0);
+    this.view.setState(state);
+    this.view.dispatch({ effects: this.wrapping.reconfigure(this.wraps ? EditorView.lineWrapping : []) });
+    return before;
+  }
+}

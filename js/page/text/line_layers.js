@@ -1,0 +1,155 @@
+// What lies over the lines of an editor and goes with them while the text is edited: marks in the gutters, looks of lines, underlined
+// words, words behind lines. Each is a set of ranges that is put in the place of the one before.
+
+import { RangeSet, StateEffect, StateField } from "@codemirror/state";
+import { Decoration, EditorView, GutterMarker, WidgetType, gutter, gutterLineClass } from "@codemirror/view";
+import { element } from "../ui/dom.js";
+import * as say from "../../words/text.js";
+
+/**
+ * @typedef {import("@codemirror/state").Extension} Extension
+ * @typedef {RangeSet<any>} Ranges
+ *
+ * What stands in a gutter at a line, from 0, and what it means.
+ * @typedef {{ line: number, text: string, words: string }} GutterMark
+ */
+
+/** A text in a gutter. */
+class TextMark extends GutterMarker {
+  /**
+   * @param {string} name of the gutter
+   * @param {string} text
+   * @param {string} words
+   */
+  constructor(name, text, words) {
+    super();
+    this.told = { textContent: text, title: words, className: `mark-${name}` };
+  }
+
+  /** @param {TextMark} other */
+  eq({ told }) {
+    return told.textContent === this.told.textContent && told.title === this.told.title;
+  }
+
+  toDOM() {
+    return element("span", this.told);
+  }
+}
+
+/** A class of the gutters at a line. */
+class LookOfGutters extends GutterMarker {
+  /** @param {string} name */
+  constructor(name) {
+    super();
+    this.elementClass = name;
+  }
+}
+
+/** Words behind a line. */
+class WordsBehind extends WidgetType {
+  /**
+   * @param {string} words
+   * @param {string} className
+   */
+  constructor(words, className) {
+    super();
+    this.words = words;
+    this.className = className;
+  }
+
+  /** @param {WordsBehind} other */
+  eq({ words, className }) {
+    return words === this.words && className === this.className;
+  }
+
+  toDOM() {
+    return element("span", { className: this.className, title: say.LINE_CHANGED }, this.words);
+  }
+}
+
+/** A set of ranges over the text. */
+export class Layer {
+  /** @param {(field: StateField<Ranges>) => Extension} provide says what the ranges are to the editor */
+  constructor(provide) {
+    /** @type {import("@codemirror/state").StateEffectType<Ranges>} */
+    this.put = StateEffect.define();
+    /** @type {StateField<Ranges>} */
+    this.field = StateField.define({
+      create: () => RangeSet.empty,
+      update: (ranges, { changes, effects }) => {
+        const put = effects.find((effect) => effect.is(this.put));
+        return put ? put.value : ranges.map(changes);
+      },
+      provide,
+    });
+  }
+
+  /**
+   * @param {EditorView} view
+   * @param {import("@codemirror/state").Range<any>[]} ranges those of before go
+   */
+  show(view, ranges) {
+    const before = view.state.field(this.field);
+    const after = RangeSet.of(ranges, true);
+    if (!RangeSet.eq([before], [after])) view.dispatch({ effects: this.put.of(after) });
+  }
+}
+
+/** A layer of looks of the text. */
+export function textLayer() {
+  return new Layer((field) => EditorView.decorations.from(field));
+}
+
+/** A layer of looks of the gutters. */
+export function gutterLayer() {
+  return new Layer((field) => gutterLineClass.from(field));
+}
+
+/** A layer of marks of one gutter, which the gutter itself shows. */
+export function markLayer() {
+  return new Layer(() => []);
+}
+
+/**
+ * A gutter that shows the marks of a layer.
+ * @param {string} name
+ * @param {Layer} layer
+ * @param {Parameters<typeof gutter>[0]} more
+ */
+export function gutterOf(name, layer, more) {
+  return gutter({ class: name, markers: ({ state }) => state.field(layer.field), ...more });
+}
+
+/**
+ * @param {string} name of the gutter
+ * @param {GutterMark} mark
+ */
+export function textMark(name, { text, words }) {
+  return new TextMark(name, text, words);
+}
+
+/** @type {Map<string, { line: Decoration, gutters: GutterMarker }>} the looks of lines by their names */
+const looks = new Map();
+
+/** @param {string} name a class of the line; that of the gutters beside it has `at-` before */
+export function lookOf(name) {
+  const look = looks.get(name) || { line: Decoration.line({ class: name }), gutters: new LookOfGutters(`at-${name}`) };
+  looks.set(name, look);
+  return look;
+}
+
+/**
+ * @param {string} words
+ * @param {string} className
+ */
+export function wordsBehind(words, className) {
+  return Decoration.widget({ widget: new WordsBehind(words, className), side: 1 });
+}
+
+/**
+ * @param {string} className
+ * @param {string} title
+ */
+export function underlined(className, title) {
+  return Decoration.mark({ class: className, attributes: { title } });
+}

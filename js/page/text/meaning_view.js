@@ -1,0 +1,85 @@
+// What the word at the pointer or the caret is, below a text: what it stands for now, in pieces, each value a cell that can be edited; then
+// what it means. At the pointer what it stands for is told right there, too.
+
+import { element } from "../ui/dom.js";
+import { putBelow } from "../ui/told_at.js";
+import { textOf } from "../../core/debug/value_words.js";
+import * as say from "../../words/text.js";
+
+/**
+ * @typedef {import("../../core/debug/value_words.js").Piece} Piece
+ * @typedef {import("../../core/debug/value_words.js").Value} Value
+ * @typedef {(cell: HTMLElement, value: Value) => void} Offer makes a cell one that can be edited
+ */
+
+/** How far below the pointer the words stand, in pixels. */
+const BELOW_POINTER = 16;
+
+/**
+ * The pieces without the values: as long as these stay, the cells stay.
+ * @param {Piece[]} pieces
+ */
+function shapeOf(pieces) {
+  return pieces.map((piece) => (typeof piece === "string" ? piece : piece.place)).join("\n");
+}
+
+export class MeaningView {
+  /** @param {Offer} offer */
+  constructor(offer) {
+    this.offer = offer;
+    this.values = element("span", { className: "values" });
+    this.words = element("span");
+    this.node = element("p", { className: "meaning" }, this.values, this.words);
+    this.tip = element("p", { className: "value-tip", hidden: true });
+    this.tip.setAttribute("aria-hidden", "true");
+    document.body.append(this.tip);
+    this.shape = "";
+    /** @type {HTMLElement[]} */
+    this.cells = [];
+  }
+
+  /**
+   * @param {Piece[]} pieces
+   * @param {string} words
+   */
+  set(pieces, words) {
+    const shape = shapeOf(pieces);
+    if (shape !== this.shape) {
+      this.shape = shape;
+      this.cells = [];
+      this.values.replaceChildren(...pieces.map((piece) => (typeof piece === "string" ? piece : this.cellOf(piece))));
+    }
+    const values = pieces.flatMap((piece) => (typeof piece === "string" ? [] : [piece.value]));
+    this.cells.forEach((cell, at) => {
+      if (cell.textContent !== values[at]) cell.textContent = values[at];
+    });
+    const told = textOf(pieces);
+    const more = told === "" ? words : words === "" || told.startsWith(words) ? "" : `. ${words}`;
+    if (this.words.textContent !== more) this.words.textContent = more;
+  }
+
+  /** @param {Value} value */
+  cellOf(value) {
+    const cell = element("button", { "type": "button", "className": "value", "title": say.edits(value.name) });
+    cell.setAttribute("aria-label", value.name);
+    cell.textContent = value.value;
+    this.offer(cell, value);
+    this.cells.push(cell);
+    return cell;
+  }
+
+  /**
+   * Tells values at the pointer.
+   * @param {Piece[]} pieces none take them away
+   * @param {{ left: number, top: number }} point in the window
+   */
+  tellAt(pieces, { left, top }) {
+    this.tip.textContent = textOf(pieces);
+    this.tip.hidden = pieces.length === 0;
+    if (pieces.length > 0) putBelow(this.tip, { left, bottom: top }, BELOW_POINTER);
+  }
+
+  hideTip() {
+    if (!this.tip.hidden) this.tip.hidden = true;
+  }
+}

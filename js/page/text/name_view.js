@@ -1,0 +1,124 @@
+// Names in a text: to where one is defined, all places of it, another name in all of them; and a line by its number.
+
+import { counted } from "../../core/bench/numbers.js";
+import { element, onClick } from "../ui/dom.js";
+import { FieldBar } from "./field_bar.js";
+import { definitionOf, faultOfRenaming, nameAt, referencesOf } from "../../core/text/references.js";
+import * as say from "../../words/text.js";
+
+/**
+ * @typedef {import("./text_editor.js").TextEditor} TextEditor
+ * @typedef {import("../../core/text/references.js").Reference} Reference
+ */
+
+/** Words of a line in the list of places. */
+const LONGEST_WORDS = 60;
+
+export class NameView {
+  /**
+   * @param {TextEditor} text
+   * @param {HTMLElement} parent takes the bar and the list
+   * @param {{ isInstruction: (word: string) => boolean, tell: (words: string) => void }} calls
+   */
+  constructor(text, parent, calls) {
+    this.text = text;
+    this.calls = calls;
+    this.bar = new FieldBar(parent, () => text.editor.focus());
+    this.list = element("ul", { "className": "places", "aria-label": say.PLACES_OF_NAME, "hidden": true });
+    parent.append(this.list);
+  }
+
+  get lines() {
+    return this.text.text.split("\n");
+  }
+
+  /** The name at the caret; where there is none, that is told. */
+  nameAtCaret() {
+    const { line, ch } = this.text.editor.getCursor();
+    const name = nameAt(this.lines, line, ch);
+    if (name === "") this.calls.tell(say.NO_NAME);
+    return name;
+  }
+
+  /** @param {Reference} reference */
+  show({ line, from, to }) {
+    const { editor } = this.text;
+    this.text.goTo({ line: line - 1, ch: from });
+    editor.setSelection({ line: line - 1, ch: from }, { line: line - 1, ch: to });
+    editor.scrollIntoView({ line: line - 1, ch: to }, 60);
+  }
+
+  /** To where the name at the caret is defined. */
+  define() {
+    const name = this.nameAtCaret();
+    const definition = name === "" ? null : definitionOf(this.lines, name);
+    if (definition) this.show(definition);
+  }
+
+  /** Lists all places of the name at the caret. */
+  find() {
+    const name = this.nameAtCaret();
+    if (name === "") return;
+    const { lines } = this;
+    const references = referencesOf(lines, name);
+    const close = element("button", { type: "button" }, say.CLOSE);
+    onClick(close, () => this.close());
+    this.list.replaceChildren(element("li", {}, say.nameIsAt(name, counted(references.length, "place")), close),
+      ...references.map((reference) => this.row(reference, lines[reference.line - 1])));
+    this.list.hidden = false;
+  }
+
+  /**
+   * @param {Reference} reference
+   * @param {string} text of its line
+   */
+  row(reference, text) {
+    const made = element("button", { type: "button" }, say.lineOfName(reference.line, reference.isDefinition));
+    onClick(made, () => this.show(reference));
+    return element("li", {}, made, " ", element("code", {}, text.trim().slice(0, LONGEST_WORDS)));
+  }
+
+  close() {
+    this.list.hidden = true;
+    this.text.editor.focus();
+  }
+
+  /** Asks for another name for the one at the caret. */
+  rename() {
+    const name = this.nameAtCaret();
+    if (name === "") return;
+    this.bar.open({ label: say.otherName(name), value: name, word: say.RENAME, act: (wanted) => this.renameTo(name, wanted) });
+  }
+
+  /**
+   * @param {string} name
+   * @param {string} wanted
+   */
+  renameTo(name, wanted) {
+    const { lines, calls, text } = this;
+    const fault = faultOfRenaming(lines, name, wanted, calls.isInstruction);
+    if (fault) return fault;
+    const references = referencesOf(lines, name);
+    text.edit([...references].reverse().map(({ line, from, to }) => (
+      { from: text.editor.offset({ line: line - 1, ch: from }), to: text.editor.offset({ line: line - 1, ch: to }), insert: wanted })));
+    calls.tell(say.renamed(name, wanted, counted(references.length, "place")));
+    return "";
+  }
+
+  /** Asks for the number of a line. */
+  goToLine() {
+    const last = this.text.editor.lineCount();
+    this.bar.open({
+      label: say.lineOfText(last.toLocaleString("en")),
+      value: "",
+      word: say.GO,
+      act: (typed) => {
+        const line = /^\d+$/.test(typed) ? Number(typed) : 0;
+        if (line < 1 || line > last) return say.lineIs(last.toLocaleString("en"));
+        this.text.goTo({ line: line - 1, ch: 0 });
+        this.text.reveal(line);
+        return "";
+      },
+    });
+  }
+}

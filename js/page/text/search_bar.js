@@ -1,0 +1,124 @@
+// The search in a text: a bar above it, the next and the one before, and how many there are; and another word in their place.
+
+import { Cell, element, onClick } from "../ui/dom.js";
+import * as say from "../../words/text.js";
+
+/**
+ * @typedef {import("./line_editor.js").LineEditor} LineEditor
+ * @typedef {{ from: number, to: number }} Span of the text
+ */
+
+/** More than so many are not counted. */
+const MOST_COUNTED = 1000;
+
+export class SearchBar {
+  /**
+   * @param {LineEditor} editor
+   * @param {HTMLElement} parent takes the bar, before all else
+   * @param {string} label of the text
+   */
+  constructor(editor, parent, label) {
+    this.editor = editor;
+    this.field = element("input", { "type": "search", "aria-label": say.searchIn(label), "autocomplete": "off", "spellcheck": false });
+    this.told = new Cell(element("p", { role: "status" }));
+    const before = element("button", { type: "button", title: say.SHIFT_ENTER }, say.PREVIOUS);
+    const next = element("button", { type: "button", title: "Enter" }, say.NEXT);
+    const close = element("button", { type: "button", title: "Escape" }, say.CLOSE);
+    this.other = element("input", {
+      "aria-label": say.REPLACE_BY, "placeholder": say.REPLACE_BY_HINT, "autocomplete": "off", "spellcheck": false,
+    });
+    const one = element("button", { type: "button", title: say.REPLACE_TITLE }, say.REPLACE);
+    const all = element("button", { type: "button" }, say.REPLACE_ALL);
+    this.replacing = element("div", { className: "bar", hidden: true }, this.other, one, all);
+    this.bar = element("div", { role: "search", className: "search bar", hidden: true }, this.field, before, next, close, this.told.node,
+      this.replacing);
+    parent.prepend(this.bar);
+    onClick(one, () => this.replace());
+    onClick(all, () => this.replaceAll());
+    this.other.addEventListener("keydown", (event) => this.typed(event, () => this.replace()));
+    onClick(before, () => this.find(true));
+    onClick(next, () => this.find(false));
+    onClick(close, () => this.close());
+    this.field.addEventListener("input", () => this.find(false, this.editor.selected.from));
+    this.field.addEventListener("keydown", (event) => this.typed(event, (isBack) => this.find(isBack)));
+  }
+
+  /**
+   * Begins with what is selected, or was sought last.
+   * @param {boolean} [replaces]
+   */
+  open(replaces = false) {
+    this.replacing.hidden = !replaces;
+    const chosen = this.editor.getSelection();
+    if (chosen && !chosen.includes("\n")) this.field.value = chosen;
+    this.bar.hidden = false;
+    this.field.focus();
+    this.field.select();
+  }
+
+  close() {
+    this.bar.hidden = true;
+    this.told.set("");
+    this.editor.focus();
+  }
+
+  /**
+   * @param {KeyboardEvent} event
+   * @param {(isBack: boolean) => void} act
+   */
+  typed(event, act) {
+    if (event.key !== "Enter" && event.key !== "Escape") return;
+    event.preventDefault();
+    if (event.key === "Escape") this.close();
+    else act(event.shiftKey);
+  }
+
+  /** Replaces what is selected, where it is what is sought, and goes on to the next. */
+  replace() {
+    const { editor } = this;
+    const wanted = this.field.value;
+    const isChosen = wanted !== "" && editor.getSelection().toLowerCase() === wanted.toLowerCase();
+    if (isChosen) editor.replaceSelection(this.other.value);
+    this.find(false);
+  }
+
+  /** Replaces all, as one step that can be undone. */
+  replaceAll() {
+    const wanted = this.field.value;
+    if (wanted === "") return;
+    const spans = this.spansOf(wanted);
+    const count = spans.length;
+    if (count > 0) this.editor.edit([...spans].reverse().map((span) => ({ ...span, insert: this.other.value })));
+    this.told.set(count === 0 ? say.NOT_FOUND : say.replaced(count.toLocaleString("en")));
+  }
+
+  /**
+   * Selects the next span, whatever its case, or the one before; after the last one comes the first one.
+   * @param {boolean} isBack
+   * @param {number} from
+   */
+  find(isBack, from = this.editor.selected[isBack ? "from" : "to"]) {
+    const wanted = this.field.value;
+    if (wanted === "") {
+      this.told.set("");
+      return;
+    }
+    const { editor } = this;
+    const spans = this.spansOf(wanted);
+    const before = spans.filter((span) => span.to <= from).pop();
+    const found = (isBack ? before : spans.find((span) => span.from >= from)) || spans[isBack ? spans.length - 1 : 0];
+    this.told.set(found ? say.foundOf(spans.indexOf(found) + 1, Math.min(MOST_COUNTED, spans.length)) : say.NOT_FOUND);
+    if (!found) return;
+    editor.setSelection(editor.position(found.from), editor.position(found.to));
+    editor.scrollIntoView(editor.position(found.to), 60);
+  }
+
+  /**
+   * All spans of a text, whatever its case, none of which meets another one.
+   * @param {string} wanted
+   */
+  spansOf(wanted) {
+    const pattern = new RegExp(wanted.replace(/[.*+?^${}()|[\]\\]/g, "\\$&"), "giu");
+    return [...this.editor.getValue().matchAll(pattern)].map(({ 0: text, index = 0 }) => ({ from: index, to: index + text.length }));
+  }
+}

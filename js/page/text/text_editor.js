@@ -1,0 +1,243 @@
+// An editor of a text, with what the page's texts have in common. A text that is opened has a state of its own, with its own undo history;
+// the states of the sessions are kept as long as the page lives.
+
+import { EditorView } from "@codemirror/view";
+import { upTo } from "../../core/bench/numbers.js";
+import { folding, unfold } from "./fold_view.js";
+import { LineEditor } from "./line_editor.js";
+import { LONGEST_KEPT, commented } from "../../core/text/text_fault.js";
+import * as say from "../../words/text.js";
+
+/**
+ * @typedef {import("./line_editor.js").KeyMap} KeyMap
+ * @typedef {import("./line_editor.js").Position} Position
+ * @typedef {import("../../core/debug/breakpoints.js").Edit} Edit
+ *
+ * What it calls: the text was edited; the caret was moved; a gutter was clicked at a line, or by the second button; a place was clicked
+ * with Control, and the caret is there; a text was not taken, since it is too long; what the word at a place can become.
+ * @typedef {{ edited: (edits: Edit[]) => void, moved: () => void, clickedGutter: (line: number) => void,
+ *   askedGutter: (line: number, event: Event) => void, clickedName: () => void,
+ *   refused: (size: number) => void, complete: (position: Position) => import("../../core/text/completion.js").Completion }} TextCalls
+ *
+ * What an editor is made of: what holds it, its name for those who do not see it, the colours of its lines, the gutters beside the faults,
+ * the blanks that a new line begins with, what folds in it, and its own keys.
+ * @typedef {{ container: HTMLElement, label: string, colours: import("./line_colours.js").Colours, gutters: string[], indent?: string,
+ *   folds?: import("../../core/text/folding.js").Parts, keys: KeyMap, calls: TextCalls }} TextParts
+ *
+ * A text that is not shown, and how far it was scrolled.
+ * @typedef {{ state: import("@codemirror/state").EditorState, top: number }} KeptText
+ */
+
+/** How many texts are kept. */
+const MOST_KEPT = 30;
+/** They do nothing alone. */
+const OTHER_KEYS = ["Shift", "Control", "Alt", "Meta"];
+
+export class TextEditor {
+  /** @param {TextParts} parts */
+  constructor(parts) {
+    this.calls = parts.calls;
+    /** @type {(line: number) => void} the caret has come to a line */
+    this.caret = () => {};
+    /** How far it is scrolled. */
+    this.top = 0;
+    /** @type {number | null} how far it has to be once it can be measured, and the line that is to be in view then, 0 for none */
+    this.due = null;
+    this.awaited = 0;
+    /** Whether Tab leaves the editor: after Escape, and where Tab has come to it. */
+    this.tabLeaves = true;
+    /** @type {Map<string, KeptText>} by the names that they were opened by */
+    this.kept = new Map();
+    this.name = "";
+    /** @type {string | null} the text, where it was read since the last edit */
+    this.value = null;
+    const { container, label, colours, gutters, indent, folds, keys } = parts;
+    /** @type {LineEditor} */
+    this.editor = new LineEditor({ container, label, description: say.TAB_INDENTS, colours, indent, keys, gutters: ["faults", ...gutters],
+      more: [...(folds ? [folding(folds)] : []), this.handlers()], calls: this.editorCalls() });
+    this.editor.onScroll(() => {
+      if (this.due === null && container.offsetHeight > 0) this.top = this.editor.getScrollInfo().top;
+    });
+    // It cannot be measured while it is hidden.
+    new ResizeObserver(() => this.resized()).observe(container);
+  }
+
+  /** @returns {import("./line_editor.js").EditorCalls} */
+  editorCalls() {
+    const { calls } = this;
+    return {
+      edited: (edits) => {
+        this.value = null;
+        calls.edited(edits);
+      },
+      moved: () => {
+        calls.moved();
+        this.caret(this.editor.getCursor().line + 1);
+      },
+      clickedGutter: (line) => calls.clickedGutter(line + 1),
+      askedGutter: (line, event) => calls.askedGutter(line + 1, event),
+      takes: (size) => {
+        if (size > LONGEST_KEPT) calls.refused(size);
+        return size <= LONGEST_KEPT;
+      },
+      complete: calls.complete,
+    };
+  }
+
+  /** @returns {import("@codemirror/state").Extension} */
+  handlers() {
+    return EditorView.domEventHandlers({
+      blur: () => {
+        this.tabLeaves = true;
+      },
+      mousedown: ({ ctrlKey, metaKey, button }) => {
+        this.tabLeaves = false;
+        if ((ctrlKey || metaKey) && button === 0) setTimeout(this.calls.clickedName);
+      },
+      keydown: (event) => this.typed(event),
+      // A file that is dropped is the page's.
+      drop: ({ dataTransfer }) => dataTransfer !== null && dataTransfer.files.length > 0,
+    });
+  }
+
+  get container() {
+    return this.editor.container;
+  }
+
+  /** What was hidden comes back as it was: a browser may scroll it elsewhere before it can be measured. */
+  resized() {
+    if (this.container.offsetHeight === 0) this.scrollSoon(this.due === null ? this.top : this.due);
+    else if (this.due === null) this.editor.refresh();
+    else this.editor.whenMeasured(() => this.scroll());
+  }
+
+  /**
+   * It is scrolled so far, once it can be measured.
+   * @param {number} top
+   */
+  scrollSoon(top) {
+    this.due = top;
+    if (this.container.offsetHeight > 0) this.editor.whenMeasured(() => this.scroll());
+  }
+
+  /** What waited for the text to be measured is done. */
+  scroll() {
+    if (this.due === null || this.container.offsetHeight === 0) return;
+    this.editor.scrollTo(this.due);
+    this.due = null;
+    if (this.awaited > 0) this.reveal(this.awaited);
+    this.awaited = 0;
+  }
+
+  /**
+   * Tab indents once something was typed or clicked here; after Escape, and where Tab has come here, it goes on as everywhere. Gives
+   * whether that was all of the key.
+   * @param {KeyboardEvent} event
+   */
+  typed({ key, shiftKey, ctrlKey, altKey, metaKey }) {
+    if (key === "Tab") return !this.tabLeaves && !ctrlKey && !altKey && !metaKey && this.editor.indent(shiftKey);
+    if (key === "Escape") this.tabLeaves = true;
+    else if (!OTHER_KEYS.includes(key)) this.tabLeaves = false;
+    return false;
+  }
+
+  get text() {
+    if (this.value === null) this.value = this.editor.getValue();
+    return this.value;
+  }
+
+  /**
+   * Shows the text of a session: in the state that it had, where the text is still the one in it.
+   * @param {string} name of the session
+   * @param {string} text
+   */
+  open(name, text) {
+    const { editor, kept, name: before } = this;
+    const top = this.due === null ? this.top : this.due;
+    const old = kept.get(name);
+    kept.delete(name);
+    const isSame = old !== undefined && old.state.doc.toString() === text;
+    const state = editor.swap(isSame ? old.state : editor.stateOf(text));
+    if (before) kept.set(before, { state, top });
+    this.awaited = 0;
+    this.scrollSoon(isSame ? old.top : 0);
+    this.name = name;
+    this.value = null;
+    for (const oldest of [...kept.keys()].slice(0, -MOST_KEPT)) kept.delete(oldest);
+  }
+
+  /**
+   * Makes comments of the lines that are selected, or lines of comments where all of them are; blank lines stay.
+   * @param {string} mark
+   */
+  comment(mark) {
+    const { editor } = this;
+    const [first, last] = [editor.getCursor("from").line, editor.getCursor("to").line];
+    const lines = upTo(last - first + 1).map((at) => editor.getLine(first + at) || "");
+    const end = { line: last, ch: (editor.getLine(last) || "").length };
+    editor.replaceRange(commented(lines, mark).join("\n"), { line: first, ch: 0 }, end);
+    editor.setSelection({ line: first, ch: 0 }, { line: last, ch: Infinity });
+  }
+
+  /**
+   * Puts another text in the place of all, as one step that can be undone.
+   * @param {string} text
+   */
+  replaceText(text) {
+    this.editor.setValue(text);
+  }
+
+  /**
+   * Edits that are told one after the other, as one step that can be undone.
+   * @param {import("../../core/drawing/text_edits.js").TextEdit[]} edits
+   */
+  edit(edits) {
+    this.editor.edit(edits);
+  }
+
+  /**
+   * The last step is undone, or done again; false where there is none.
+   * @param {"undo" | "redo"} which
+   */
+  undoOrRedo(which) {
+    return this.editor.undoOrRedo(which);
+  }
+
+  /**
+   * Selects whole lines, and brings them into view.
+   * @param {{ from: number, to: number }} lines
+   */
+  select({ from, to }) {
+    for (const line of [from, to]) unfold(this.editor, line - 1);
+    this.editor.setSelection({ line: from - 1, ch: 0 }, { line: to - 1, ch: (this.editor.getLine(to - 1) || "").length });
+    this.editor.focus();
+  }
+
+  /**
+   * Brings a line into view, where it is not in it; neither the caret nor the page moves. A part that it is folded away with unfolds.
+   * @param {number} line from 1
+   */
+  reveal(line) {
+    const { editor } = this;
+    if (this.due !== null) {
+      this.awaited = line;
+      return;
+    }
+    unfold(editor, line - 1);
+    const { top, clientHeight } = editor.getScrollInfo();
+    const from = editor.heightAtLine(line - 1);
+    const room = editor.view.defaultLineHeight * 2;
+    if (from - room < top) editor.scrollTo(Math.max(0, from - room));
+    else if (from + 2 * room > top + clientHeight) editor.scrollTo(from + 2 * room - clientHeight);
+  }
+
+  /**
+   * Puts the caret at a position, which a user has asked for.
+   * @param {Position} position
+   */
+  goTo(position) {
+    this.editor.setCursor(position);
+    this.editor.focus();
+    this.tabLeaves = false;
+  }
+}

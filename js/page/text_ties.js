@@ -1,0 +1,174 @@
+// What the texts, and what is tried on them, call of the others: they get calls, and know no page.
+
+import { countOfFaults } from "../core/bench/words.js";
+import { drawSound } from "./board_ties.js";
+import { ExploreTab } from "./explore/explore_tab.js";
+import { Explorer } from "../core/explore/explorer.js";
+import { namesOfCharacters } from "../core/machine/ram_names.js";
+import { SourceSync } from "../core/machine/source_sync.js";
+import { titleOf } from "../core/session/described.js";
+import { newRecord } from "./session/kept_session.js";
+import { TextsController } from "./session/texts_controller.js";
+import { TestsTab } from "./testing/tests_tab.js";
+import { Editors } from "./text/editors.js";
+import * as say from "../words/page.js";
+
+/**
+ * @typedef {import("../core/help/manual.js").ManualSection} ManualSection
+ * @typedef {import("./page.js").Page} Page
+ */
+
+/**
+ * @param {Page} page
+ * @param {ManualSection[]} manual
+ */
+export function editorsOf(page, manual) {
+  const { running } = page;
+  return new Editors(page.bench, page.words, manual, {
+    edited: (edits) => {
+      page.breakpoints.keeper.edited(edits);
+      page.texts.edited();
+      page.drawing.edited();
+    },
+    assembled: (isBegun) => page.breakpoints.assembled(isBegun),
+    act: (lines) => page.serving.act(lines),
+    stop: () => running.stand(),
+    run: () => running.run(),
+    counter: () => page.lookView.counter,
+    toggleBreakpoint: (line) => page.breakpoints.toggleLine(line).catch((fault) => page.recovery.failed(fault)),
+    editBreakpoint: (line) => page.breakpoints.editLine(line).catch((fault) => page.recovery.failed(fault)),
+    meaningOf: (name) => page.source.meaningOf(name),
+    valuesAt: (text, at) => page.values.at(text, at),
+    offer: (cell, { place, name }) => page.lookView.editor.offer(cell, { place, name, digits: 1 }),
+    replaceBoard: (text, words) => page.texts.replace("board", text, words),
+    hasFaults: (name, count) => page.layout.tabs.mark(name, count > 0 ? countOfFaults(count) : ""),
+    failed: (fault) => page.recovery.failed(fault),
+  });
+}
+
+/**
+ * Characters of RAM are called as the list of values and the source call them.
+ * @param {Page} page
+ */
+export function nameCharacters({ lookView, watched, source }) {
+  lookView.ram.showNames(namesOfCharacters(lookView.board, watched.all, source.map));
+}
+
+/**
+ * @param {Page} page
+ * @returns {SourceSync}
+ */
+export function sourceOf(page) {
+  const source = new SourceSync({
+    text: () => page.programEditor.sent,
+    check: (text) => page.bench.call("checkProgram", [text]),
+    changed: (map, words) => {
+      page.lookView.nameLines(map, words);
+      nameCharacters(page);
+      page.breakpoints.keeper.takeMap(map, words);
+    },
+    wordsOfRefusal: (number) => page.words.ofRefusal(number),
+  });
+  source.editor = page.programEditor;
+  return source;
+}
+
+/**
+ * @param {Page} page
+ * @returns {TextsController}
+ */
+export function textsOf(page) {
+  const { current } = page;
+  return new TextsController(page.boardEditor, page.programEditor, page.tests.editor, page.explore.editor, page.ask, page.notice, {
+    session: () => current.session,
+    touch: () => current.touch(),
+    keep: () => current.keep(),
+    named: (boardText) => {
+      page.lookView.readFace(boardText);
+      drawSound(page, boardText);
+      current.takeTitle(titleOf(boardText, page.programEditor.text));
+      page.checkSource();
+    },
+    source: () => page.bench.call("source", []),
+    took: (seen, lines) => {
+      page.layout.tabs.choose(seen);
+      page.sessionsController.lines.offer(lines);
+    },
+    failed: (fault) => page.recovery.failed(fault),
+  });
+}
+
+/**
+ * @param {Page} page
+ * @param {ManualSection[]} manual
+ * @returns {TestsTab}
+ */
+export function testsOf(page, manual) {
+  const { bench, running, words } = page;
+  const tab = new TestsTab(manual, {
+    texts: () => ({ boardText: page.boardEditor.text, programText: page.programEditor.text }),
+    labels: () => (page.source.map ? [...page.source.map.labels.values()].flat() : []),
+    faults: (texts) => bench.call("testFaults", [texts]),
+    run: async (texts) => {
+      // The worker does one thing at a time: time would stand still meanwhile, and nobody would know why.
+      await running.stand();
+      return page.work.show(say.RUNNING_TESTS, (signal, progress) => bench.call("runTests", [texts], { signal, progress }));
+    },
+    wordsOfRefusal: (number) => words.ofRefusal(number),
+    showCounts: (report, programText) => {
+      if (report && report.coverage && programText === page.programEditor.text) page.programEditor.counts.show(report.coverage.lines);
+      else page.programEditor.counts.clear();
+    },
+    goTo: (address) => page.lookView.goTo.show(address),
+    open: (name, file, texts) => page.sessionsController.manager.useNew(async () => newRecord(name, file, texts)),
+    mark: (told) => page.layout.tabs.mark("tests", told),
+    edited: () => page.texts.edited(),
+    failed: (fault) => page.recovery.failed(fault),
+  });
+  page.layout.tabs.whenShown("tests", () => tab.look());
+  return tab;
+}
+
+/**
+ * Puts a test behind those of the program; gives words of that.
+ * @param {Page} page
+ * @param {string} test
+ */
+function addTest({ tests, texts }, test) {
+  const { text } = tests.editor;
+  if (text.includes(test.trimEnd())) return say.HAS_TEST;
+  texts.replace("tests", text.trim() === "" ? test : `${text.trimEnd()}\n\n${test}`, say.TEST_ADDED);
+  return say.TEST_AT_END;
+}
+
+/**
+ * @param {Page} page
+ * @param {ManualSection[]} manual
+ * @param {() => import("../core/bench/bench.js").Bench} makeBench
+ * @returns {ExploreTab}
+ */
+export function exploreOf(page, manual, makeBench) {
+  const { bench, words } = page;
+  const explorer = new Explorer(makeBench);
+  const tab = new ExploreTab(manual, {
+    texts: () => ({ boardText: page.boardEditor.text, programText: page.programEditor.text, testText: page.tests.editor.text }),
+    labels: () => (page.source.map ? [...page.source.map.labels.values()].flat() : []),
+    faults: (texts) => bench.call("propertyFaults", [texts]),
+    explore: (texts, asked, signal, tell) => explorer.explore(texts, asked, signal, tell),
+    wordsOfRefusal: (number) => words.ofRefusal(number),
+    goToSource: (line) => {
+      page.layout.tabs.choose("program");
+      page.programEditor.editor.select({ from: line, to: line });
+    },
+    open: (name, file, texts) => {
+      const testText = page.tests.editor.text;
+      page.sessionsController.manager.useNew(async () => newRecord(name, file, { ...texts, testText }));
+    },
+    addTest: (test) => addTest(page, test),
+    mark: (told) => page.layout.tabs.mark("properties", told),
+    edited: () => page.texts.edited(),
+    failed: (fault) => page.recovery.failed(fault),
+  });
+  page.layout.tabs.whenShown("properties", () => tab.look());
+  return tab;
+}

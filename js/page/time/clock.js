@@ -1,0 +1,151 @@
+// Time: in real time, or slower, each frame of the browser lets the cycles pass that are due; at full speed the worker goes on by itself.
+// But for full speed, a page that is hidden stands still, and so it does while the browser or the machine does not run the page at all.
+// In real time a key does not wait for the next frame: cycles are lent for it.
+
+import { LONG_GAP, MOST_AHEAD, REAL_CYCLES, RealTime } from "../../core/time/real_time.js";
+import { REAL, isFollowed, keepsKeys } from "../../core/time/speeds.js";
+
+/**
+ * @typedef {import("../../core/time/speeds.js").Speed} Speed
+ *
+ * What the clock calls: so many cycles are due, perhaps with a key that goes down; an instruction is due; full speed begins; time stood
+ * still for so many milliseconds; a call failed.
+ * @typedef {{ advance: (cycles: number, key: string) => Promise<void>, instruct: () => Promise<void>, runFull: () => Promise<void>,
+ *   stoodStill: (time: number, wasHidden: boolean) => void, failed: (fault: unknown) => void }} ClockCalls
+ */
+
+export class Clock {
+  /** @param {ClockCalls} calls */
+  constructor(calls) {
+    this.calls = calls;
+    this.isRunning = false;
+    this.speed = REAL;
+    /** Whether a call is under way. */
+    this.isBusy = false;
+    /** Whether a key was pressed since that call began. */
+    this.followsAtOnce = false;
+    /** The frame that is asked for. */
+    this.next = 0;
+    this.time = new RealTime(0, 0);
+  }
+
+  get isFull() {
+    return this.speed.isFull;
+  }
+
+  /** Whether time runs so slowly that the line which runs is followed. */
+  get isSlow() {
+    return this.isRunning && isFollowed(this.speed);
+  }
+
+  /** Whether keys wait for their time; else they are as fingers put them. */
+  get movesKeys() {
+    return this.isRunning && !keepsKeys(this.speed);
+  }
+
+  /** The time up to which what is done counts, in milliseconds. */
+  get now() {
+    return this.isFull ? performance.now() : this.time.reached;
+  }
+
+  /**
+   * How many milliseconds so many cycles take at this speed; at full speed, or where an instruction takes a second, all that an eye needs.
+   * @param {number} cycles
+   */
+  timeOf(cycles) {
+    return this.isFull || this.speed.byInstruction ? Infinity : (1000 * cycles) / this.time.perSecond;
+  }
+
+  start() {
+    this.isRunning = true;
+    this.goOn();
+  }
+
+  stop() {
+    this.isRunning = false;
+    cancelAnimationFrame(this.next);
+  }
+
+  /**
+   * Time that runs goes on by the new speed.
+   * @param {Speed} speed
+   */
+  setSpeed(speed) {
+    this.speed = speed;
+    this.time.perSecond = speed.byInstruction ? 1 : REAL_CYCLES / speed.part;
+    if (this.isRunning) this.goOn();
+  }
+
+  goOn() {
+    cancelAnimationFrame(this.next);
+    if (this.isFull) {
+      this.calls.runFull().catch(this.calls.failed);
+      return;
+    }
+    this.time.goOn(performance.now(), Date.now());
+    if (document.hidden) this.time.hide();
+    this.again();
+  }
+
+  /** The page is hidden. */
+  hide() {
+    this.time.hide();
+  }
+
+  again() {
+    this.next = requestAnimationFrame((now) => {
+      this.again();
+      this.frame(now);
+    });
+  }
+
+  /**
+   * A key goes down: it does not wait for the next frame. Gives whether it went along with the cycles; else it is yet to be told, and
+   * where a call is under way, cycles follow at its end.
+   * @param {string} key
+   */
+  pressNow(key) {
+    if (!this.isRunning || this.isFull || this.speed.byInstruction) return false;
+    this.followsAtOnce = this.isBusy;
+    return this.frame(performance.now(), this.ahead, key);
+  }
+
+  /** So many milliseconds are lent for a key. */
+  get ahead() {
+    return this.speed === REAL ? MOST_AHEAD : 0;
+  }
+
+  /**
+   * Lets the cycles pass that are due; gives whether there are any.
+   * @param {number} now
+   * @param {number} [ahead] so many milliseconds are lent
+   * @param {string} [key] goes down before them
+   */
+  frame(now, ahead = 0, key = "") {
+    // Some browsers call a hidden page now and then. What is due while a call is under way is due at the next frame.
+    if (document.hidden || this.isBusy) return false;
+    const skipped = this.time.skipGap(now, Date.now());
+    if (skipped && skipped.gap >= LONG_GAP) this.calls.stoodStill(skipped.gap, skipped.wasHidden);
+    const due = this.time.due(now, ahead);
+    if (due > 0) this.pass(due, key);
+    return due > 0;
+  }
+
+  /**
+   * @param {number} due
+   * @param {string} key
+   */
+  async pass(due, key) {
+    this.isBusy = true;
+    this.followsAtOnce = false;
+    try {
+      if (this.speed.byInstruction) await this.calls.instruct();
+      else await this.calls.advance(due, key);
+    } catch (fault) {
+      this.calls.failed(fault);
+    } finally {
+      this.isBusy = false;
+    }
+    if (this.followsAtOnce && this.isRunning && !this.isFull) this.frame(performance.now(), this.ahead);
+  }
+}

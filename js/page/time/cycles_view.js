@@ -1,0 +1,65 @@
+// The counter of cycles: since a reset, since the last stop, and between two marks.
+
+import { Cycles, wordsOfCycles } from "../../core/time/cycles.js";
+import { Cell, block, element, onClick } from "../ui/dom.js";
+import * as say from "../../words/time.js";
+
+/** @typedef {import("../../core/time/cycles.js").KeptCycles} KeptCycles */
+
+/** While time runs it is shown so often, in milliseconds. */
+const SHOWN_TIME = 250;
+
+export class CyclesView {
+  /** @param {() => void} marked there is another mark */
+  constructor(marked) {
+    this.cycles = new Cycles();
+    this.shown = 0;
+    this.sinceReset = new Cell(element("b"));
+    this.sinceStop = new Cell(element("b"));
+    this.markWord = new Cell(element("span"));
+    this.marked = new Cell(element("b"));
+    const title = say.MARKS_CYCLE;
+    const mark = element("button", { id: "mark", type: "button", title }, say.MARK);
+    onClick(mark, () => {
+      this.cycles.mark();
+      this.show();
+      marked();
+    });
+    const root = block("cycles");
+    root.replaceChildren(
+      element("span", { title: say.OR_SINCE_BEGUN }, say.SINCE_RESET, this.sinceReset.node),
+      element("span", { title: say.LAST_STRETCH }, say.SINCE_STOP, this.sinceStop.node),
+      element("span", {}, mark, " ", this.markWord.node, this.marked.node),
+    );
+    root.hidden = false;
+  }
+
+  /**
+   * Those of another session.
+   * @param {KeptCycles | undefined} kept
+   */
+  open(kept) {
+    this.cycles = new Cycles(kept);
+    this.show();
+  }
+
+  /**
+   * @param {{ total: number, reset: number }} told
+   * @param {boolean} isRunning whether time runs
+   */
+  take(told, isRunning) {
+    this.cycles.take(told);
+    if (isRunning && performance.now() - this.shown < SHOWN_TIME) return;
+    if (!isRunning) this.cycles.stop();
+    this.show();
+  }
+
+  show() {
+    this.shown = performance.now();
+    const { sinceReset, sinceStop, marked } = this.cycles.told;
+    this.sinceReset.set(wordsOfCycles(sinceReset));
+    this.sinceStop.set(wordsOfCycles(sinceStop));
+    this.markWord.set(marked === null ? "" : this.cycles.marks.length === 1 ? say.SINCE_MARK : say.BETWEEN_MARKS);
+    this.marked.set(marked === null ? "" : wordsOfCycles(marked));
+  }
+}

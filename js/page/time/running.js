@@ -1,0 +1,301 @@
+// Time that runs: by the clock or at full speed, up to a stop, and what is told of it.
+
+import { isStop, readRun, refusalOf } from "../../core/bench/answers.js";
+import { wordsOfHalt, wordsOfMove, wordsOfStop, wordsOfWhen } from "../../words/stops.js";
+import { Cell, block, button } from "../ui/dom.js";
+import { wordsOfTime } from "../../core/bench/words.js";
+import { AskedKeys } from "../../core/board/asked_keys.js";
+import { Sound } from "../board/sound.js";
+import { Clock } from "./clock.js";
+import { Rate } from "../../core/time/rate.js";
+import { REAL } from "../../core/time/speeds.js";
+import * as say from "../../words/time.js";
+
+/**
+ * @typedef {import("../../core/bench/protocol.js").Frame} Frame
+ * @typedef {import("../../core/bench/protocol.js").Stop} Stop
+ * @typedef {import("../../core/debug/goals.js").Goal} Goal
+ * @typedef {import("../../core/bench/bench.js").Bench} Bench
+ * @typedef {import("../../core/debug/breakpoints.js").Breakpoint} Breakpoint
+ * @typedef {import("../session/current_session.js").CurrentSession} CurrentSession
+ * @typedef {import("../../core/time/speeds.js").Speed} Speed
+ *
+ * What it calls: time begins to run; what it has done is shown, logged and counted; what is drawn more seldom is drawn now, and the
+ * listing; whether an instruction is in its middle; the cycles that were counted; where time stands still, with its name and its line; a
+ * breakpoint; what a refusal means; a step is served; a call failed.
+ * @typedef {{ began: () => void, took: (frame: Frame) => void, drawRest: () => void, drawListing: () => void, isOwed: () => boolean,
+ *   cycles: () => number, where: () => string, breakpoint: (id: number) => Breakpoint | undefined,
+ *   wordsOfRefusal: (number: number) => string, step: () => Promise<string | null>, failed: (fault: unknown) => void }} RunningCalls
+ */
+
+/** How often the session is kept while time runs. */
+const KEEP_TIME = 1000;
+/** That time stood still is told for so many milliseconds. */
+const TOLD_TIME = 8000;
+
+export class Running {
+  /**
+   * @param {Bench} bench
+   * @param {CurrentSession} current
+   * @param {RunningCalls} calls
+   */
+  constructor(bench, current, calls) {
+    this.bench = bench;
+    this.current = current;
+    this.calls = calls;
+    /** @type {(why: string) => void} time has stopped by itself */
+    this.ended = () => {};
+    /** @type {Goal | null} up to which time runs */
+    this.goal = null;
+    /** The cycles that were counted where time began to run. */
+    this.begun = 0;
+    this.rate = new Rate(0);
+    this.clock = this.makeClock();
+    this.asked = new AskedKeys();
+    this.sound = new Sound({
+      listen: (line) => {
+        bench.call("listenTo", [line]).catch(calls.failed);
+      },
+      isReal: () => this.clock.speed === REAL,
+    });
+    this.status = new Cell(block("status"));
+    this.rateTold = new Cell(block("rate"));
+    this.runWord = new Cell(button("run"));
+  }
+
+  makeClock() {
+    const { bench, calls } = this;
+    return new Clock({
+      advance: (cycles, key) => this.advance(cycles, key),
+      instruct: () => this.instruct(),
+      runFull: () => bench.call("run", [document.hidden]),
+      stoodStill: (time, wasHidden) => this.stoodStill(time, wasHidden),
+      failed: calls.failed,
+    });
+  }
+
+  /** Whether time runs so fast that single lines cannot be followed. */
+  get isFast() {
+    return this.clock.isRunning && !this.clock.isSlow;
+  }
+
+  /** @param {string} words what the status says */
+  tell(words) {
+    this.status.set(words);
+  }
+
+  /** The rate is measured from here on. */
+  beginRate() {
+    this.rate = new Rate(this.clock.now);
+    this.showRate();
+  }
+
+  showRate() {
+    const rate = Math.round(this.rate.told);
+    this.rateTold.set(this.clock.isRunning && rate > 0 ? say.cyclesASecond(rate.toLocaleString("en")) : "");
+  }
+
+  /** @param {Goal | null} [goal] up to which time runs; the bench knows it */
+  run(goal = null) {
+    const { bench, current, calls } = this;
+    if (!current.session || this.clock.isRunning) return;
+    current.session.record.runs = true;
+    this.goal = goal;
+    this.aim(goal);
+    this.begun = calls.cycles();
+    calls.began();
+    if (!goal) bench.call("drop", []).catch(calls.failed);
+    this.runWord.set(say.STOP);
+    this.tell(goal ? wordsOfMove(goal) : say.TIME_RUNS);
+    this.clock.start();
+    this.beginRate();
+    bench.isRunning = this.clock.isFull;
+    current.keep();
+  }
+
+  /** @param {Goal | null} goal that a move has; it is kept with the session, for words where the move does not come to its end */
+  aim(goal) {
+    const { session } = this.current;
+    if (!session) return;
+    if (goal) session.record.goal = goal;
+    else delete session.record.goal;
+  }
+
+  /** A reset: no subroutine returns after it. */
+  forgetGoal() {
+    this.goal = null;
+  }
+
+  /** By the button. */
+  runOrStop() {
+    this.current.touch();
+    if (this.clock.isRunning) this.stop();
+    else this.run();
+  }
+
+  /** @param {Speed} speed */
+  async setSpeed(speed) {
+    const { bench } = this;
+    if (!speed.isFull && this.clock.isFull && this.clock.isRunning) this.ran(await bench.call("halt", []));
+    this.clock.setSpeed(speed);
+    this.sound.check();
+    this.beginRate();
+    bench.isRunning = speed.isFull && this.clock.isRunning;
+    this.calls.drawListing();
+  }
+
+  /**
+   * @param {number} cycles
+   * @param {string} key goes down before them, "" for none
+   */
+  async advance(cycles, key) {
+    const arrived = key === "" ? () => {} : this.asked.send({ word: "press", key });
+    const frame = await this.bench.call("advance", [cycles, key]).finally(arrived);
+    this.ran(frame);
+  }
+
+  /** One instruction of the time that runs: breakpoints and watches stop it, as any run. */
+  async instruct() {
+    const { bench, calls } = this;
+    this.ran(await bench.call("advance", [1]));
+    if (this.clock.isRunning && calls.isOwed()) this.ran(await bench.call("advance", [1]));
+  }
+
+  /** @param {boolean} isHidden */
+  setHidden(isHidden) {
+    const { bench, current, calls } = this;
+    if (isHidden) this.clock.hide();
+    if (this.clock.isFull && this.clock.isRunning) bench.call("pace", [isHidden]).catch(calls.failed);
+    if (isHidden) current.keepNow();
+  }
+
+  /**
+   * Time stood still for so many milliseconds, and runs on.
+   * @param {number} time
+   * @param {boolean} wasHidden
+   */
+  stoodStill(time, wasHidden) {
+    this.beginRate();
+    const words = say.timeStood(wordsOfTime(time), wasHidden);
+    this.tell(words);
+    setTimeout(() => this.status.text === words && this.tell(say.TIME_RUNS), TOLD_TIME);
+  }
+
+  /**
+   * Time stands still from here on; the words tell why.
+   * @param {string} words
+   */
+  halted(words) {
+    const { bench, current, calls } = this;
+    this.clock.stop();
+    this.goal = null;
+    bench.isRunning = false;
+    if (current.session) current.session.record.runs = false;
+    this.aim(null);
+    this.runWord.set(say.RUN);
+    this.tell(words);
+    this.showRate();
+    calls.drawRest();
+    calls.drawListing();
+  }
+
+  /** Lets no more time pass, and takes what it has done. */
+  async standStill() {
+    if (!this.clock.isRunning) return;
+    this.clock.stop();
+    this.bench.isRunning = false;
+    this.ran(await this.bench.call("halt", []));
+  }
+
+  /** Stops time, and keeps what it has done. */
+  async stop() {
+    const { current, calls } = this;
+    try {
+      await this.standStill();
+    } catch (fault) {
+      calls.failed(fault);
+      return;
+    }
+    // A breakpoint may have come first.
+    if (current.session && current.session.record.runs) {
+      calls.drawRest();
+      this.halted(wordsOfHalt(this.goal, calls.cycles() - this.begun, this.where));
+    }
+    await current.keep();
+  }
+
+  /** Stops time where it runs. */
+  async stand() {
+    if (this.clock.isRunning) await this.stop();
+  }
+
+  /**
+   * Time has done something.
+   * @param {Frame} frame
+   */
+  ran(frame) {
+    const { current } = this;
+    const isNewRate = this.rate.add(frame.cycles, this.clock.now);
+    if (frame.stop) this.clock.stop();
+    this.sound.hear(frame.heard);
+    this.calls.took(frame);
+    if (frame.stop) {
+      this.halted(this.reasonOf(frame.stop));
+      this.ended(frame.stop.why);
+      current.keep();
+      return;
+    }
+    if (isNewRate || !this.clock.isRunning) this.showRate();
+    // A key that was pressed is kept at once. A page that is hidden is told once a second.
+    if (frame.changesKeys || document.hidden || performance.now() - current.kept >= KEEP_TIME) current.keep();
+  }
+
+  /** Where time stands still, with its name and its line. */
+  get where() {
+    return this.calls.where();
+  }
+
+  /**
+   * @param {Omit<Stop, "id"> & { id?: number }} stop
+   * @param {Goal | null} [goal]
+   */
+  reasonOf(stop, goal = this.goal) {
+    const refusal = refusalOf(stop.why);
+    if (refusal) return say.stoppedBy(stop.why, this.calls.wordsOfRefusal(refusal.number));
+    return wordsOfStop(goal, stop, this.where, wordsOfWhen(this.calls.breakpoint(stop.id || 0)));
+  }
+
+  async step() {
+    if (this.clock.isRunning) await this.stop();
+    const answer = await this.calls.step();
+    if (answer === null) return;
+    const run = readRun(answer);
+    const cycles = run ? run.cycles : 0;
+    if (isStop(answer)) this.tell(this.reasonOf({ why: run ? run.end : answer, cycles, returns: false }));
+    else this.tell(wordsOfStop({ kind: "over" }, { why: "goal", cycles, returns: false }, this.where));
+  }
+
+  /**
+   * A change of a key for the time that runs.
+   * @param {"press" | "release" | "forget"} word
+   * @param {string} key
+   */
+  queue(word, key) {
+    const { bench, current, calls } = this;
+    current.touch();
+    if (word === "press" && this.clock.pressNow(key)) return;
+    const arrived = this.asked.send({ word, key });
+    bench.call(word, [key]).finally(arrived).then((waiting) => {
+      this.asked.waiting = waiting;
+    }, calls.failed);
+  }
+
+  /**
+   * Whether a key will be down once all is done that was asked for; while keys are as fingers put them, whether it is.
+   * @param {string} key
+   * @param {boolean} isDown whether the bench tells that it is
+   */
+  willBeDown(key, isDown) {
+    return this.clock.movesKeys ? this.asked.willBeDown(key, isDown) : isDown;
+  }
+}

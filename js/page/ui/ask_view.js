@@ -1,0 +1,58 @@
+// A question before something is done that a user may not have meant, in a dialog of its own.
+
+import { element } from "./dom.js";
+import * as say from "../../words/page.js";
+
+/**
+ * @typedef {{ title: string, words: (string | HTMLElement)[], accept: string, refuse: string }} Question `words` are paragraphs
+ */
+
+const ACCEPTED = "accepted";
+
+export class AskView {
+  constructor() {
+    this.title = element("h2", { id: "ask-title" });
+    this.words = element("div");
+    this.accept = this.button(say.YES, ACCEPTED);
+    this.refuse = this.button(say.NO, "");
+    this.dialog = element("dialog", { id: "ask", "aria-labelledby": "ask-title" }, this.title, this.words,
+      element("div", { className: "bar" }, this.accept, this.refuse));
+    /** @type {(isAccepted: boolean) => void} */
+    this.answer = () => {};
+    // A dialog that was opened again meanwhile asks something else.
+    this.dialog.addEventListener("close", () => {
+      if (!this.dialog.open) this.answer(this.dialog.returnValue === ACCEPTED);
+    });
+    document.body.append(this.dialog);
+  }
+
+  /**
+   * @param {string} word
+   * @param {string} value that the dialog closes with
+   */
+  button(word, value) {
+    const made = element("button", { type: "button" }, word);
+    made.addEventListener("click", () => this.dialog.close(value));
+    return made;
+  }
+
+  /**
+   * Whether it is accepted. A question that is still open is refused by the next one.
+   * @param {Question} question
+   * @returns {Promise<boolean>}
+   */
+  ask({ title, words, accept, refuse }) {
+    this.answer(false);
+    if (this.dialog.open) this.dialog.close("");
+    this.title.textContent = title;
+    this.words.replaceChildren(...words.map((told) => (typeof told === "string" ? element("p", {}, told) : told)));
+    this.accept.textContent = accept;
+    this.accept.hidden = accept === "";
+    this.refuse.textContent = refuse;
+    this.dialog.returnValue = "";
+    return new Promise((done) => {
+      this.answer = done;
+      this.dialog.showModal();
+    });
+  }
+}

@@ -1,0 +1,117 @@
+// Words for what went wrong, and for what can be undone: a list, where it is seen wherever the page is scrolled to. Of a kind there is one
+// notice, the newest; it goes when that kind is well again. What can be undone has a notice each, and so has each session that was not
+// opened by itself.
+
+import { block, element } from "./dom.js";
+import * as say from "../../words/page.js";
+
+/**
+ * What stays wrong while it lasts (`kept`, `store`), what was refused (`session`, `refusal`), a link that was copied (`share`), a file
+ * whose texts or bytes were taken (`file`), the session that was left for a new one (`left`), one that was not opened by itself
+ * (`unended`), any other fault (""), and `undo`.
+ * @typedef {"" | "kept" | "session" | "store" | "refusal" | "share" | "file" | "left" | "unended" | "undo"} NoticeKind
+ * @typedef {{ word: string, act: () => void }} NoticeAction a button beside the words
+ * @typedef {{ kind: NoticeKind, words: string, node: HTMLElement }} Row
+ */
+
+/** Faults that are told again and again while they last: who dismissed one does not see the same words again before it was well. */
+const LASTING = new Set(["kept", "store"]);
+/** Kinds that have a notice each. */
+const SEVERAL = new Set(["undo", "unended"]);
+
+export class Notice {
+  constructor() {
+    this.block = block("notice");
+    /** @type {Row[]} the newest one first */
+    this.rows = [];
+    /** @type {Map<NoticeKind, string>} lasting faults that were dismissed */
+    this.dismissed = new Map();
+    /** @type {HTMLElement | null} what had the focus before a notice had it */
+    this.before = null;
+    this.block.addEventListener("focusin", (event) => {
+      const from = event.relatedTarget;
+      if (from instanceof HTMLElement && !this.block.contains(from)) this.before = from;
+    });
+  }
+
+  /**
+   * @param {string} words
+   * @param {NoticeKind} kind
+   * @param {NoticeAction[]} actions
+   */
+  show(words, kind = "", ...actions) {
+    if (this.dismissed.get(kind) === words) return;
+    if (LASTING.has(kind) && this.rows.some((row) => row.kind === kind && row.words === words)) return;
+    if (!SEVERAL.has(kind)) this.hide(kind);
+    const row = { kind, words, node: element("div", { className: "notice", role: "alert" }, element("p", {}, words)) };
+    row.node.append(...actions.map((action) => this.button(action.word, `${action.word}: ${words}`, () => this.do(row, action))));
+    row.node.append(this.button(say.DISMISS, say.DISMISS_NOTICE, () => this.dismiss(row), "dismiss"));
+    this.rows.unshift(row);
+    this.block.prepend(row.node);
+    this.block.hidden = false;
+  }
+
+  /**
+   * That kind is well again.
+   * @param {NoticeKind} kind
+   */
+  hide(kind) {
+    this.dismissed.delete(kind);
+    for (const row of this.rows.filter((each) => each.kind === kind)) this.remove(row);
+  }
+
+  /** @param {Row} row */
+  dismiss(row) {
+    if (LASTING.has(row.kind)) this.dismissed.set(row.kind, row.words);
+    this.remove(row);
+  }
+
+  /**
+   * @param {Row} row
+   * @param {NoticeAction} action
+   */
+  do(row, action) {
+    this.remove(row);
+    action.act();
+  }
+
+  /** @param {Row} row */
+  remove(row) {
+    const hadFocus = row.node.contains(document.activeElement);
+    this.rows = this.rows.filter((each) => each !== row);
+    row.node.remove();
+    this.block.hidden = this.rows.length === 0;
+    if (hadFocus) this.giveFocus();
+  }
+
+  /** Whoever uses the keyboard goes on at the next notice, or where he came from. */
+  giveFocus() {
+    const next = this.block.querySelector("button") || this.before;
+    if (next) next.focus();
+  }
+
+  /**
+   * @param {string} word
+   * @param {string} label
+   * @param {() => void} act
+   * @param {string} className
+   */
+  button(word, label, act, className = "") {
+    const made = element("button", { type: "button", className }, word);
+    made.setAttribute("aria-label", label);
+    made.addEventListener("click", (event) => {
+      // After a click by pointer the keyboard is the board's.
+      if (event.detail > 0) made.blur();
+      act();
+    });
+    return made;
+  }
+
+  /**
+   * Stands in an element, as in a dialog that is open: what is behind it can neither be used nor read.
+   * @param {HTMLElement} host
+   */
+  moveTo(host) {
+    host.append(this.block);
+  }
+}

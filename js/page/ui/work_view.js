@@ -1,0 +1,59 @@
+// Work that takes long: how far it is, and a button that cancels it.
+
+import { Cell, below, block, button, onClick } from "./dom.js";
+import * as say from "../../words/page.js";
+
+/** Work that is done sooner, in milliseconds, is not shown. */
+const SOON = 300;
+
+export class WorkView {
+  constructor() {
+    this.block = block("work");
+    this.bar = below(this.block, "progress", HTMLProgressElement);
+    this.words = new Cell(below(this.block, "p", HTMLElement));
+    /** @type {AbortController | null} */
+    this.controller = null;
+    onClick(button("cancel"), () => this.cancel());
+  }
+
+  cancel() {
+    if (this.controller) this.controller.abort();
+    this.words.set(say.CANCELLING);
+  }
+
+  /**
+   * Does work, and shows it where it takes long.
+   * @template Result
+   * @param {string} words what it is
+   * @param {(signal: AbortSignal, progress: (done: number, total: number) => void) => Promise<Result>} work
+   * @returns {Promise<Result>}
+   */
+  async show(words, work) {
+    const controller = new AbortController();
+    const shown = setTimeout(() => this.begin(words, controller), SOON);
+    try {
+      return await work(controller.signal, (done, total) => {
+        if (this.controller === controller) this.bar.value = done / total;
+      });
+    } finally {
+      clearTimeout(shown);
+      if (this.controller === controller) this.end();
+    }
+  }
+
+  /**
+   * @param {string} words
+   * @param {AbortController} controller
+   */
+  begin(words, controller) {
+    this.controller = controller;
+    this.words.set(words);
+    this.bar.removeAttribute("value");
+    this.block.hidden = false;
+  }
+
+  end() {
+    this.controller = null;
+    this.block.hidden = true;
+  }
+}

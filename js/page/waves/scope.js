@@ -1,0 +1,269 @@
+// The logic analyser: records the lines of the board over time, shows them, and saves them as a VCD file.
+
+import { Cell, block, button, byId, field, onClick } from "../ui/dom.js";
+import { download } from "../session/download.js";
+import { LiveWaves } from "../../core/waves/live_waves.js";
+import { lineNamed, namedInEdge } from "../../core/waves/trigger.js";
+import { vcdParts } from "../../core/waves/vcd.js";
+import { WaveChoice } from "./wave_choice.js";
+import { find, readSearch } from "../../core/waves/wave_search.js";
+import { WaveView } from "./wave_view.js";
+import { MOST_CYCLES, grouped, readCycles, recordedText } from "../../core/waves/wave_words.js";
+import { Waves } from "../../core/waves/waves.js";
+import * as say from "../../words/waves.js";
+
+/**
+ * @typedef {import("../../core/engine/live_recorder.js").LivePart} LivePart
+ * @typedef {import("../../core/engine/live_recorder.js").LiveWanted} LiveWanted
+ * @typedef {import("../../core/engine/wave_recorder.js").Recorded} Recorded
+ * @typedef {import("../../core/waves/live_waves.js").LiveChoice} LiveChoice
+ * @typedef {import("../../core/waves/wave_lines.js").WaveLine} WaveLine
+ * @typedef {import("../../core/waves/wave_words.js").Base} Base
+ *
+ * What it calls: records so many cycles, from here on or up to here, and values by their names (null where it failed, which is told);
+ * records from here on whatever is done (null where that failed), and ends that; all that can be recorded of the board; the name of the
+ * session; shows an address in the program; whether it records is told at its tab.
+ * @typedef {{ record: (cycles: number, isBefore: boolean, values: string[]) => Promise<Recorded | null>,
+ *   begin: (wanted: { trigger: string } & LiveWanted, values: string[]) => Promise<{ recorded: Recorded | null, fault: string } | null>,
+ *   end: () => Promise<LivePart | null>, offered: () => WaveLine[], name: () => string, goTo: (address: number) => void,
+ *   isOn: (isOn: boolean) => void }} ScopeCalls
+ */
+
+/** A picture that goes on is drawn once in so many milliseconds. */
+const PICTURE_TIME = 100;
+
+export class Scope {
+  /** @param {ScopeCalls} calls */
+  constructor(calls) {
+    this.calls = calls;
+    this.told = new Cell(block("scope-told"));
+    this.count = new Cell(block("scope-count"));
+    this.found = new Cell(block("wave-search-told"));
+    this.recordWord = new Cell(button("record"));
+    this.recordWord.set(say.RECORD);
+    this.view = new WaveView(calls.goTo);
+    this.choice = new WaveChoice({
+      offered: calls.offered, choose: (chosen) => this.view.choose(chosen), wants: () => this.wantOthers(),
+    });
+    this.isBusy = false;
+    /** @type {LiveWaves | null} the recording that is made while time runs, or was made so */
+    this.live = null;
+    this.isDrawn = true;
+    this.where = byId("record-where", HTMLSelectElement);
+    this.listen();
+    this.showTrigger();
+  }
+
+  listen() {
+    onClick(button("record"), () => this.record());
+    onClick(button("save-waves"), () => this.save());
+    for (const id of ["record-cycles", "trigger", "behind"]) {
+      field(id).addEventListener("keydown", (event) => {
+        if (event.key === "Enter") this.record();
+      });
+    }
+    this.where.addEventListener("change", () => this.showTrigger());
+    onClick(button("find-before"), () => this.find(false));
+    onClick(button("find-after"), () => this.find(true));
+    field("wave-search").addEventListener("keydown", (event) => {
+      if (event.key === "Enter") this.find(!event.shiftKey);
+      if (event.key === "Escape") this.view.canvas.focus();
+    });
+    const base = byId("wave-base", HTMLSelectElement);
+    base.addEventListener("change", () => this.view.setBase(/** @type {Base} */ (base.value)));
+  }
+
+  get isLive() {
+    return this.live !== null && this.live.isOn;
+  }
+
+  /** A trigger is one of what is recorded while time runs. */
+  showTrigger() {
+    block("trigger-bar").hidden = this.where.value !== "live";
+  }
+
+  /**
+   * The number of cycles in a field, 0 where there is none, which is told at the field.
+   * @param {string} id
+   * @param {number} least
+   */
+  cyclesIn(id, least) {
+    const input = field(id);
+    const cycles = input.value.trim() === "0" && least === 0 ? 0 : readCycles(input.value) || -1;
+    input.setAttribute("aria-invalid", String(cycles < 0));
+    if (cycles < 0) this.told.set(say.howManyCycles(least, MOST_CYCLES.toLocaleString("en")));
+    return cycles;
+  }
+
+  /** By the button: records, or ends what records. */
+  async record() {
+    if (this.isBusy) return;
+    this.isBusy = true;
+    // The same words are told anew.
+    this.told.set("");
+    try {
+      if (this.isLive) await this.end();
+      else if (this.where.value === "live") await this.begin();
+      else await this.recordOnce(this.where.value === "before");
+    } finally {
+      this.isBusy = false;
+    }
+  }
+
+  /** @param {boolean} isBefore */
+  async recordOnce(isBefore) {
+    const cycles = this.cyclesIn("record-cycles", 1);
+    if (cycles < 0) return;
+    const recorded = await this.calls.record(cycles, isBefore, this.choice.values);
+    if (!recorded) return;
+    const waves = new Waves(recorded);
+    this.told.set(recordedText(waves, cycles, isBefore));
+    if (waves.span > 0 || !isBefore) this.show(waves);
+  }
+
+  /** @param {Waves} waves */
+  show(waves) {
+    block("waves").hidden = false;
+    button("save-waves").disabled = false;
+    this.view.begin(waves);
+    this.choice.begin(waves);
+  }
+
+  // --- while time runs ---
+
+  /**
+   * What is to be kept; null where a field cannot be read, which is told.
+   * @returns {LiveChoice | null}
+   */
+  chosen() {
+    const trigger = field("trigger").value.trim();
+    const most = this.cyclesIn("record-cycles", 1);
+    const behind = most < 0 || trigger === "" ? 0 : this.cyclesIn("behind", 0);
+    if (most < 0 || behind < 0) return null;
+    field("behind").setAttribute("aria-invalid", String(behind > most));
+    if (behind > most) this.told.set(say.mostAfter(most.toLocaleString("en")));
+    return behind > most ? null : { most, behind, trigger, stopsTime: byId("stops-time", HTMLInputElement).checked };
+  }
+
+  async begin() {
+    const choice = this.chosen();
+    if (!choice) return;
+    this.chooseNamed(choice.trigger);
+    const { trigger, behind, stopsTime } = choice;
+    const begun = await this.calls.begin({ trigger, behind, stopsTime }, this.choice.values);
+    if (!begun) return;
+    const { recorded, fault } = begun;
+    field("trigger").setAttribute("aria-invalid", String(fault !== ""));
+    if (fault) this.told.set(say.triggerFault(fault));
+    if (!recorded) return;
+    this.live = new LiveWaves(recorded, choice);
+    this.show(this.live.waves);
+    this.tellLive(this.live);
+  }
+
+  /**
+   * A register or a character whose change is waited for is recorded, too.
+   * @param {string} trigger
+   */
+  chooseNamed(trigger) {
+    const offered = this.calls.offered();
+    const line = offered[lineNamed(namedInEdge(trigger), offered)];
+    if (line && line.kind === "value" && !this.choice.chosen.has(line.name)) this.choice.tick(line.name, true);
+  }
+
+  async end() {
+    const part = await this.calls.end();
+    if (part) this.take(part);
+  }
+
+  /** Values are chosen that are not recorded: a recording that goes on begins anew with them. */
+  async wantOthers() {
+    if (!this.isLive || this.isBusy) return;
+    this.isBusy = true;
+    try {
+      await this.begin();
+    } finally {
+      this.isBusy = false;
+    }
+  }
+
+  /**
+   * More was recorded; null where nothing is recorded any more.
+   * @param {LivePart | null} part
+   */
+  take(part) {
+    const { live } = this;
+    if (!live || !live.isOn) return;
+    if (part) live.take(part);
+    else live.lose();
+    if (!live.isOn) this.drawLive(live);
+    else if (this.isDrawn) {
+      this.isDrawn = false;
+      setTimeout(() => this.drawLive(live), PICTURE_TIME);
+    }
+  }
+
+  /** @param {LiveWaves} live */
+  drawLive(live) {
+    this.isDrawn = true;
+    if (this.live !== live) return;
+    this.view.grow(live.triggered);
+    if (live.over === "trigger") this.view.showAround(live.triggered);
+    this.choice.grown();
+    this.tellLive(live);
+    const { over } = live;
+    // Who runs a new program waits for the same again.
+    if (over === "board" || over === "program") this.begin();
+  }
+
+  /** @param {LiveWaves} live */
+  tellLive(live) {
+    this.told.set(live.words);
+    this.count.set(live.isOn ? live.kept : "");
+    this.recordWord.set(live.isOn ? say.STOP_RECORDING : say.RECORD);
+    this.calls.isOn(live.isOn);
+  }
+
+  /** @param {boolean} isForward looks for what stands in the field, from the cursor on */
+  find(isForward) {
+    const { waves, line, view } = this.view;
+    if (!waves) return;
+    this.found.set("");
+    const text = field("wave-search").value;
+    const { search, fault } = readSearch(text, waves, line);
+    field("wave-search").setAttribute("aria-invalid", String(fault !== ""));
+    if (!search) {
+      this.found.set(fault);
+      return;
+    }
+    const { name } = waves.lines[search.line];
+    if (!this.choice.chosen.has(name)) this.choice.tick(name, true);
+    this.view.mark(search.line);
+    const moment = find(waves, search, view.moment, isForward);
+    if (moment >= 0) this.view.move(moment);
+    else this.found.set(say.notFound(text.trim(), isForward, grouped(view.moment)));
+  }
+
+  /** Another session is shown: the recording was none of it. */
+  forget() {
+    this.live = null;
+    this.view.waves = null;
+    this.choice.forget();
+    this.told.set("");
+    this.count.set("");
+    this.recordWord.set(say.RECORD);
+    this.calls.isOn(false);
+    block("waves").hidden = true;
+    button("save-waves").disabled = true;
+  }
+
+  save() {
+    const { waves, rows } = this.view;
+    if (!waves) return;
+    if (rows.length === 0) {
+      this.told.set(say.NO_LINE_CHOSEN);
+      return;
+    }
+    download(this.calls.name(), ".vcd", new Blob([...vcdParts(waves, rows)], { type: "text/plain" }));
+  }
+}

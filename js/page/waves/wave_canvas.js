@@ -1,0 +1,256 @@
+// Draws waves on a canvas.
+
+import { countUpTo } from "../../core/waves/growing.js";
+import { isText } from "../../core/waves/wave_lines.js";
+import { ticksOf } from "../../core/waves/wave_window.js";
+
+/**
+ * @typedef {import("../../core/waves/waves.js").Waves} Waves
+ * @typedef {import("../../core/waves/wave_window.js").WaveWindow} WaveWindow
+ * @typedef {{ ink: string, faint: string, grid: string, sheet: string, chosen: string, first: string, second: string }} Colours
+ * @typedef {{ waves: Waves, rows: number[], selected: number, view: WaveWindow, top: number, gutter: number, height: number,
+ *   trigger: number, colours: Colours, font: string }} Picture what is drawn: `rows` are lines, `top` is how many pixels of them are
+ *   scrolled away above, `trigger` the moment of the trigger, -1 for none
+ */
+
+/** The height of the moments above, and of a line. */
+export const AXIS = 26;
+export const ROW = 26;
+/** A number of a moment has so much room. */
+const TICK_ROOM = 92;
+/** The width of a cursor's letter. */
+const FLAG = 14;
+/** From a line's edge to its high level. */
+const MARGIN = 5;
+
+/**
+ * @param {CanvasRenderingContext2D} context
+ * @param {Picture} picture
+ */
+export function drawWaves(context, picture) {
+  const { view, gutter, height, rows, top, colours } = picture;
+  const width = gutter + view.width;
+  context.clearRect(0, 0, width, height);
+  context.font = picture.font;
+  context.textBaseline = "middle";
+  context.lineWidth = 1;
+  drawTicks(context, picture);
+  const first = Math.max(0, Math.floor(top / ROW));
+  const last = Math.min(rows.length, Math.ceil((top + height - AXIS) / ROW));
+  clipped(context, [0, AXIS, width, height - AXIS], () => {
+    for (let row = first; row < last; row++) drawRow(context, picture, row, AXIS + row * ROW - top);
+  });
+  clipped(context, [gutter - FLAG, 0, view.width + FLAG, height], () => {
+    if (picture.trigger >= view.begin) {
+      drawMark(context, picture, { moment: picture.trigger, letter: "T", y: 7, colour: colours.ink, dash: [2, 2] });
+    }
+    [colours.first, colours.second].forEach((colour, at) => drawCursor(context, picture, at, colour));
+  });
+}
+
+/**
+ * Draws inside a rectangle alone.
+ * @param {CanvasRenderingContext2D} context
+ * @param {[number, number, number, number]} box
+ * @param {() => void} draw
+ */
+function clipped(context, box, draw) {
+  context.save();
+  context.beginPath();
+  context.rect(...box);
+  context.clip();
+  draw();
+  context.restore();
+}
+
+/**
+ * @param {CanvasRenderingContext2D} context
+ * @param {Picture} picture
+ */
+function drawTicks(context, { view, gutter, height, colours }) {
+  for (const tick of ticksOf(view, TICK_ROOM)) {
+    const x = Math.round(gutter + view.xOf(tick)) + 0.5;
+    context.strokeStyle = colours.grid;
+    strokeLine(context, x, 18, x, height);
+    context.fillStyle = colours.faint;
+    const text = tick.toLocaleString("en");
+    const isAtEnd = x + context.measureText(text).width > gutter + view.width;
+    context.textAlign = isAtEnd ? "right" : "left";
+    context.fillText(text, x + (isAtEnd ? -3 : 3), 10);
+  }
+  context.textAlign = "left";
+  context.fillStyle = colours.faint;
+  context.fillText("cycles", 4, 10);
+}
+
+/**
+ * @param {CanvasRenderingContext2D} context
+ * @param {number[]} points x and y in turn
+ */
+function strokeLine(context, ...points) {
+  context.beginPath();
+  for (let at = 0; at < points.length; at += 2) context.lineTo(points[at], points[at + 1]);
+  context.stroke();
+}
+
+/**
+ * @param {CanvasRenderingContext2D} context
+ * @param {Picture} picture
+ * @param {number} row
+ * @param {number} y
+ */
+function drawRow(context, picture, row, y) {
+  const { waves, rows, selected, view, gutter, colours } = picture;
+  const line = rows[row];
+  if (row === selected) {
+    context.fillStyle = colours.chosen;
+    context.fillRect(0, y, gutter + view.width, ROW);
+  }
+  context.strokeStyle = colours.grid;
+  strokeLine(context, 0, y + ROW - 0.5, gutter + view.width, y + ROW - 0.5);
+  context.fillStyle = colours.ink;
+  const name = `${row === selected ? "\u25B8" : ""}${nameInGutter(waves.lines[line])}`;
+  const value = valueInGutter(picture, line);
+  const room = Math.min(88, context.measureText(value).width);
+  clipped(context, [0, y, gutter - 14 - room, ROW], () => context.fillText(name, 4, y + ROW / 2));
+  context.textAlign = "right";
+  clipped(context, [gutter - 92, y, 88, ROW], () => context.fillText(value, gutter - 6, y + ROW / 2));
+  context.textAlign = "left";
+  clipped(context, [gutter, y, view.width, ROW], () => {
+    if (isText(waves.lines[line])) drawTexts(context, picture, line, y);
+    else drawLevels(context, picture, line, y);
+  });
+}
+
+/**
+ * What a line is called beside its picture: a port by the name that the board's text gives it.
+ * @param {import("../../core/waves/wave_lines.js").WaveLine} line
+ */
+function nameInGutter({ name, title, kind }) {
+  return kind === "port" && title !== "" ? `${title} ${name}` : name;
+}
+
+/**
+ * The value at the active cursor; the label's stands in its row.
+ * @param {Picture} picture
+ * @param {number} line
+ */
+function valueInGutter({ waves, view }, line) {
+  return waves.lines[line].kind === "label" ? "" : waves.valueAt(line, view.moment);
+}
+
+/**
+ * One bit: high and low levels, and a block where edges are closer than pixels.
+ * @param {CanvasRenderingContext2D} context
+ * @param {Picture} picture
+ * @param {number} line
+ * @param {number} y
+ */
+function drawLevels(context, { waves, view, gutter, colours }, line, y) {
+  const changes = waves.changesOf(line);
+  const [high, low] = [y + MARGIN + 0.5, y + ROW - MARGIN - 0.5];
+  const end = Math.min(view.width, view.xOf(waves.cycles));
+  let level = waves.numberAt(line, Math.floor(view.from));
+  let seen = countUpTo(changes, Math.floor(view.from));
+  context.strokeStyle = context.fillStyle = colours.ink;
+  context.lineWidth = 1.5;
+  context.beginPath();
+  context.moveTo(gutter, level ? high : low);
+  while (seen < changes.length && view.xOf(changes[seen]) < end) {
+    const x = view.xOf(changes[seen]);
+    const next = countUpTo(changes, view.cyclesAt(x + 1));
+    if (next > seen + 1) {
+      // A pixel with several edges.
+      context.lineTo(gutter + x, level ? high : low);
+      context.fillRect(gutter + x, high, 1, low - high);
+      level ^= (next - seen) & 1;
+      context.moveTo(gutter + x + 1, level ? high : low);
+      seen = next;
+      continue;
+    }
+    context.lineTo(gutter + x, level ? high : low);
+    level ^= 1;
+    context.lineTo(gutter + x, level ? high : low);
+    seen += 1;
+  }
+  context.lineTo(gutter + end, level ? high : low);
+  context.stroke();
+  context.lineWidth = 1;
+}
+
+/**
+ * The counter or the label: a box for each value, with the value in it where it has room.
+ * @param {CanvasRenderingContext2D} context
+ * @param {Picture} picture
+ * @param {number} line
+ * @param {number} y
+ */
+function drawTexts(context, { waves, view, gutter, colours }, line, y) {
+  const changes = waves.changesOf(line);
+  const [high, low] = [y + MARGIN + 0.5, y + ROW - MARGIN - 0.5];
+  const end = Math.min(view.width, view.xOf(waves.cycles));
+  let from = 0;
+  let seen = countUpTo(changes, Math.floor(view.from));
+  context.strokeStyle = context.fillStyle = colours.ink;
+  strokeLine(context, gutter, high, gutter + end, high);
+  strokeLine(context, gutter, low, gutter + end, low);
+  while (from < end) {
+    const change = seen < changes.length ? view.xOf(changes[seen]) : end;
+    const to = Math.min(Math.max(change, from + 1), end);
+    const since = Math.floor(Math.max(view.from, seen > 0 ? changes[seen - 1] : 0));
+    drawValue(context, waves.valueAt(line, since), gutter + from, gutter + to, y);
+    if (to < end) strokeLine(context, gutter + to, high, gutter + to, low);
+    from = to;
+    seen = Math.max(seen + 1, countUpTo(changes, view.cyclesAt(to)));
+  }
+}
+
+/**
+ * @param {CanvasRenderingContext2D} context
+ * @param {string} value
+ * @param {number} from
+ * @param {number} to
+ * @param {number} y
+ */
+function drawValue(context, value, from, to, y) {
+  if (to - from < 26) return;
+  const width = context.measureText(value).width;
+  if (width + 6 <= to - from) context.fillText(value, from + (to - from - width) / 2, y + ROW / 2);
+}
+
+/**
+ * @param {CanvasRenderingContext2D} context
+ * @param {Picture} picture
+ * @param {number} at 0 for A, 1 for B
+ * @param {string} colour
+ */
+function drawCursor(context, picture, at, colour) {
+  const { view } = picture;
+  context.lineWidth = view.active === at ? 2 : 1;
+  drawMark(context, picture, {
+    moment: view.cursors[at], letter: at === 0 ? "A" : "B", y: at === 0 ? 1 : 13, colour, dash: at === 0 ? [] : [5, 3],
+  });
+}
+
+/**
+ * A moment that is marked, by a line with a letter on a flag.
+ * @param {CanvasRenderingContext2D} context
+ * @param {Picture} picture
+ * @param {{ moment: number, letter: string, y: number, colour: string, dash: number[] }} mark
+ */
+function drawMark(context, { view, gutter, height }, { moment, letter, y, colour, dash }) {
+  const x = Math.round(gutter + view.xOf(moment)) + 0.5;
+  if (x < gutter) return;
+  context.strokeStyle = context.fillStyle = colour;
+  context.setLineDash(dash);
+  strokeLine(context, x, 0, x, height);
+  context.setLineDash([]);
+  context.lineWidth = 1;
+  context.textAlign = "center";
+  context.fillRect(x - FLAG / 2, y, FLAG, 12);
+  context.save();
+  context.globalCompositeOperation = "destination-out";
+  context.fillText(letter, x, y + 6.5);
+  context.restore();
+  context.textAlign = "left";
+}

@@ -1,0 +1,150 @@
+// Which lines and values of a recording are shown: a box to tick for each of them, by the parts of the board, and a search among them.
+
+import { Cell, block, button, element, field, onClick } from "../ui/dom.js";
+import { firstChoice, found, titleOf, valuesAmong } from "../../core/waves/wave_catalog.js";
+import * as say from "../../words/waves.js";
+
+/**
+ * @typedef {import("../../core/waves/wave_lines.js").WaveLine} WaveLine
+ * @typedef {import("../../core/waves/waves.js").Waves} Waves
+ *
+ * What it calls: all that the board of now has, recorded or not; the lines of the recording that are shown, in their order; other values
+ * are wanted than the recording has.
+ * @typedef {{ offered: () => WaveLine[], choose: (chosen: number[]) => void, wants: () => void }} ChoiceCalls
+ */
+
+export class WaveChoice {
+  /** @param {ChoiceCalls} calls */
+  constructor(calls) {
+    this.calls = calls;
+    /** @type {Waves | null} */
+    this.waves = null;
+    /** @type {Set<string>} names */
+    this.chosen = new Set();
+    /** Whether the lines are those that change, as none were chosen by hand. */
+    this.isOwn = false;
+    this.told = new Cell(block("signals-told"));
+    /** @type {Map<string, HTMLInputElement>} the boxes by the names of their lines */
+    this.boxes = new Map();
+    onClick(button("waves-changing"), () => this.chooseChanging());
+    onClick(button("waves-all"), () => this.waves && this.set(this.waves.lines.map(({ name }) => name), true));
+    onClick(button("waves-none"), () => this.set([], true));
+    field("signal-search").addEventListener("input", () => this.draw());
+    block("wave-choice").addEventListener("toggle", () => this.draw());
+  }
+
+  /** The names of registers and characters that are to be recorded. */
+  get values() {
+    return valuesAmong(this.calls.offered(), this.chosen);
+  }
+
+  /** @param {Waves} waves another recording; what was chosen by its name stays chosen */
+  begin(waves) {
+    this.waves = waves;
+    const isLineChosen = waves.lines.some(({ name, kind }) => kind !== "value" && this.chosen.has(name));
+    if (!isLineChosen) this.isOwn = false;
+    if (!this.isOwn) this.addChanging(waves);
+    this.draw();
+    this.tell();
+  }
+
+  /** What was recorded has become more: lines that change are shown, where none were chosen by hand. */
+  grown() {
+    if (this.isOwn || !this.waves) return;
+    if (this.addChanging(this.waves)) this.tell();
+  }
+
+  /**
+   * The lines that change are chosen in the place of other ones; gives whether they are others now.
+   * @param {Waves} waves
+   */
+  addChanging(waves) {
+    const names = firstChoice(waves).map((line) => waves.lines[line].name);
+    const values = waves.lines.filter(({ name, kind }) => kind === "value" && this.chosen.has(name)).map(({ name }) => name);
+    const wanted = new Set([...names, ...values]);
+    if (wanted.size === this.chosen.size && [...wanted].every((name) => this.chosen.has(name))) return false;
+    this.chosen = wanted;
+    this.showTicks();
+    return true;
+  }
+
+  chooseChanging() {
+    this.isOwn = false;
+    if (this.waves && this.addChanging(this.waves)) this.tell();
+  }
+
+  /** Nothing is recorded any more; what was chosen by hand is chosen for the next board, too, where it has lines of these names. */
+  forget() {
+    this.waves = null;
+    this.chosen.clear();
+    this.isOwn = false;
+    this.told.set("");
+    this.draw();
+  }
+
+  /** The boxes of what is looked for; they are made while they are seen. */
+  draw() {
+    if (!block("wave-choice").hasAttribute("open")) return;
+    const { lines, more } = found(this.calls.offered(), field("signal-search").value, this.chosen);
+    /** @type {Map<string, HTMLElement>} */
+    const groups = new Map();
+    this.boxes.clear();
+    for (const line of lines) {
+      const root = groups.get(line.group) || element("fieldset", {}, element("legend", {}, titleOf(line.group)));
+      root.append(this.boxOf(line));
+      groups.set(line.group, root);
+    }
+    this.showTicks();
+    block("wave-boxes").replaceChildren(...groups.values());
+    block("signals-more").textContent = more;
+  }
+
+  /** @param {WaveLine} line */
+  boxOf({ name, title }) {
+    const box = element("input", { type: "checkbox", autocomplete: "off", name });
+    box.addEventListener("change", () => this.tick(name, box.checked));
+    this.boxes.set(name, box);
+    return element("label", {}, box, name, ...(title === "" ? [] : [element("small", {}, ` ${title}`)]));
+  }
+
+  showTicks() {
+    for (const [name, box] of this.boxes) box.checked = this.chosen.has(name);
+  }
+
+  /**
+   * @param {string} name
+   * @param {boolean} isChosen
+   */
+  tick(name, isChosen) {
+    const names = new Set(this.chosen);
+    if (isChosen) names.add(name);
+    else names.delete(name);
+    this.set(names, true);
+  }
+
+  /**
+   * @param {Iterable<string>} names
+   * @param {boolean} isOwn
+   */
+  set(names, isOwn) {
+    this.chosen = new Set(names);
+    this.isOwn = isOwn;
+    this.showTicks();
+    this.tell();
+    if (this.lacking.length > 0) this.calls.wants();
+  }
+
+  /** The values that are chosen, and that the recording has not. */
+  get lacking() {
+    const { waves } = this;
+    return waves ? this.values.filter((name) => waves.lines.every((line) => line.name !== name)) : [];
+  }
+
+  tell() {
+    const { waves, lacking } = this;
+    if (!waves) return;
+    const names = lacking.slice(0, 3).join(", ") + (lacking.length > 3 ? " .." : "");
+    this.told.set(lacking.length === 0 ? "" : say.recordedNext(names, lacking.length === 1));
+    this.calls.choose(waves.lines.map((_, line) => line).filter((line) => this.chosen.has(waves.lines[line].name)));
+  }
+}

@@ -1,0 +1,38 @@
+// The values of the lines at the cursors, as a table. It is filled while it is open.
+
+import { Cell, block, byId, element } from "../ui/dom.js";
+
+/** @typedef {import("../../core/waves/waves.js").Waves} Waves */
+
+export class WaveValues {
+  /** @param {() => void} opened it was opened: its values are wanted */
+  constructor(opened) {
+    this.node = byId("wave-values", HTMLDetailsElement);
+    /** @type {number[]} the lines of its rows */
+    this.rows = [];
+    /** @type {Cell[][]} */
+    this.cells = [];
+    this.node.addEventListener("toggle", opened);
+  }
+
+  /**
+   * @param {Waves} waves
+   * @param {number[]} rows
+   */
+  draw({ lines }, rows) {
+    this.rows = rows;
+    this.cells = rows.map(() => [new Cell(element("td")), new Cell(element("td"))]);
+    const made = rows.map((line, at) => element("tr", {}, element("th", { scope: "row" }, lines[line].name),
+      ...this.cells[at].map((cell) => cell.node)));
+    block("wave-table").replaceChildren(...made);
+  }
+
+  /**
+   * @param {Waves} waves
+   * @param {number[]} cursors
+   */
+  show(waves, cursors) {
+    if (!this.node.open) return;
+    this.cells.forEach((cells, row) => cells.forEach((cell, at) => cell.set(waves.valueAt(this.rows[row], cursors[at]))));
+  }
+}

@@ -1,0 +1,370 @@
+// The debug adapter, without a process: its messages, and what it answers by the module of the page.
+import assert from "node:assert/strict";
+import { afterEach, test } from "node:test";
+import { readFileSync } from "node:fs";
+import { AdapterConnection } from "../core/adapter/adapter_connection.js";
+import { DebugAdapter } from "../core/adapter/debug_adapter.js";
+import { LONGEST_MESSAGE, MessageReader, framed } from "../core/server/framing.js";
+import { Engine } from "../core/engine/engine.js";
+import { dataOfPage } from "../node/page_parts.mjs";
+import { moduleOfPage } from "./page_session.js";
+
+const engine = new Engine(new globalThis.WebAssembly.Module(moduleOfPage));
+const lock = (name) => readFileSync(new URL(`../../examples/lock/${name}`, import.meta.url), "utf8");
+const FILES = Object.fromEntries(["board.toml", "lock.asm", "mcs4.toml"].map((name) => [`/lock/${name}`, lock(name)]));
+const LOCK = { program: "/lock/lock.asm" };
+const SOURCE = { path: "/lock/lock.asm" };
+
+const PATIENCE = 20000;
+
+/** @type {DebugAdapter[]} */
+const begun = [];
+afterEach(async () => {
+  // Time that still runs would go on for ever.
+  for (const adapter of begun.splice(0)) await adapter.leave();
+});
+
+/** A program that serves a session file, as a list of the lines that it was sent and the bytes that it has. */
+class FakeFile {
+  constructor(bytes) {
+    this.bytes = bytes.slice();
+    this.now = bytes.slice();
+    this.lines = [];
+    this.replaced = 0;
+    this.hasEnded = false;
+  }
+
+  async ask(lines) {
+    this.lines.push(...lines.split("\n").slice(0, -1));
+    return engine.serve(this.now, lines, this.now).answers;
+  }
+
+  async replace(bytes, lines, count, check) {
+    const next = bytes.slice();
+    check(engine.serve(next, lines, next).answers);
+    this.now = next;
+    this.replaced += 1;
+  }
+
+  async end() {
+    this.hasEnded = true;
+  }
+}
+
+/** An adapter with one who asks it; `files` are texts and session files. */
+function served(files = FILES, sessions = {}) {
+  const reader = new MessageReader();
+  const told = [];
+  const ended = [];
+  const connection = new AdapterConnection((bytes) => told.push(...reader.take(bytes).map(({ text }) => JSON.parse(text))));
+  const host = {
+    nameOf: (name, folder) => (name.startsWith("/") ? name : `${folder}/${name}`),
+    beside: (name, other) => other.replace(/[^/]*$/, name),
+    read: (name) => files[name] ?? null,
+    isThere: (name) => name in files || name in sessions,
+    open: async (name) => sessions[name] || Promise.reject(new Error(`${name} is in use`)),
+    make: async (name) => {
+      sessions[name] = new FakeFile(engine.begin());
+      return sessions[name];
+    },
+    pause: () => new Promise(setImmediate),
+    end: (status) => ended.push(status),
+  };
+  const adapter = new DebugAdapter(connection, engine, dataOfPage(), host);
+  begun.push(adapter);
+  let seq = 0;
+  const until = async (fits) => {
+    const end = performance.now() + PATIENCE;
+    while (!told.some(fits)) {
+      if (performance.now() > end) throw new Error(`nothing came: ${JSON.stringify(told.slice(-3))}`);
+      await new Promise(setImmediate);
+    }
+    return told.find(fits);
+  };
+  const answer = async (command, args) => {
+    seq += 1;
+    const own = seq;
+    connection.take(framed({ seq, type: "request", command, arguments: args }));
+    return until((each) => each.type === "response" && each.request_seq === own);
+  };
+  const ask = async (command, args) => {
+    const response = await answer(command, args);
+    assert.ok(response.success, response.message);
+    return response.body;
+  };
+  const stops = () => told.filter(({ event }) => event === "stopped").map(({ body }) => body);
+  const move = async (command, args = { threadId: 1 }) => {
+    const before = stops().length;
+    await ask(command, args);
+    await until(() => stops().length > before);
+    return stops()[before];
+  };
+  const begin = async (args = LOCK, configure = async () => {}) => {
+    await ask("initialize", { adapterID: "mcs4", supportsInvalidatedEvent: true });
+    await ask("launch", args);
+    await configure();
+    const before = stops().length;
+    await ask("configurationDone");
+    if (args.stopOnEntry !== false) await until(() => stops().length > before);
+  };
+  const output = () => told.filter(({ event }) => event === "output").map(({ body }) => body.output).join("");
+  const evaluate = async (expression, context = "watch") => (await ask("evaluate", { expression, context })).result;
+  const lines = async () => (await ask("stackTrace", { threadId: 1 })).stackFrames.map(({ line }) => line);
+  return { adapter, connection, told, ended, until, answer, ask, move, begin, output, evaluate, lines, stops, sessions };
+}
+
+test("messages are answered in their order, each by a number of its own; what is none is told", async () => {
+  const { connection, told, answer, ask, until } = served();
+  assert.deepEqual((await answer("threads")).message, "initialize comes first");
+  await ask("initialize", {});
+  assert.equal((await answer("initialize", {})).message, "initialize comes once");
+  assert.equal((await answer("nothing")).message, "there is no nothing here");
+  assert.equal((await answer("toString")).message, "there is no toString here");
+  assert.equal((await answer("stackTrace", { threadId: 1 })).message, "nothing is launched yet");
+  connection.take(framed({ seq: 70, type: "request" }));
+  connection.take(framed([]));
+  connection.take(new TextEncoder().encode("Content-Length: 3\r\n\r\n{x}"));
+  connection.take(new TextEncoder().encode(`Content-Length: ${LONGEST_MESSAGE + 1}\r\n\r\n`));
+  connection.take(new Uint8Array(LONGEST_MESSAGE + 1));
+  await until(({ message }) => (message || "").includes("was not read"));
+  const faults = told.filter(({ success }) => success === false).slice(-4).map(({ request_seq, message }) => `${request_seq} ${message}`);
+  const form = "a message has a number seq, the type \"request\" and a command";
+  const tooLong = `0 a message of ${LONGEST_MESSAGE + 1} bytes was not read`;
+  assert.deepEqual(faults, [`70 ${form}`, `0 ${form}`, "0 a message is not JSON", tooLong]);
+  assert.deepEqual(told.map(({ seq }) => seq), told.map((_, at) => at + 1));
+});
+
+test("what cannot be launched is refused in words, and another launch can follow", async () => {
+  const wrong = { "/a.asm": "go: JMP go\n", "/board.toml": FILES["/lock/board.toml"], "/b/b.asm": "NOP\n",
+    "/c/mcs4.toml": "board = \"b.toml\"\nprogram = \"/x.asm\"\n" };
+  const { answer, ask } = served({ ...FILES, ...wrong });
+  await ask("initialize", {});
+  const refused = async (args) => (await answer("launch", args)).message;
+  assert.match(await refused(undefined), /^launch needs "project"/);
+  assert.match(await refused({ program: 3 }), /program is a text/);
+  assert.match(await refused({ program: "/none.asm" }), /cannot read \/none.asm/);
+  assert.match(await refused({ program: "/a.asm" }), /^a.asm, line 1: the line has no form that the assembler knows \(no 30\)$/);
+  assert.match(await refused({ program: "/b/b.asm" }), /^there is no board.toml beside \/b\/b.asm/);
+  assert.match(await refused({ session: "/none.mcs" }), /^\/none.mcs is not there/);
+  assert.match(await refused({ project: "/b" }), /^there is no \/b\/mcs4.toml/);
+  assert.match(await refused({ project: "/c/mcs4.toml" }), /^\/c\/mcs4.toml, line 2: \/x.asm is no path from the project's folder/);
+  assert.match((await answer("attach", {})).message, /nothing to attach to/);
+  await ask("launch", { cwd: "/lock", project: "/lock" });
+  assert.equal((await answer("launch", LOCK)).message, "launch comes once");
+  assert.equal((await answer("next", { threadId: 1 })).message, "configurationDone comes first");
+});
+
+test("breakpoints at lines, labels and addresses, with conditions, hits and notes", async () => {
+  const { begin, ask, move, output, evaluate, lines } = served();
+  await begin();
+  const set = async (breakpoints, source = SOURCE) => (await ask("setBreakpoints", { source, breakpoints })).breakpoints;
+  const [plain, moved, none, unread, hits] = await set([{ line: 31 }, { line: 25 }, { line: 500 }, { line: 33, condition: "foo = 1" },
+    { line: 34, hitCondition: "often" }]);
+  assert.deepEqual([plain.verified, plain.line, plain.instructionReference], [true, 31, "0x033"]);
+  assert.deepEqual([moved.verified, moved.line], [true, 26]);
+  assert.match(none.message, /No instruction follows on line 500/);
+  assert.match(unread.message, /there is no place foo/);
+  assert.match(hits.message, /a hit count is a number/);
+  const [other] = await set([{ line: 31 }], { path: "/lock/board.toml" });
+  assert.match(other.message, /not in the program that is debugged, \/lock\/lock.asm/);
+  const stop = await move("continue");
+  assert.deepEqual([stop.reason, stop.allThreadsStopped], ["breakpoint", true]);
+  assert.deepEqual(await lines(), [26]);
+  await set([{ line: 80, logMessage: "acc {acc}" }, { line: 83, hitCondition: "2", condition: "acc = 1" }]);
+  const { breakpoints: [label, unknown] } = await ask("setFunctionBreakpoints", { breakpoints: [{ name: "wait" }, { name: "nowhere" }] });
+  assert.deepEqual([label.verified, label.line, unknown.message], [true, 86, "the program has no label nowhere"]);
+  const wanted = [{ instructionReference: "0x02F", offset: 2 }];
+  const { breakpoints: [address] } = await ask("setInstructionBreakpoints", { breakpoints: wanted });
+  const here = await move("continue");
+  assert.deepEqual([here.reason, here.hitBreakpointIds], ["instruction breakpoint", [address.id]]);
+  assert.match(output(), /acc 1\n/);
+  await ask("setInstructionBreakpoints", { breakpoints: [] });
+  // The lock looks for a key once all are up.
+  assert.match(await evaluate("run 5000", "repl"), /^ok \d+ ran 5000 end$/);
+  assert.equal(await evaluate("keys #", "repl"), "1 key waits for time to run (continue)");
+  const second = await move("continue");
+  assert.deepEqual([second.reason, await lines()], ["breakpoint", [83, 29]]);
+});
+
+test("over, into, out, back and back again; goto; values are set", async () => {
+  const { begin, ask, answer, move, evaluate, lines } = served();
+  await begin();
+  for (const [command, line] of [["stepIn", 26], ["next", 27], ["next", 28], ["next", 29], ["stepIn", 80]]) {
+    await move(command);
+    assert.equal((await lines())[0], line);
+  }
+  assert.deepEqual(await lines(), [80, 29]);
+  await move("stepOut");
+  assert.deepEqual(await lines(), [30]);
+  const back = await move("stepBack");
+  assert.deepEqual([back.reason, await lines()], ["step", [83, 29]]);
+  await ask("setFunctionBreakpoints", { breakpoints: [{ name: "show" }] });
+  const arrival = await move("reverseContinue");
+  assert.deepEqual([arrival.reason, arrival.hitBreakpointIds.length, await lines()], ["function breakpoint", 1, [80, 29]]);
+  const beginning = await move("reverseContinue");
+  assert.deepEqual([beginning.reason, await lines()], ["entry", [16]]);
+  assert.match(beginning.description, /^Back at 000 .*, where what is remembered begins: no breakpoint was passed since\.$/);
+  assert.match((await move("reverseContinue")).description, /^Nothing was done: what is remembered reaches no further back\.$/);
+  await ask("setFunctionBreakpoints", { breakpoints: [] });
+  for (const command of ["stepIn", "next", "next", "next", "stepIn"]) await move(command);
+  assert.deepEqual(await lines(), [80, 29]);
+  const { targets: [target] } = await ask("gotoTargets", { source: SOURCE, line: 57 });
+  assert.equal((await move("goto", { threadId: 1, targetId: target.id })).reason, "goto");
+  assert.equal((await lines())[0], 57);
+  assert.match((await answer("next", { threadId: 2 })).message, /one thread/);
+  assert.equal((await ask("setExpression", { expression: "P2", value: "0x1F" })).value, "0x1F");
+  assert.deepEqual([await evaluate("r4"), await evaluate("R5"), await evaluate("r5 = 15 and not cy 1")], ["0x1", "0xF", "true"]);
+  assert.match((await answer("setExpression", { expression: "r4", value: "16" })).message, /r4 holds 0 to 15/);
+  assert.match((await answer("setExpression", { expression: "r4", value: "x y" })).message, /is no number/);
+  assert.equal(await evaluate("P2", "hover"), "P2 = 1F: R4 1, R5 F");
+  assert.equal(await evaluate("enter"), "0x053, line 57");
+  assert.deepEqual([await evaluate("open"), await evaluate("lamp open"), await evaluate("alarm")], ["0x02, 2", "off", "0x05, 5"]);
+  assert.match(await evaluate("NOP", "hover"), /./);
+  assert.match((await answer("evaluate", { expression: "quit", context: "repl" })).message, /help shows what a line can be$/);
+  assert.match(await evaluate("asm\nORG 0x0F0\nNOP\n.", "repl"), /^ok \d+ bytes 1$/);
+  const before = (await move("evaluate", { expression: "until @show", context: "repl" })).reason;
+  assert.deepEqual([before, await lines()], ["step", [80, 29, 29]]);
+});
+
+test("scopes, variables, memory and disassembly", async () => {
+  const { begin, ask, answer, evaluate } = served();
+  await begin();
+  const { scopes } = await ask("scopes", { frameId: 1 });
+  assert.deepEqual(scopes.map(({ name }) => name), ["Registers", "Pairs", "RAM", "Ports", "Lamps", "Keys", "Names"]);
+  const variables = async (variablesReference) => (await ask("variables", { variablesReference })).variables;
+  const referenceOf = (name) => scopes.find((each) => each.name === name).variablesReference;
+  const keys = await variables(referenceOf("Keys"));
+  assert.deepEqual(keys.map(({ name }) => name), ["1", "2", "3", "4", "5", "6", "7", "8", "9", "*", "0", "#"]);
+  await ask("setVariable", { variablesReference: referenceOf("Keys"), name: "5", value: "down" });
+  assert.match(await evaluate("ports", "repl"), /keys 1.1/);
+  const [bank] = await variables(referenceOf("RAM"));
+  const [register] = await variables(bank.variablesReference);
+  assert.equal((await variables(register.variablesReference)).length, 20);
+  await ask("setVariable", { variablesReference: register.variablesReference, name: "0x03", value: "9" });
+  assert.deepEqual([await evaluate("ram.0.3"), await evaluate("ram 0 0x03")], ["0x9", "9"]);
+  const { dataId } = await ask("dataBreakpointInfo", { variablesReference: register.variablesReference, name: "0x03" });
+  assert.equal((await ask("setDataBreakpoints", { breakpoints: [{ dataId }] })).breakpoints[0].verified, true);
+  assert.equal(await evaluate("watches", "repl"), "watches 0.03");
+  const { data } = await ask("readMemory", { memoryReference: bank.memoryReference, count: 4 });
+  assert.deepEqual([...Buffer.from(data, "base64")], [0, 0, 0, 9]);
+  await ask("writeMemory", { memoryReference: "0x0FE", data: "QUI=" });
+  assert.match((await answer("writeMemory", { memoryReference: "0xFFF", data: "QUI=" })).message, /outside/);
+  const asked = { memoryReference: "0x02C", instructionOffset: -1, instructionCount: 3 };
+  const { instructions } = await ask("disassemble", asked);
+  const told = instructions.slice(1).map((each) => [each.address, each.instruction, each.instructionBytes, each.line]);
+  assert.deepEqual(told, [["0x02C", "LDM 13", "DD", 26], ["0x02D", "XCH R12", "BC", 27]]);
+  const outside = await ask("disassemble", { memoryReference: "0x000", instructionOffset: -3, instructionCount: 4 });
+  assert.deepEqual(outside.instructions.map(({ instruction }) => instruction), ["nothing", "nothing", "nothing", "JUN 0x02C"]);
+  assert.match((await answer("disassemble", { memoryReference: "0x1000", instructionCount: 4 })).message, /addresses are/);
+});
+
+test("time that runs is paused; what is done meanwhile is done between pieces", async () => {
+  const { begin, ask, answer, until, told, stops, evaluate } = served();
+  await begin({ ...LOCK, stopOnEntry: false });
+  assert.equal((await answer("stackTrace", { threadId: 1 })).message, "notStopped");
+  assert.equal((await answer("next", { threadId: 1 })).message, "notStopped");
+  await ask("setBreakpoints", { source: SOURCE, breakpoints: [{ line: 60 }] });
+  assert.match((await answer("evaluate", { expression: "run 5", context: "repl" })).message, /time runs/);
+  assert.equal(await evaluate("press #", "repl"), "");
+  await until(({ event }) => event === "stopped");
+  assert.equal(stops()[0].reason, "breakpoint");
+  await ask("continue", { threadId: 1 });
+  await ask("pause", { threadId: 1 });
+  await until(() => stops().length === 2);
+  assert.equal(stops()[1].reason, "pause");
+  assert.ok(told.some(({ body }) => body && body.category === "stdout" && body.output === "lamps *.. locked\n"));
+  await ask("disconnect", {});
+});
+
+test("a client that draws the board is told it once, what changes, and moves keys by their places", async () => {
+  const { begin, ask, answer, move, evaluate, told, until } = served();
+  assert.equal((await answer("watchBoard")).message, "initialize comes first");
+  await begin();
+  const { board, boardText, ...shown } = await ask("watchBoard");
+  assert.deepEqual([board[0], boardText], ["board", FILES["/lock/board.toml"]]);
+  assert.deepEqual(shown, { lamps: "...", keys: [], test: "1", isRunning: false });
+  const news = () => told.filter(({ event }) => event === "boardShown").map(({ body }) => body);
+  await ask("changeKey", { place: "1 1", isDown: true });
+  assert.deepEqual(news(), [{ keys: ["1.1"] }]);
+  assert.match(await evaluate("state", "repl"), / keys 1\.1 /);
+  await ask("changeKey", { place: "1 1", isDown: false });
+  await ask("changeKey", { place: "test 0", isDown: true });
+  assert.deepEqual(news().slice(1), [{ keys: [] }, { test: "0" }]);
+  for (const place of ["1", "1 1\nreset", "", "test 2"]) {
+    assert.match((await answer("changeKey", { place, isDown: true })).message, /place/);
+  }
+  assert.match((await answer("changeKey", { place: "9 9", isDown: true })).message, /^no 41: /);
+  await ask("setFunctionBreakpoints", { breakpoints: [{ name: "digit" }] });
+  await move("continue");
+  await until(({ event, body }) => event === "boardShown" && body.isRunning === false && news().length > 4);
+  assert.ok(news().some(({ lamps }) => lamps === "*.."));
+  assert.equal(news().filter((each) => each.board).length, 0);
+  await ask("restart", {});
+  await until(({ event, body }) => event === "boardShown" && body.board);
+});
+
+test("in real time a cycle takes as long as on a real board", async () => {
+  const { adapter, begin, ask, until, stops } = served();
+  await begin({ ...LOCK, realTime: true });
+  const before = stops().length;
+  const from = performance.now();
+  await ask("continue", { threadId: 1 });
+  await new Promise((settle) => {
+    setTimeout(settle, 300);
+  });
+  await ask("pause", { threadId: 1 });
+  await until(() => stops().length > before);
+  const time = performance.now() - from;
+  const { total } = adapter.there.launched.session.debugger.session.count;
+  // A sixtieth of a second is done at once.
+  assert.ok(total > 1000 && total * 0.0108 < time + 17, `${total} cycles in ${time} ms`);
+});
+
+test("a session file has at each stop what was done; its breakpoints are as they were", async () => {
+  const file = new FakeFile(engine.begin());
+  const program = FILES["/lock/lock.asm"].replace(/[ \t]*;.*/g, "");
+  engine.serve(file.bytes, `wire\n${FILES["/lock/board.toml"].replace(/^#.*$/gm, "")}.\nasm\n${program}.\nbreak 0x02E\n`, file.bytes);
+  file.now = file.bytes.slice();
+  const { begin, ask, move, evaluate, answer } = served(FILES, { "/s.mcs": file });
+  await begin({ ...LOCK, session: "/s.mcs" });
+  const same = async () => assert.equal(engine.ask(file.now, "state\n").answers[0], await evaluate("state", "repl"));
+  await ask("setBreakpoints", { source: SOURCE, breakpoints: [{ line: 83 }] });
+  assert.equal((await move("continue")).description, "Stopped at 02E (ready, line 28), at a breakpoint.");
+  await same();
+  await move("continue");
+  await same();
+  await move("stepBack");
+  await same();
+  assert.equal(file.replaced, 1);
+  await move("stepIn");
+  await ask("setExpression", { expression: "r7", value: "3" });
+  await evaluate("press 5", "repl");
+  await same();
+  assert.equal(file.replaced, 1);
+  await move("reverseContinue");
+  await same();
+  assert.match((await answer("evaluate", { expression: "press 55", context: "repl" })).message, /no key 55; it has: 1 2 3/);
+  await ask("disconnect", {});
+  assert.deepEqual([engine.ask(file.now, "breaks\n").answers[0], file.hasEnded], ["breaks 02E", true]);
+});
+
+test("a session file is made, or opened without a program; another program is refused", async () => {
+  const sessions = {};
+  const files = { ...FILES, "/lock/other.asm": "LDM 1\n" };
+  const made = served(files, sessions);
+  await made.begin({ ...LOCK, session: "/new.mcs" });
+  await made.ask("disconnect", {});
+  assert.deepEqual(made.ended, [0]);
+  sessions["/new.mcs"] = new FakeFile(sessions["/new.mcs"].now);
+  const other = served(files, sessions);
+  await other.ask("initialize", {});
+  const wrong = await other.answer("launch", { program: "/lock/other.asm", session: "/new.mcs" });
+  assert.match(wrong.message, /other.asm is not what stands in ROM of new.mcs: ROM has another byte at 0x000. "load": true puts it there/);
+  sessions["/new.mcs"] = new FakeFile(sessions["/new.mcs"].now);
+  const bare = served(files, sessions);
+  await bare.begin({ session: "/new.mcs" });
+  const { stackFrames: [{ source, line }] } = await bare.ask("stackTrace", { threadId: 1 });
+  assert.equal(source.sourceReference, 1);
+  const { content } = await bare.ask("source", { source, sourceReference: 1 });
+  assert.match(content.split("\n")[line - 1], /JUN 0x02C/);
+});

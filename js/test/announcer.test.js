@@ -1,0 +1,25 @@
+import assert from "node:assert/strict";
+import { mock, test } from "node:test";
+import { Announcer, STILL_TIME } from "../core/board/announcer.js";
+
+test("a text is announced once it has stood still, and the first one is not", () => {
+  mock.timers.enable({ apis: ["setTimeout"] });
+  const said = [];
+  const announcer = new Announcer((text) => said.push(text));
+  announcer.begin();
+  announcer.tell("0");
+  mock.timers.tick(3 * STILL_TIME);
+  assert.deepEqual(said, []);
+  for (let count = 1; count <= 100; count++) {
+    announcer.tell(String(count));
+    mock.timers.tick(STILL_TIME / 10);
+  }
+  assert.deepEqual(said, []);
+  mock.timers.tick(2 * STILL_TIME);
+  assert.deepEqual(said, ["100"]);
+  announcer.tell("5");
+  announcer.tell("100");
+  mock.timers.tick(3 * STILL_TIME);
+  assert.deepEqual(said, ["100"]);
+  mock.timers.reset();
+});

@@ -1,0 +1,83 @@
+// Answers as docs/MANUAL.md shows them.
+import assert from "node:assert/strict";
+import { test } from "node:test";
+import {
+  isStop, readBoard, readListing, readMap, readMarks, readRam, readRegisters, readRun, refusalOf, watchedPlaces,
+} from "../core/bench/answers.js";
+import { Answers, readTraced, valuesOf } from "../core/engine/tracing.js";
+
+test("refusals, with a line and without", () => {
+  assert.deepEqual(refusalOf("no 34 line 2"), { number: 34, line: 2 });
+  assert.deepEqual(refusalOf("no 90"), { number: 90, line: 0 });
+  for (const other of ["ok 5", "no", "no way", "no 34 line", "xno 34"]) assert.equal(refusalOf(other), null);
+});
+
+test("the answer to a run", () => {
+  assert.deepEqual(readRun("ok 21 ran 11 watch"), { cycles: 11, end: "watch" });
+  for (const other of ["ok 22", "no 41", "seq 3"]) assert.equal(readRun(other), null);
+});
+
+test("what ends a row of steps", () => {
+  assert.deepEqual(["ok 23 ran 70 end", "ok 5", "ok 21 ran 11 watch", "no 41", "seq 3"].map(isStop), [false, false, true, true, false]);
+});
+
+test("registers", () => {
+  assert.deepEqual(readRegisters("acc 6 cy 0 pc 00A owed 0 dcl 0 test 1 r 1000000000000000 ret 000 000 000"), {
+    accumulator: "6", carry: "0", counter: "00A", owed: "0", bank: "0", test: "1", registers: [..."1000000000000000"],
+    returns: ["000", "000", "000"],
+  });
+});
+
+test("RAM", () => {
+  const told = readRam(["ram 0 chips 1", "0.0.0 2000000000000000 0000", "0.0.1 0000000000000000 0020", "0.0 out 1"]);
+  assert.deepEqual([...told.registers], [
+    ["0.0.0", { characters: "2000000000000000", status: "0000" }], ["0.0.1", { characters: "0000000000000000", status: "0020" }]]);
+  assert.deepEqual([...told.ports], [["0.0", "1"]]);
+});
+
+test("marks", () => {
+  assert.deepEqual(readMarks("breaks 000 003"), ["000", "003"]);
+  assert.deepEqual(readMarks("watches -"), []);
+});
+
+test("what is watched", () => {
+  assert.deepEqual(watchedPlaces("watches 0.3F 7.00"), ["ram.0.0x3F", "ram.7.0x00"]);
+  assert.deepEqual(watchedPlaces("watches -"), []);
+});
+
+test("where a program's lines and names stand", () => {
+  const answers = ["map lines 3 names 2", "line 1 000 0", "line 2 FFF 1", "line 3 1000 0", "name time 00C", "name go FFF"];
+  assert.deepEqual(readMap(answers), {
+    lines: [{ line: 1, address: 0, size: 0 }, { line: 2, address: 0xFFF, size: 1 }, { line: 3, address: 0x1000, size: 0 }],
+    names: [{ name: "time", value: 12 }, { name: "go", value: 0xFFF }],
+  });
+  for (const none of [[], ["no 31 line 2"], ["map lines 0 names 0"]]) assert.deepEqual(readMap(none), { lines: [], names: [] });
+});
+
+test("what a run would do, among other answers", () => {
+  const answers = new Answers(["trace ran 3 end lines 2 0 -", "0 000 1 -", "2 00A 2 *", "count ran 3 code lines 2", "000 1", "00A 12 3",
+    "ok 7 ran 3 code", "no 11"]);
+  const { row, lines, cycles } = answers.takeTrace();
+  assert.deepEqual([valuesOf(row), lines.map(readTraced), cycles],
+    [["0", "-"], [{ cycles: 0, address: 0, row: " 1 -" }, { cycles: 2, address: 10, row: " 2 *" }], 3]);
+  assert.deepEqual(answers.takeCounts(), [{ address: 0, begun: 1, jumped: -1 }, { address: 10, begun: 12, jumped: 3 }]);
+  assert.deepEqual([answers.takeRun(), answers.takeRun()], [{ cycles: 3, end: "code" }, { cycles: 0, end: "no 11" }]);
+  assert.equal(answers.isEmpty, true);
+});
+
+test("listings, but not the answers between them", () => {
+  assert.deepEqual(readListing(["000 40 24 JUN 0x024", "ok 7", "002 00    NOP"]),
+    [{ address: 0, line: "000 40 24 JUN 0x024" }, { address: 2, line: "002 00    NOP" }]);
+});
+
+test("a board", () => {
+  const board = readBoard(["board", "[[rom]]", "chip = 0", 'port = "00ii"', "[[ram]]", "bank = 1", "chips = 2", "[[chain]]",
+    'clock = "rom0.0"', 'data = "rom0.1"', "chips = 1", "[keys]", "chain = 0", "first = 0", "rows = 3", 'columns = ["rom0.2", "rom0.3"]',
+    "[[lamp]]", 'line = "ram1.0.2"']);
+  assert.deepEqual(board.lamps, ["ram1.0.2"]);
+  assert.deepEqual([board.rows, board.columns], [3, 2]);
+  assert.deepEqual(board.banks.map(({ bank, chips }) => [bank, chips]), [[1, 2]]);
+  assert.deepEqual(board.chains.map(({ clock, data, chips }) => [clock, data, chips]), [["rom0.0", "rom0.1", 1]]);
+  assert.deepEqual([board.matrix.chain, board.matrix.first, board.matrix.columns], [0, 0, ["rom0.2", "rom0.3"]]);
+  assert.deepEqual(readBoard(["board"]), { banks: [], chains: [], roms: [], lamps: [], rows: 0, columns: 0, matrix: null });
+});

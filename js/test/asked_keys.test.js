@@ -1,0 +1,92 @@
+// A key that is typed again before the page is told that it went up: it is pressed again, and no press is taken for a release.
+
+import assert from "node:assert/strict";
+import test from "node:test";
+import { AskedKeys } from "../core/board/asked_keys.js";
+import { Pressing } from "../page/board/pressing.js";
+import { begin } from "./page_session.js";
+
+const KEY = { key: "0 0", isSwitch: false };
+
+/** Fingers on a key while time runs: the worker has what is asked for once `arrive` is called, and tells it by `look`. */
+async function typing() {
+  const calls = await begin("calculator");
+  const asked = new AskedKeys();
+  const words = [];
+  let [isDown, onTheWay] = [false, []];
+  const send = (word) => {
+    words.push(word);
+    onTheWay.push([word, asked.send({ word, key: KEY.key })]);
+  };
+  const pressing = new Pressing({
+    isRunning: () => true,
+    isDown: (key) => asked.willBeDown(key, isDown),
+    press: () => send("press"),
+    release: () => send("release"),
+    change: () => {},
+    meant: () => undefined,
+  });
+  const arrive = () => {
+    for (const [word, arrived] of onTheWay) {
+      asked.waiting = structuredClone(calls[word](KEY.key));
+      arrived();
+    }
+    onTheWay = [];
+  };
+  /** So many cycles later the page is told what is. */
+  const look = (cycles) => {
+    arrive();
+    const told = structuredClone(calls.advance(cycles));
+    isDown = / keys [^ ]*\b0\.0\b/.test(told.look.join("\n"));
+    asked.waiting = told.waiting;
+    return isDown;
+  };
+  return { pressing, words, arrive, look };
+}
+
+test("a key is typed again while its release waits for its time", async () => {
+  const { pressing, words, look } = await typing();
+  pressing.down(KEY, false);
+  assert.equal(look(1500), true);
+  pressing.up(KEY.key);
+  assert.equal(look(1500), true);
+  pressing.down(KEY, false);
+  pressing.up(KEY.key);
+  assert.deepEqual(words, ["press", "release", "press", "release"]);
+  assert.deepEqual([look(1001), look(2000), look(4000)], [false, true, false]);
+});
+
+test("a key is typed again while its release is on its way", async () => {
+  const { pressing, words, look } = await typing();
+  pressing.down(KEY, false);
+  assert.equal(look(6000), true);
+  pressing.up(KEY.key);
+  pressing.down(KEY, false);
+  assert.deepEqual(words, ["press", "release", "press"]);
+});
+
+test("a key that stays down is let go by a press, also while that press waits", async () => {
+  const { pressing, words, look } = await typing();
+  pressing.down(KEY, true);
+  pressing.up(KEY.key);
+  pressing.down(KEY, false);
+  pressing.up(KEY.key);
+  assert.deepEqual(words, ["press", "release"]);
+  assert.equal(look(1), true);
+  assert.equal(look(4000), false);
+  pressing.down(KEY, true);
+  pressing.up(KEY.key);
+  assert.equal(look(8000), true);
+  pressing.down(KEY, false);
+  assert.deepEqual(words, ["press", "release", "press", "release"]);
+});
+
+test("what is forgotten of a key leaves it as the bench tells it", () => {
+  const asked = new AskedKeys();
+  const arrived = asked.send({ word: "press", key: "0 0" });
+  assert.deepEqual([asked.willBeDown("0 0", false), asked.willBeDown("0 1", false)], [true, false]);
+  asked.send({ word: "forget", key: "0 0" });
+  assert.deepEqual([asked.willBeDown("0 0", false), asked.willBeDown("0 0", true)], [false, true]);
+  arrived();
+  assert.equal(asked.sent.length, 1);
+});

@@ -1,0 +1,143 @@
+// The page's side of the worker, over a worker that is none.
+import assert from "node:assert/strict";
+import { mock, test } from "node:test";
+import { Bench } from "../core/bench/bench.js";
+import { Cancelled, WorkerDied } from "../core/bench/faults.js";
+
+/** Gives a bench over workers that do as they are told by the test. */
+function begin() {
+  mock.timers.enable({ apis: ["setInterval", "setTimeout"] });
+  const workers = [];
+  const bench = new Bench(() => {
+    const worker = {
+      sent: [],
+      listeners: {},
+      ended: false,
+      postMessage: (message) => worker.sent.push(message),
+      terminate: () => { worker.ended = true; },
+      addEventListener: (kind, listen) => { worker.listeners[kind] = listen; },
+      tell: (data) => worker.listeners.message({ data }),
+      reply: (result) => worker.tell({ kind: "reply", number: worker.sent[worker.sent.length - 1].number, result }),
+    };
+    workers.push(worker);
+    return worker;
+  }, new ArrayBuffer(8), []);
+  return { bench, workers };
+}
+
+async function started() {
+  const { bench, workers } = begin();
+  const start = bench.start();
+  workers[0].reply(5);
+  await start;
+  return { bench, workers, worker: workers[0] };
+}
+
+test.afterEach(() => mock.timers.reset());
+
+test("a worker is started with the module, and answers requests by their numbers", async () => {
+  const { bench, worker } = await started();
+  assert.equal(bench.size, 5);
+  const first = bench.call("ask", ["seq\n"]);
+  const second = bench.call("ask", ["regs\n"]);
+  const [one, two] = worker.sent.slice(-2);
+  worker.tell({ kind: "reply", number: two.number, result: ["acc"] });
+  worker.tell({ kind: "reply", number: one.number, fault: { kind: "refusal", words: "no 90", number: 90 } });
+  assert.deepEqual(await second, ["acc"]);
+  await assert.rejects(first, /no 90/);
+});
+
+test("a reply that is told early is taken once, and only where none before it is waited for", async () => {
+  const { bench, worker } = await started();
+  const first = bench.call("advance", [100]);
+  const second = bench.call("advance", [100, "0 0"]);
+  const done = [];
+  first.then((frame) => done.push(frame));
+  second.then((frame) => done.push(frame));
+  const [one, two] = worker.sent.slice(-2);
+  worker.tell({ kind: "early", number: two.number, result: "too early" });
+  worker.tell({ kind: "reply", number: one.number, result: "first" });
+  worker.tell({ kind: "early", number: two.number, result: "second" });
+  worker.tell({ kind: "reply", number: two.number, result: "late" });
+  await Promise.all([first, second]);
+  assert.deepEqual(done, ["first", "second"]);
+});
+
+test("long work tells its progress, and can be cancelled", async () => {
+  const { bench, worker } = await started();
+  const controller = new AbortController();
+  const told = [];
+  const served = bench.call("serve", ["seq\n"], { signal: controller.signal, progress: (done, total) => told.push([done, total]) });
+  const { number } = worker.sent[worker.sent.length - 1];
+  worker.tell({ kind: "progress", number, done: 1, total: 4 });
+  controller.abort();
+  assert.deepEqual(worker.sent[worker.sent.length - 1], { kind: "cancel", number });
+  worker.tell({ kind: "reply", number, fault: { kind: "cancelled", words: "", number: 0 } });
+  await assert.rejects(served, Cancelled);
+  assert.deepEqual(told, [[1, 4]]);
+  mock.timers.tick(5000);
+  assert.equal(worker.ended, false);
+});
+
+test("a worker that does not hear that it is to stop is ended", async () => {
+  const { bench, worker } = await started();
+  let died = 0;
+  bench.listener.died = () => { died += 1; };
+  const controller = new AbortController();
+  const served = bench.call("serve", ["seq\n"], { signal: controller.signal });
+  controller.abort();
+  mock.timers.tick(2000);
+  await assert.rejects(served, WorkerDied);
+  assert.deepEqual([worker.ended, died], [true, 1]);
+});
+
+test("a worker that owes something and gives no sign of life is ended; one that owes nothing is not", async () => {
+  const { bench, worker } = await started();
+  mock.timers.tick(60000);
+  assert.equal(worker.ended, false);
+  const asked = bench.call("ask", ["seq\n"]);
+  for (let second = 0; second < 30; second++) {
+    mock.timers.tick(1000);
+    worker.tell({ kind: "pong" });
+  }
+  assert.equal(worker.ended, false);
+  mock.timers.tick(12000);
+  await assert.rejects(asked, WorkerDied);
+  assert.equal(worker.ended, true);
+});
+
+test("a script fault in the worker ends it, and another one can be started", async () => {
+  const { bench, workers, worker } = await started();
+  const asked = bench.call("ask", ["seq\n"]);
+  worker.listeners.error({ preventDefault: () => {} });
+  await assert.rejects(asked, WorkerDied);
+  await assert.rejects(bench.call("ask", ["seq\n"]), WorkerDied);
+  const start = bench.start();
+  workers[1].reply(5);
+  await start;
+  // What the old one says late is not heard.
+  worker.tell({ kind: "frame", frame: {} });
+  const again = bench.call("ask", ["seq\n"]);
+  workers[1].reply(["seq 0"]);
+  assert.deepEqual(await again, ["seq 0"]);
+});
+
+test("arrays of files go back to the worker with the next request, but no others", async () => {
+  const { bench, worker } = await started();
+  const count = worker.sent.length;
+  bench.giveBack(new ArrayBuffer(4));
+  bench.giveBack(new ArrayBuffer(5));
+  assert.equal(worker.sent.length, count);
+  bench.call("ask", ["seq\n"]);
+  bench.call("ask", ["seq\n"]);
+  assert.deepEqual(worker.sent.slice(count).map(({ spare }) => spare.map(({ byteLength }) => byteLength)), [[5], []]);
+});
+
+test("at full speed they go back at once", async () => {
+  const { bench, worker } = await started();
+  const count = worker.sent.length;
+  bench.isRunning = true;
+  bench.giveBack(new ArrayBuffer(4));
+  bench.giveBack(new ArrayBuffer(5));
+  assert.deepEqual(worker.sent.slice(count).map(({ kind }) => kind), ["spare"]);
+});

@@ -1,0 +1,239 @@
+// How long lamps are lit, and what an eye sees of it, beside the very module: by `trace`, and by looking after each cycle.
+import assert from "node:assert/strict";
+import { readFileSync } from "node:fs";
+import { test } from "node:test";
+import { Brightness, PERSISTENCE, shineOf } from "../core/board/brightness.js";
+import { numberOf } from "../core/board/digit_patterns.js";
+import { DisplayText } from "../core/board/display_text.js";
+import { Face } from "../core/board/face.js";
+import { SoundPieces, samplesOf } from "../core/board/sound_samples.js";
+import { BenchCalls } from "../core/engine/bench_calls.js";
+import { SeenText } from "../core/engine/seen_text.js";
+import { examplesOfPage, moduleOfPage } from "./page_session.js";
+
+/** A frame of a screen that shows 60 a second, in cycles and in milliseconds. */
+const FRAME = 1543;
+const FRAME_TIME = 1000 / 60;
+
+/** Lamp 0 is lit for 3 cycles in each turn, lamp 1 for the rest of them; lamp 2 always, lamp 3 never. */
+const PULSES = {
+  board: `[[rom]]\nchip = 0\nport = "0000"\n${[0, 1, 2, 3].map((line) => `[[lamp]]\nline = "rom0.${line}"\n`).join("")}`,
+  program: "FIM P0, 0\nSRC P0\nloop: LDM 5\nWRR\nNOP\nLDM 6\nWRR\nFIM P1, 0\nwait: ISZ R2, wait\nJUN loop\n",
+};
+
+/** Two rows of three lamps: row 0 is lit for 5 cycles in a turn with columns 0 and 2, row 1 for 10 with column 1; then all is dark. */
+const SCANNED = {
+  board: `# matrix 0: 2 rows of 3 scanned by 4\n[[rom]]\nchip = 0\nport = "0000"\n[[ram]]\nbank = 0\nchips = 2\n${
+    ["ram0.0.0", "ram0.0.1", "ram0.0.2", "ram0.0.3", "ram0.1.0", "ram0.1.1"].map((line) => `[[lamp]]\nline = "${line}"\n`).join("")}`,
+  program: `FIM P0, 0\nFIM P1, 0x40
+loop:   LDM 5\nSRC P0\nWMP\nLDM 1\nSRC P1\nWMP
+        NOP\nNOP\nNOP\nLDM 0\nWMP
+        LDM 2\nSRC P0\nWMP\nSRC P1\nWMP
+        NOP\nNOP\nNOP\nNOP\nNOP\nNOP\nNOP\nNOP\nLDM 0\nWMP
+        JUN loop\n`,
+};
+
+const textOf = (name) => readFileSync(new URL(name, import.meta.url), "utf8");
+
+/** A display of two digits that is written anew in each turn of the main loop, lamp by lamp. */
+const REFRESHED = { board: textOf("two_digits.toml"), program: textOf("two_digits.asm") };
+
+async function begin({ board, program }) {
+  const calls = new BenchCalls(async () => true);
+  await calls.load(moduleOfPage, []);
+  calls.open(calls.make({ name: "own", title: "", board, program, tests: "", properties: "", lines: "", project: "" }));
+  calls.watchLamps(board, 7);
+  return calls;
+}
+
+/** What is lit before each of so many cycles, and after the last one, by `lamps`. */
+function marksOf(calls, cycles) {
+  const answers = calls.ask(`lamps\n${"run 1\nlamps\n".repeat(cycles)}`).filter((line) => line.startsWith("lamps"));
+  return answers.map((line) => line.slice("lamps ".length));
+}
+
+/** How long each lamp is lit, by `lamps` after each cycle. */
+function lookedAt(calls, cycles) {
+  const marks = marksOf(calls, cycles).slice(0, cycles);
+  return [...marks[0]].map((_, lamp) => marks.filter((each) => each[lamp] === "*").length);
+}
+
+/** When each lamp changes, by the same. */
+function movedIn(calls, cycles) {
+  const marks = marksOf(calls, cycles);
+  return [...marks[0]].map((_, lamp) => {
+    const moments = marks.flatMap((each, at) => (at > 0 && each[lamp] !== marks[at - 1][lamp] ? [at] : []));
+    if (moments.length === 0) return null;
+    const longest = Math.max(0, ...moments.slice(1).map((moment, at) => moment - moments[at]));
+    return { first: moments[0], longest, rest: cycles - moments[moments.length - 1] };
+  });
+}
+
+test("how long lamps are lit, and when they change, is told to the cycle", async () => {
+  const calls = await begin(PULSES);
+  for (const cycles of [1, 7, FRAME, 2000, 11]) {
+    const [wanted, moved] = [lookedAt(calls, cycles), movedIn(calls, cycles)];
+    const [last] = marksOf(calls, cycles).slice(-1);
+    const { shone } = calls.advance(cycles);
+    assert.deepEqual([shone.face, shone.cycles, shone.lamps, shone.moved, shone.marks], [7, cycles, wanted, moved, last]);
+  }
+});
+
+test("what an eye sees is the part of the time that trace tells, to 2 %", async () => {
+  const calls = await begin(PULSES);
+  const parts = lookedAt(calls, 3800).map((lit) => lit / 3800);
+  const seen = new Brightness(new Face(PULSES.board), 4);
+  for (let frame = 0; frame < 30; frame++) {
+    seen.add(calls.advance(FRAME).shone, FRAME_TIME);
+    if (frame > 9) seen.lamps.forEach((part, lamp) => assert.ok(Math.abs(part - parts[lamp]) < 0.02, `${seen.lamps} of ${parts}`));
+  }
+});
+
+test("a lamp between two lines is lit where both are 1, to the cycle", async () => {
+  const calls = await begin(SCANNED);
+  calls.advance(100);
+  for (const cycles of [1, 26, FRAME, 333]) {
+    const marks = calls.ask(`lamps\n${"run 1\nlamps\n".repeat(cycles)}`).filter((line) => line.startsWith("lamps")).slice(0, cycles);
+    const wanted = [4, 5].flatMap((row) => [0, 1, 2].map((column) => (
+      marks.filter((line) => line["lamps ".length + row] === "*" && line["lamps ".length + column] === "*").length)));
+    assert.deepEqual(calls.advance(cycles).shone.scanned, [wanted]);
+  }
+  const seen = new Brightness(new Face(SCANNED.board), 6);
+  for (let frame = 0; frame < 20; frame++) seen.add(calls.advance(FRAME).shone, FRAME_TIME);
+  const turn = 28;
+  seen.scanned[0].forEach((part, at) => assert.ok(Math.abs(part - [5, 0, 5, 0, 10, 0][at] / turn) < 0.02, String(seen.scanned[0])));
+});
+
+test("digits that are lit by turns show what they show longest while they are lit", () => {
+  const face = new Face("# display 0: 3 digits of 7 segments with points scanned by 8\n# lamp 11: minus\n");
+  const text = new DisplayText(face.groups, [{ at: 11, text: "minus" }]);
+  const marks = (segments, digits, minus) => segments.padEnd(8, ".") + digits + minus;
+  const trace = (...rows) => [`trace ran ${rows.length * 100} end lines ${rows.length - 1} ${rows[0]}`,
+    ...rows.slice(1).map((row, at) => `${at * 100 + 99} 000 ${row}`)];
+  const read = (...rows) => {
+    const { number, names } = new SeenText(face, 12).read(trace(...rows));
+    return [number, names];
+  };
+  // 4, with a ghost of the digit before; 2 with its point; and the third one is never lit.
+  const four = marks(".**..**", "*..", "*");
+  const two = marks("**.**.**", ".*.", ".");
+  const ghost = marks(".**..**", ".*.", "*");
+  assert.deepEqual(read(four, ghost, two, two), ["-42. ", ""]);
+  assert.deepEqual(read(marks("***....", "***", ".")), ["777", ""]);
+  assert.equal(text.read(two).number, "2. ");
+});
+
+test("the edges of a line are told to the cycle, and its samples have its pitch", async () => {
+  const calls = await begin(PULSES);
+  calls.listenTo("rom0.0");
+  let level = -1;
+  for (const cycles of [3, 40, FRAME, 1]) {
+    const told = calls.ask(`lamps\n${"run 1\nlamps\n".repeat(cycles)}`).filter((line) => line.startsWith("lamps")).slice(0, cycles);
+    const wanted = told.map((line) => (line["lamps ".length] === "*" ? 1 : -1));
+    assert.deepEqual([...samplesOf(calls.advance(cycles).heard)], wanted);
+  }
+  const pieces = new SoundPieces(4200);
+  let [rises, count] = [0, 0];
+  for (let frame = 0; frame < 60; frame++) {
+    for (const sample of pieces.add(calls.advance(FRAME).heard) || []) {
+      rises += Number(sample > level && level === -1 && count > 0);
+      level = sample;
+      count += 1;
+    }
+  }
+  // A turn of the program takes 41 cycles.
+  assert.ok(Math.abs(rises / count - 1 / 41) < 0.01 / 41, `${rises} in ${count}`);
+  calls.listenTo("");
+  assert.equal(calls.advance(100).heard, null);
+});
+
+/** A board of one lamp: what is seen of it, and what lets time pass, lit for a part of it, with when it changed. */
+function oneLamp() {
+  const seen = new Brightness(new Face(""), 1);
+  const pass = (lit, time, moved = null, marks = lit > 0 ? "*" : ".") => (
+    seen.add({ face: 0, cycles: 100, marks, lamps: [lit * 100], moved: [moved], displays: [], scanned: [] }, time));
+  return { seen, pass };
+}
+
+test("a lamp that flickers from now on is seen to 63 % after the persistence, and fades so", () => {
+  const { seen, pass } = oneLamp();
+  for (let part = 0; part < 10; part++) pass(0.8, PERSISTENCE / 10, { first: 1, longest: 8, rest: 7 });
+  assert.ok(Math.abs(seen.lamps[0] - 0.8 * (1 - Math.exp(-1))) < 1e-9);
+  pass(1, Infinity);
+  assert.equal(seen.lamps[0], 1);
+  pass(0, PERSISTENCE);
+  assert.ok(Math.abs(seen.lamps[0] - Math.exp(-1)) < 1e-9);
+  seen.begin("*");
+  assert.equal(seen.lamps[0], 1);
+  assert.deepEqual([0, 0.25, 1, 2].map(shineOf), [0, 0.53, 1, 1]);
+});
+
+test("a lamp that stands still is full at once, and fades when it goes out; one that is lit for a moment is seen, and is not lit", () => {
+  const { seen, pass } = oneLamp();
+  pass(0.3, FRAME_TIME, { first: 70, longest: 0, rest: 30 });
+  assert.deepEqual([seen.lamps, seen.isOn], [[1], [true]]);
+  pass(0.4, FRAME_TIME, { first: 40, longest: 0, rest: 60 }, ".");
+  assert.deepEqual(seen.isOn, [true]);
+  pass(0, FRAME_TIME);
+  assert.deepEqual(seen.isOn, [false]);
+  assert.ok(seen.lamps[0] > 0.3 && seen.lamps[0] < 0.5, String(seen.lamps[0]));
+  for (let frame = 0; frame < 30; frame++) pass(0, FRAME_TIME);
+  assert.deepEqual(seen.lamps, [0]);
+  pass(0.06, FRAME_TIME, { first: 10, longest: 6, rest: 84 }, ".");
+  assert.ok(seen.lamps[0] > 0.02 && seen.lamps[0] < 0.03, String(seen.lamps[0]));
+  assert.deepEqual(seen.isOn, [false]);
+});
+
+test("what comes and goes more often than an eye follows never stands still", () => {
+  const { seen, pass } = oneLamp();
+  // 12 ms dark and 8 ms lit, looked at each 4 ms.
+  for (let turn = 0; turn < 50; turn++) {
+    pass(0, 4, { first: 0, longest: 0, rest: 100 });
+    pass(0, 4);
+    pass(0, 4);
+    pass(1, 4, { first: 0, longest: 0, rest: 100 });
+    pass(1, 4);
+    if (turn > 10) assert.ok(seen.lamps[0] > 0.4 && seen.lamps[0] < 0.6, String(seen.lamps[0]));
+  }
+});
+
+test("digits that are shifted in are shown at once when they stand, and nothing else before", async () => {
+  const example = examplesOfPage.find(({ name }) => name === "calculator");
+  const calls = await begin(example);
+  const seen = new Brightness(new Face(example.board), 43);
+  const pass = (cycles, key = "") => {
+    seen.add(calls.advance(cycles, key).shone, (FRAME_TIME * cycles) / FRAME);
+    return seen.patterns.map(numberOf).join(" ");
+  };
+  for (let frame = 0; frame < 60; frame++) pass(FRAME);
+  let isAtOnce = 0;
+  [["2 0", "1"], ["2 1", "12"], ["2 2", "123"], ["1 0", "1234"], ["1 1", "12345"], ["1 2", "123456"]].forEach(([key, number], at) => {
+    const before = pass(FRAME + 137 * at);
+    // What is lent for a key, and what was owed.
+    isAtOnce += Number(pass(2 * FRAME - 100 * at, key) === number);
+    calls.release(key);
+    const numbers = new Set();
+    for (let frame = 0; frame < 6; frame++) numbers.add(pass(FRAME));
+    numbers.delete(before);
+    assert.deepEqual([...numbers], [number]);
+  });
+  assert.equal(isAtOnce, 6);
+});
+
+test("a display that is refreshed in the main loop shows its number in each frame, though seldom at an instant", async () => {
+  const calls = await begin(REFRESHED);
+  calls.advance(10000);
+  const face = new Face(REFRESHED.board);
+  const seen = new Brightness(face, 14);
+  const instants = new DisplayText(face.groups, []);
+  const numbers = new Set();
+  let matches = 0;
+  for (let frame = 0; frame < 150; frame++) {
+    const { shone, look } = calls.advance(FRAME);
+    seen.add(shone, FRAME_TIME);
+    numbers.add(seen.patterns.map(numberOf).join(" "));
+    matches += Number(instants.read(/ lamps (\S+) /.exec(look[0])[1]).number === "42");
+  }
+  assert.deepEqual([...numbers], ["42"]);
+  assert.ok(matches > 5 && matches < 60, String(matches));
+});

@@ -1,0 +1,142 @@
+// Conditions, read and judged; what `trace` tells of their places is asked of the module of the page itself.
+import assert from "node:assert/strict";
+import { before, test } from "node:test";
+import { readBoard } from "../core/bench/answers.js";
+import { Face } from "../core/board/face.js";
+import { MOST_PLACES, conditionOf, testConditionOf } from "../core/debug/conditions.js";
+import { durationOf, wholeDuration } from "../core/debug/durations.js";
+import { SourceMap } from "../core/machine/source_map.js";
+import { Answers, valuesOf } from "../core/engine/tracing.js";
+import { begin } from "./page_session.js";
+
+const WIRED = [
+  '[[rom]]\nchip = 0\nport = "0000"', '[[rom]]\nchip = 1\nport = "1i0i"', "[[ram]]\nbank = 0\nchips = 2",
+  '[[chain]]\nclock = "rom0.0"\ndata = "rom0.1"\nchips = 1',
+  ...[0, 1, 2, 3].map((line) => `[[lamp]]\nline = "ram0.0.${line}"`), '[[lamp]]\nline = "ram0.1.0"',
+].join("\n\n");
+const TEXT = `# lamp 0: _ _ locked open alarm\n# display 0: 1 digit\n${WIRED}\n`;
+const PROGRAM = "limit = 5\nstart: FIM P0, 0\nSRC P0\nLDM 4\nWMP\nWRM\nFIM P1, 0x40\nSRC P1\nLDM 1\nWMP\nend: JUN end\n";
+
+/** A session with that board and program after some lines, and the names of both. */
+async function bench(lines = "") {
+  const calls = await begin("empty bench", `wire\n${TEXT}.\nasm\n${PROGRAM}.\n${lines}`);
+  const board = readBoard(calls.ask("board\n"));
+  return { calls, names: { face: new Face(TEXT), board, map: new SourceMap(calls.ask(`map\n${PROGRAM}.\n`), PROGRAM) } };
+}
+
+/** @type {import("../core/debug/conditions.js").Names} */
+let names;
+before(async () => {
+  ({ names } = await bench());
+});
+
+/** The values that stand now at the places of a condition. */
+function valuesNow(calls, { places }) {
+  return places.length === 0 ? [] : valuesOf(new Answers(calls.ask(`trace 1 ${places.join(" ")}\n`)).takeTrace().row);
+}
+
+const read = (text) => {
+  const { condition, fault } = conditionOf(text, names);
+  assert.equal(fault, "", text);
+  return condition;
+};
+test("conditions hold by what the bench tells of their places", async () => {
+  const { calls } = await bench("run 19\n");
+  const holding = ["acc 1", "acc = 1", "acc=1", "r2 4", "r2 > 3", "r2>=4", "r2 != 5", "r3 0", "cy 0", "dcl 0", "@end", "at end",
+    "pc = 11", "pc > 10",
+    "not at start", "not not @end", "lamps locked alarm", "lamps ..* .*", "lamps ???.?", "lamp locked on", "lamp 3 off",
+    "not lamp open on",
+    "display 2 locked alarm", "not display 2", "ram.0.0 4", "ram.0.0x00 4 0 0", "ram.0.0x00 = 4 0", "st.0.0.0 0", "ram0.0 out 4",
+    "ram0.0.2 1",
+    "ram0.1 out 1", "ram0.1 out = 1", "rom0 out 0", "rom1 in 8", "rom1 out 0", "rom1.0 0", "rom0 in 0", "chain0 0000000000",
+    "chain0 00???? ????",
+    "chain0.5 0", "acc 1 and r2 4 and lamp alarm on", "pc @end"];
+  for (const text of holding) {
+    const condition = read(text);
+    const values = valuesNow(calls, condition);
+    assert.equal(condition.holds(values), true, `${text}: ${condition.places} ${values}`);
+    assert.equal(condition.tell(values), "", text);
+  }
+  for (const text of ["acc 2", "r2 < 4", "r2 <= 3", "@start", "lamps locked", "lamps none", "display 2", "ram.0.0 4 1",
+    "acc 1 and r2 5", "not pc 11"]) {
+    assert.equal(read(text).holds(valuesNow(calls, read(text))), false, text);
+  }
+});
+
+test("what does not hold is told as tools/test tells it", async () => {
+  const { calls } = await bench("run 19\n");
+  const told = (text) => read(text).tell(valuesNow(calls, read(text)));
+  assert.equal(told("acc 2"), "acc is 1, and has to be 2");
+  assert.equal(told("not acc 1"), "acc is 1, and has not to be 1");
+  assert.equal(told("@start"), "pc is 00B (end), and has to be @start");
+  assert.equal(told("acc 1 and lamp alarm off"), "lamp alarm is on, and has to be off");
+  assert.equal(told("lamps none"), "lamps are ..*.*, and have to be ??...; lit: locked alarm");
+  assert.equal(told("ram.0.0 4 1"), "ram.0.0 is 4 0, and has to be 4 1");
+  assert.equal(told("r2 < 4"), "r2 is 4, and has to be < 4");
+});
+
+test("places are told once, and what a query takes is not exceeded", () => {
+  assert.deepEqual(read("acc 1 and not acc 2 and r9 3").places, ["acc", "r9"]);
+  assert.deepEqual(read("lamp 3 on and lamps none").places, ["lamps"]);
+  assert.deepEqual(read("@end").address, 11);
+  assert.deepEqual([read("not @end").address, read("pc > 3").address, read("@end and acc 1").address], [-1, -1, -1]);
+  const many = Array.from({ length: MOST_PLACES }, (_, at) => `r${at} 0`).join(" and ");
+  assert.equal(read(many).places.length, MOST_PLACES);
+  assert.equal(conditionOf(`${many} and acc 1`, names).fault, "it looks at 17 places, and 16 are the most");
+});
+
+test("what cannot be read is told, with what the board has", () => {
+  const faults = [
+    ["", "a condition is missing"], ["not", "a condition is missing"], ["acc 1 and", "a condition is missing"],
+    ["lamp purple on", "the board has no lamp purple; it has: locked open alarm"],
+    ["lamp 5 on", "the board has no lamp 5; it has: locked open alarm"],
+    ["lamp 3", "it is written as `lamp NAME on` or `lamp NAME off`"], ["lamps *.", "a pattern of 2 lamps; the board has 5"],
+    ["lamps locked purple", "the board has no lamp purple; it has: locked open alarm"],
+    ["r16 3", "the registers are r0 to r15, not r16"], ["r9 16", "r9 holds 0 to 15, not 16"], ["cy = 2", "cy holds 0 to 1, not 2"],
+    ["r9", "it is written as `r9 VALUE`"], ["r9 =", "it is written as `r9 VALUE`"], ["r9 1 2", "r9 is one value"],
+    ["r9 x", "r9 holds 0 to 15, not x"],
+    ["@away", "the program has no label away"], ["at limit", "the program has no label limit"], ["at", "it is written as `at LABEL`"],
+    ["display", "it is written as `display TEXT`, as in: display -18"],
+    ["lamps > 3", "the board has no lamp >; it has: locked open alarm"],
+    ["rom2 in 3", "the board has no ROM 2"], ["rom1 at 3", "it is written as `rom1 in VALUE` or `rom1 out VALUE`, 0 to 15"],
+    ["rom1.4 1", "it is written as `romC.K 0` or `romC.K 1`, K 0 to 3"], ["ram0.2 out 1", "the board has no RAM chip 0.2"],
+    ["ram0.0.1 2", "it is written as `ramB.C.K 0` or `ramB.C.K 1`, K 0 to 3"], ["chain1.0 1", "the board has no chain 1"],
+    ["chain0 01", "chain 0 has 10 bits, each 0, 1, or ? for any"], ["ram.1.0 1", "the board has no RAM chip for ram.1.0"],
+    ["ram.0.127 1 2", "the board has no RAM chip for the last of these characters"],
+    ["ram.8.0 1", "there is no place ram.8.0; a place of RAM is ram.BANK.SRC or st.BANK.REGISTER.NUMBER"],
+    ["foo 1", "there is no place foo; places are acc, cy, pc, dcl, test, r0 to r15, ram.B.S, st.B.H.K"],
+    ["test 1", "no run changes test, and no trace shows it: it is for the lines of a test"],
+    ["cycles at most 3", "no run changes cycles, and no trace shows it: it is for the lines of a test"],
+    ["r2 < 4 5", "< stands between a place that holds one number, and a number"],
+    ["ram.0.0 4 < 5", "< stands between a place that holds one number, and a number"], ["= 3", "there is no place 3"],
+  ];
+  for (const [text, fault] of faults) assert.ok(conditionOf(text, names).fault.startsWith(fault), text);
+  const bare = { ...names, face: new Face(WIRED) };
+  assert.equal(conditionOf("lamp red on", bare).fault, "the board has no lamp red; its text names no lamps (`# lamp 0: NAME ..`)");
+  assert.equal(conditionOf("display 3", bare).fault, "the board's text names no display (`# display 0: 4 digits`)");
+  assert.match(conditionOf("printed 3", bare).fault, /^the board's text names no printer /);
+  const printing = { ...names, face: new Face(`${WIRED}\n# printer rom0.0: ram0.0 0 1 feed\n`) };
+  assert.match(conditionOf("printed 3", printing).fault, /^what is printed comes line by line/);
+});
+
+test("the lines of a test have what a trace does not tell, and no words of their own", () => {
+  const ofTest = (text) => testConditionOf(text.split(" "), names);
+  const { condition } = ofTest("test 1");
+  assert.deepEqual([condition.places, condition.needs], [[], ["test"]]);
+  const beside = { test: "1", owed: "1", cycles: 538 };
+  assert.equal(condition.holds([], beside), true);
+  assert.equal(ofTest("cycles at most 6 ms").condition.holds([], beside), true);
+  assert.equal(ofTest("cycles 537").condition.tell([], beside), "cycles are 538, and have to be 537");
+  assert.equal(ofTest("@end").condition.tell(["00B"], beside), "pc is 00B (end), within an instruction, and has to be @end");
+  assert.equal(ofTest("cycles").fault, "it is written as `cycles TIME`, `cycles at most TIME` or `cycles at least TIME`");
+  assert.equal(ofTest("r9 = 3").fault, "r9 is one value");
+  assert.equal(ofTest("at end").fault, "there is no place at; places are acc, cy, pc, dcl, test, r0 to r15, ram.B.S, st.B.H.K");
+});
+
+test("times", () => {
+  const told = [["538", 538], ["538 cycles", 538], ["1 cycle", 1], ["20 ms", 1852], ["20ms", 1852], ["1.5 s", 138889], ["0", 0],
+    ["1.5", 0], ["ms", 0], ["", 0],
+    ["3 x", 0], ["1000000001", 0], ["-3", 0], ["1.5.2 ms", 0]];
+  for (const [text, cycles] of told) assert.equal(wholeDuration(text.split(" ")), cycles, text);
+  assert.deepEqual(durationOf(["pace", "43", "ms", "1", "s"], 1), { cycles: 3981, words: 2 });
+});

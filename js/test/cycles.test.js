@@ -1,0 +1,92 @@
+import assert from "node:assert/strict";
+import { test } from "node:test";
+import { CycleCount, acceptedOf } from "../core/engine/accepted.js";
+import { Cycles, wordsOfCycles } from "../core/time/cycles.js";
+import { readBoard } from "../core/bench/answers.js";
+import { readInputs } from "../core/bench/inputs.js";
+import { placeOf } from "../core/bench/places.js";
+import { SourceMap } from "../core/machine/source_map.js";
+import { wordsOfHalt, wordsOfMove, wordsOfAddress, wordsOfStop } from "../words/stops.js";
+
+test("cycles in words: 10.8 microseconds each", () => {
+  assert.deepEqual([1, 926, 92593, 1000000].map(wordsOfCycles),
+    ["1 cycle, 0.011 ms", "926 cycles, 10.001 ms", "92,593 cycles, 1.000 s", "1,000,000 cycles, 10.800 s"]);
+});
+
+test("accepted commands, their cycles, and resets", () => {
+  const inputs = readInputs("run 5\nfoo\nregs\nwire\n[[rom]]\n.\nreset\nstep\n");
+  const accepted = acceptedOf(inputs, [["ok 1 ran 5 end"], ["no 10"], ["acc 0"], ["no 22"], ["ok 2"], ["ok 3 ran 2 end"]]);
+  assert.deepEqual(accepted.map(({ line, cycles }) => [line, cycles]), [["run 5", 5], ["reset", 0], ["step", 2]]);
+  const count = new CycleCount(100, 10);
+  count.add(accepted);
+  assert.deepEqual([count.total, count.reset], [107, 105]);
+  assert.equal(acceptedOf(readInputs("asm\nNOP\n.\n"), [["ok 1 bytes 1"]])[0].line, "asm\nNOP\n.");
+});
+
+test("since the last stop: the stretch that ended there, until another one begins", () => {
+  const cycles = new Cycles();
+  cycles.take({ total: 500, reset: 0 });
+  cycles.take({ total: 900, reset: 0 });
+  assert.equal(cycles.told.sinceStop, 900);
+  cycles.stop();
+  cycles.take({ total: 900, reset: 0 });
+  assert.equal(cycles.told.sinceStop, 900);
+  cycles.take({ total: 902, reset: 0 });
+  assert.deepEqual([cycles.told.sinceStop, cycles.told.sinceReset], [2, 902]);
+  assert.deepEqual(new Cycles(cycles.kept).told, cycles.told);
+});
+
+test("marks: from one to here, between two, and then anew", () => {
+  const cycles = new Cycles({ total: 10, reset: 0, from: 0, marks: [] });
+  assert.equal(cycles.told.marked, null);
+  cycles.mark();
+  cycles.take({ total: 936, reset: 0 });
+  assert.equal(cycles.told.marked, 926);
+  cycles.mark();
+  cycles.take({ total: 2000, reset: 0 });
+  assert.equal(cycles.told.marked, 926);
+  cycles.mark();
+  assert.equal(cycles.told.marked, 0);
+});
+
+test("places by their names", () => {
+  const board = readBoard(["board", "[[rom]]", "chip = 1", 'port = "iiii"', "[[ram]]", "bank = 0", "chips = 1", "[[chain]]",
+    'clock = "ram0.0.0"', 'data = "ram0.0.1"', "chips = 2", "[[lamp]]", 'line = "ram0.0.3"', "[[lamp]]", 'line = "chain0.5"']);
+  /** By what `trace` tells a place, and its value where it tells these. */
+  const told = (name, ...values) => {
+    const place = placeOf(name);
+    return [place.name, place.probesOn(board).join(" "), place.value(values)];
+  };
+  assert.deepEqual([
+    told("acc", "6"), told("R15", "9"), told("ram.0.63", "C"), told("st.0.1.2", "2"), told("ram0.0.3", "1"), told("rom1.2", "0"),
+    told("rom1", "1", "0", "1", "1"), told("ram0.0", "0", "1", "0", "0"), told("chain0.19", "1"), told("lamp1", "1"), told("lamps", ".*"),
+  ], [
+    ["acc", "acc", "6"], ["r15", "r15", "9"], ["ram.0.0x3F", "ram.0.0x3F", "C"], ["st.0.1.2", "st.0.1.2", "2"],
+    ["ram0.0.3", "ram0.0.3", "1"], ["rom1.2", "rom1.2", "0"], ["rom1", "rom1.0 rom1.1 rom1.2 rom1.3", "D"],
+    ["ram0.0", "ram0.0.0 ram0.0.1 ram0.0.2 ram0.0.3", "2"], ["chain0.19", "chain0.19", "1"], ["lamp 1", "chain0.5", "*"],
+    ["lamps", "lamps", ".*"],
+  ]);
+  const lacking = ["ram.1.0", "ram.0.0x40", "st.0.4.0", "rom3.1", "rom0", "ram0.1", "ram1.0.0", "chain0.20", "chain1.0", "lamp 2"];
+  assert.deepEqual(lacking.map((name) => placeOf(name).probesOn(board)), lacking.map(() => []));
+  assert.deepEqual(placeOf("lamps").probesOn(readBoard(["board"])), []);
+  const others = ["", "r16", "pc 4", "ram.8.0", "ram.0.256", "st.0.1.4", "rom16.0", "chain4.0", "key 3"];
+  assert.deepEqual(others.map(placeOf), others.map(() => null));
+});
+
+test("why time stopped, in words", () => {
+  const reached = { cycles: 538, why: "goal", returns: false };
+  assert.equal(wordsOfStop({ kind: "over" }, { ...reached, returns: true }, "009"), "Returned to 009, after 538 cycles, 5.810 ms.");
+  assert.equal(wordsOfStop({ kind: "over" }, { ...reached, cycles: 1 }, "00D"), "At 00D, after 1 cycle, 0.011 ms.");
+  assert.equal(wordsOfStop({ kind: "here", address: 20 }, reached, "014"), "Stopped at 014, as wanted, after 538 cycles, 5.810 ms.");
+  assert.equal(wordsOfStop({ kind: "out" }, { cycles: 4, why: "break", returns: true }, "016"),
+    "Stopped at 016, at a breakpoint, after 4 cycles, 0.043 ms; the return from the subroutine was not reached.");
+  assert.equal(wordsOfStop(null, { cycles: 4, why: "break", returns: false }, "016"), "Stopped at 016, at a breakpoint.");
+  assert.equal(wordsOfStop({ kind: "change", place: "rom3" }, { cycles: 0, why: "lacks", returns: false }, "000"),
+    "Nothing was done: this board has no rom3.");
+  assert.equal(wordsOfMove({ kind: "change", place: "r4" }), "Time runs, up to a change of r4.");
+  assert.equal(wordsOfHalt({ kind: "out" }, 4, "016"),
+    "Stopped at 016, after 4 cycles, 0.043 ms; the return from the subroutine was not reached.");
+  assert.equal(wordsOfHalt(null, 4, "016"), "Stopped at 016.");
+  const map = new SourceMap(["map lines 2 names 1", "line 1 000 2", "line 2 002 1", "name go 000"], "go: JUN go\nNOP\n");
+  assert.deepEqual(["000", "002", "003"].map((at) => wordsOfAddress(at, map)), ["000 (go, line 1)", "002 (go + 2, line 2)", "003"]);
+});

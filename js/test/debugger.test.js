@@ -1,0 +1,333 @@
+// The debugger over the module of the page itself: breakpoints with conditions, counts and notes, moves, and the past.
+import assert from "node:assert/strict";
+import { before, test } from "node:test";
+import { Face } from "../core/board/face.js";
+import { readBoard } from "../core/bench/answers.js";
+import { BreakpointList } from "../core/debug/breakpoints.js";
+import { DebugSession } from "../core/debug/debug_session.js";
+import { noteOf } from "../core/debug/soft_breakpoints.js";
+import { Engine } from "../core/engine/engine.js";
+import { moduleOfPage } from "./page_session.js";
+
+const BOARD = `# lamp 0: one two
+[[rom]]
+chip = 0
+port = "0000"
+
+[[ram]]
+bank = 0
+chips = 1
+
+[[lamp]]
+line = "ram0.0.0"
+
+[[lamp]]
+line = "ram0.0.1"
+`;
+// R4 counts from 0 on; a turn calls `show`, which writes it to the lamps, and waits 34 cycles.
+const PROGRAM = `; counts
+start:  FIM P0, 0
+        SRC P0
+turn:   JMS show
+
+        INC R4
+        JUN turn
+show:   LD R4
+        WMP
+        FIM P3, 0
+wait:   ISZ R6, wait
+        BBL 0
+`;
+const LINE = { turn: 4, blank: 5, increment: 6, show: 8, write: 9, wait: 11, back: 12 };
+
+/** @type {Engine} */
+let engine;
+before(async () => {
+  engine = await Engine.load(moduleOfPage);
+});
+
+const open = (program = PROGRAM) => new DebugSession(engine, { board: BOARD, program });
+
+test("a session in memory: breakpoints at lines, moves, values, back and forward", async () => {
+  const session = open();
+  assert.deepEqual(session.refused, []);
+  session.breakpoints.add({ line: LINE.blank });
+  const { moved, faults } = await session.applyBreakpoints();
+  assert.deepEqual([moved, faults], [["Line 5 puts no bytes into ROM: its breakpoint is at the next instruction, line 6."], []]);
+  const stop = await session.go();
+  assert.deepEqual([stop.why, stop.id, session.line], ["break", 1, LINE.increment]);
+  assert.equal(stop.words, "Stopped at 005 (turn + 2, line 6), at a breakpoint.");
+  assert.equal((await session.into()).words, "At 006 (turn + 3, line 7), after 1 cycle, 0.011 ms.");
+  assert.deepEqual(session.values(["r4", "lamps", "acc", "nothing"]), ["1", "..", "0", ""]);
+  assert.equal((await session.go({ kind: "over" })).words, "At 003 (turn, line 4), after 2 cycles, 0.022 ms.");
+  await session.into();
+  assert.deepEqual([session.line, session.returns[0]], [LINE.show, 5]);
+  const out = await session.go({ kind: "out" });
+  assert.deepEqual([out.why, out.returns, session.line], ["goal", true, LINE.increment]);
+  assert.match(out.words, /^Returned to 005 \(turn \+ 2, line 6\), after 37 cycles/);
+  assert.deepEqual(session.values(["lamp 0"]), ["*"]);
+  const back = await session.back({ kind: "instruction" });
+  assert.deepEqual([back.isDone, session.line], [true, LINE.back]);
+  assert.equal(session.forward().isDone, true);
+  assert.equal(session.line, LINE.increment);
+});
+
+/** Runs on up to a stop, so often; gives what stands at a place each time. */
+async function stopsOf(session, count, place) {
+  const seen = [];
+  for (let stop = 0; stop < count; stop++) {
+    await session.go();
+    seen.push(session.values([place])[0]);
+  }
+  return seen;
+}
+
+test("a condition, a count of hits, and a note in place of a stop; no file has them", async () => {
+  const session = open();
+  const odd = session.breakpoints.add({ line: LINE.write, condition: "r4 > 9 and lamp two off" });
+  await session.applyBreakpoints();
+  assert.deepEqual(await stopsOf(session, 4, "r4"), [..."ADEA"]);
+  assert.equal(session.breakpoints.get(odd.id).hits, 4);
+  const counted = open();
+  const { id } = counted.breakpoints.add({ line: LINE.show, from: 5 });
+  counted.breakpoints.add({ line: LINE.increment, note: "R4 is {r4}, lamps {lamps}, two {two}" });
+  await counted.applyBreakpoints();
+  const stop = await counted.go();
+  assert.deepEqual([stop.why, stop.id, counted.values(["r4"])[0]], ["break", id, "4"]);
+  assert.deepEqual(stop.tally.notes.map(({ words }) => words),
+    ["R4 is 0, lamps .., two .", "R4 is 1, lamps *., two .", "R4 is 2, lamps .*, two *", "R4 is 3, lamps **, two *"]);
+  assert.deepEqual(counted.breakpoints.all.map(({ hits }) => hits), [4, 5]);
+  assert.deepEqual(counted.debugger.session.ask("breaks\n"), ["breaks -"]);
+});
+
+test("conditional breakpoints stop where one of the bench does, whatever the frames", async () => {
+  const plain = open();
+  plain.breakpoints.add({ line: LINE.show });
+  await plain.applyBreakpoints();
+  const wanted = [];
+  for (let stop = 0; stop < 40; stop++) {
+    await plain.go();
+    if (plain.values(["r4"])[0] === "7") wanted.push(plain.debugger.session.count.total);
+  }
+  for (const frame of [1, 7, 1543, 100000]) {
+    const soft = open();
+    soft.breakpoints.add({ line: LINE.show, condition: "r4 = 7" });
+    soft.breakpoints.add({ line: LINE.wait, note: "waits" });
+    await soft.applyBreakpoints();
+    const seen = [];
+    while (seen.length < wanted.length) {
+      if (soft.debugger.advance(frame).stop) seen.push(soft.debugger.session.count.total);
+    }
+    assert.deepEqual(seen, wanted, String(frame));
+  }
+});
+
+test("a breakpoint stops a move; what cannot be read is told, and stops nothing", async () => {
+  const session = open();
+  session.breakpoints.add({ line: LINE.write, condition: "r4 = 0" });
+  const broken = session.breakpoints.add({ line: LINE.increment, condition: "r44 = 0" });
+  const lacking = session.breakpoints.add({ line: LINE.wait, note: "{rom3}" });
+  const { faults } = await session.applyBreakpoints();
+  assert.deepEqual(faults, [[broken.id, "the registers are r0 to r15, not r44"],
+    [lacking.id, "the note asks for {rom3}, which this board lacks"]]);
+  await session.go({ kind: "here", address: 3 });
+  const stop = await session.go({ kind: "over" });
+  assert.deepEqual([stop.why, session.line], ["break", LINE.write]);
+  assert.match(stop.words, /^Stopped at 009 \(show \+ 1, line 9\), at a breakpoint, where r4 = 0, after 3 cycles, .*; the return .* not/);
+});
+
+test("breakpoints are no part of the past: going back leaves them, and what comes after is done again as it was", async () => {
+  const session = open();
+  const { session: bench } = session.debugger;
+  await session.go({ kind: "count", count: 20 });
+  const first = session.breakpoints.add({ line: LINE.write });
+  await session.applyBreakpoints();
+  await session.go();
+  const seen = [bench.count.total, session.values(["r4", "pc"])];
+  await session.go();
+  session.breakpoints.remove(first.id);
+  session.breakpoints.add({ line: LINE.increment });
+  await session.applyBreakpoints();
+  await session.back({ kind: "stop" });
+  await session.back({ kind: "stop" });
+  assert.deepEqual([bench.count.total, session.values(["r4", "pc"])], seen);
+  assert.deepEqual(bench.ask("breaks\n"), ["breaks 005"]);
+  await session.go();
+  assert.equal(session.line, LINE.increment);
+  for (let more = 0; more < 3; more++) await session.go();
+  const end = [bench.count.total, session.values(["r4", "pc"])];
+  await session.back({ kind: "instruction" });
+  await session.into();
+  assert.deepEqual([bench.count.total, session.values(["r4", "pc"])], end);
+});
+
+/** The totals of cycles at which a breakpoint was arrived at, one stop of the bench after the other; the session stands at the last one. */
+async function arrivalsOf(session, count) {
+  const seen = [];
+  for (let stop = 0; stop < count; stop++) {
+    await session.go();
+    seen.push([session.debugger.session.count.total, session.values(["r4"])[0]]);
+  }
+  return seen;
+}
+
+const backToArrival = (session, place = "") => session.back({ kind: "arrival", place });
+
+test("back to the last arrival at a breakpoint: the stops of the way there, whatever was done between", async () => {
+  const session = open();
+  const { session: bench } = session.debugger;
+  session.breakpoints.add({ line: LINE.write });
+  await session.applyBreakpoints();
+  const seen = await arrivalsOf(session, 30);
+  session.breakpoints.add({ line: LINE.increment, isOn: false });
+  session.breakpoints.add({ line: LINE.back, note: "no stop" });
+  await session.applyBreakpoints();
+  await session.debugger.session.serve("poke r9 3\nrun 5\ntest 0\nrun 7\n", async () => true);
+  const { total } = bench.count;
+  for (const [at, [cycles, r4]] of [...seen].reverse().entries()) {
+    const from = bench.count.total;
+    const back = await backToArrival(session);
+    assert.deepEqual([bench.count.total, session.values(["r4"])[0], session.line], [cycles, r4, LINE.write]);
+    assert.deepEqual([back.isDone, back.end, back.id, back.cycles], [true, "break", 1, from - cycles]);
+    assert.match(back.words, at === 0 ? /^Back at 009 \(show \+ 1, line 9\), 12 cycles, 0.130 ms before, at a/ : /at a breakpoint\.$/);
+  }
+  const begin = await backToArrival(session);
+  assert.deepEqual([begin.isDone, begin.end, bench.count.total], [true, "beginning", 0]);
+  assert.match(begin.words, /^Back at 000 \(start, line 2\), .* before, where what is remembered begins: no breakpoint was passed/);
+  const none = await backToArrival(session);
+  assert.deepEqual([none.isDone, none.words], [false, "Nothing was done: what is remembered reaches no further back."]);
+  for (let times = 0; times < seen.length + 1; times++) session.forward();
+  assert.equal(bench.count.total, total);
+});
+
+test("back to an arrival: conditions are asked, counts are not, and breakpoints of then are not those of now", async () => {
+  const session = open();
+  const { session: bench } = session.debugger;
+  const first = session.breakpoints.add({ line: LINE.show });
+  await session.applyBreakpoints();
+  const seen = await arrivalsOf(session, 40);
+  session.breakpoints.remove(first.id);
+  const { id } = session.breakpoints.add({ line: LINE.show, condition: "r4 = 3", from: 100 });
+  await session.applyBreakpoints();
+  for (const [cycles] of seen.filter(([, r4]) => r4 === "3").reverse()) {
+    const back = await backToArrival(session);
+    assert.deepEqual([bench.count.total, back.id], [cycles, id]);
+    assert.match(back.words, /, at a breakpoint, where r4 = 3\.$/);
+  }
+  assert.equal((await backToArrival(session)).end, "beginning");
+  assert.deepEqual(bench.ask("breaks\n"), ["breaks -"]);
+});
+
+test("back to an arrival meets what is watched, by the bench or beside it, and stands before the change", async () => {
+  const session = open(PROGRAM.replace("BBL 0", "WRM\n BBL 0"));
+  const { session: bench } = session.debugger;
+  session.breakpoints.add({ line: LINE.show, condition: "r4 = 2" });
+  await session.applyBreakpoints();
+  await bench.serve("watch 0 0\nrun 100000\n", async () => true);
+  await bench.serve("unwatch 0 0\nrun 300\nwatch 0 0\n", async () => true);
+  const watched = await backToArrival(session);
+  assert.deepEqual([watched.end, watched.place, watched.line], ["change", "ram.0.0x00", ""]);
+  assert.match(watched.words, /: this instruction changes ram\.0\.0x00 from \w to \w\.$/);
+  const old = session.values(["ram.0.0x00"])[0];
+  await session.into();
+  assert.notEqual(session.values(["ram.0.0x00"])[0], old);
+  await bench.serve("unwatch 0 0\n", async () => true);
+  const beside = await backToArrival(session, "r4");
+  assert.equal(beside.place, "r4");
+  assert.equal((await backToArrival(session, "ram.7.0")).why, "lacks");
+  assert.match((await backToArrival(session, "ram1.0")).words, /^Nothing was done: this board has no ram1\.0\.$/);
+});
+
+test("back to an arrival is found in what is kept of a long run, at once", async () => {
+  // R0 to R3 count; `hit` comes once in 16 ** 4 turns.
+  const turns = [0, 1, 2, 3].map((each) => ` ISZ R${each}, turn\n`).join("");
+  const session = open(`start: FIM P0, 0\n FIM P1, 0\nturn: NOP\n${turns}hit: NOP\n JUN turn\n`);
+  const { session: bench } = session.debugger;
+  const hit = session.map.valueOf("hit");
+  session.breakpoints.add({ line: session.map.lineOf(hit) });
+  await session.applyBreakpoints();
+  const seen = await arrivalsOf(session, 3);
+  for (let frame = 0; bench.count.total < 10000000; frame++) {
+    if (session.debugger.advance(400000).stop) seen.push([bench.count.total, ""]);
+  }
+  for (const [cycles] of seen.reverse()) {
+    if (cycles === bench.count.total) continue;
+    assert.deepEqual([(await backToArrival(session)).end, bench.count.total, session.address], ["break", cycles, hit]);
+  }
+});
+
+test("a program that is assembled anew takes its breakpoints along", async () => {
+  const session = open();
+  session.breakpoints.add({ line: LINE.increment });
+  session.breakpoints.add({ line: LINE.back, isOn: false });
+  await session.applyBreakpoints();
+  const lines = PROGRAM.split("\n");
+  session.breakpoints.edit({ from: { line: 1, ch: 0 }, to: { line: 1, ch: 0 }, text: ["        NOP", ""], removed: [""] });
+  assert.equal(await session.setProgram([lines[0], "        NOP", ...lines.slice(1)].join("\n")), null);
+  assert.deepEqual(session.breakpoints.all.map(({ line, address }) => [line, address]), [[7, 6], [13, 15]]);
+  assert.deepEqual(session.debugger.session.ask("breaks\n"), ["breaks 006"]);
+  assert.deepEqual(await session.setProgram("LDM 99\n"), { number: 33, line: 1 });
+  await session.debugger.session.serve("reset\n", async () => true);
+  await session.go();
+  assert.equal(session.line, LINE.increment + 1);
+});
+
+test("a pause ends a run without a stop", async () => {
+  const session = open("x: JUN x\n");
+  const stop = await session.go({ kind: "out" }, async (done) => done < 1000000);
+  assert.equal(stop.why, "pause");
+  assert.match(stop.words, /^Stopped at 000 \(x, line 1\), after .*; the return from the subroutine was not reached\.$/);
+});
+
+test("notes tell lamps by their names and ports as digits", () => {
+  const face = new Face(BOARD);
+  const lamps = [0, 1].flatMap((line) => ["[[lamp]]", `line = "ram0.0.${line}"`]);
+  const board = readBoard(["board", "[[rom]]", "chip = 0", 'port = "0000"', ...lamps]);
+  const { note, fault } = noteOf("{one}{two} rom {rom0} {", { board, face, map: null });
+  assert.deepEqual([fault, note.places.length], ["", 6]);
+  assert.equal(note.words(["1", "0", "1", "0", "0", "1"]), "*. rom 9 {");
+});
+
+const edited = (lines, edit) => {
+  const list = new BreakpointList(lines.map((line) => ({ line })));
+  list.edit(edit);
+  return list.all.map(({ line }) => line);
+};
+const at = (line, ch = 0) => ({ line, ch });
+
+test("breakpoints move with the lines of the text", () => {
+  const typed = { from: at(3, 5), to: at(3, 5), text: ["x"], removed: [""] };
+  assert.deepEqual(edited([2, 4, 6], typed), [2, 4, 6]);
+  // A line's end before line 4, at its beginning, in it, at its end.
+  assert.deepEqual(edited([3, 4, 5], { from: at(2, 9), to: at(2, 9), text: ["", ""], removed: [""] }), [3, 5, 6]);
+  assert.deepEqual(edited([3, 4, 5], { from: at(3), to: at(3), text: ["", ""], removed: [""] }), [3, 5, 6]);
+  assert.deepEqual(edited([3, 4, 5], { from: at(3, 4), to: at(3, 4), text: ["", ""], removed: [""] }), [3, 4, 6]);
+  // Lines 3 and 4 are taken out whole; line 4 is joined to line 3.
+  assert.deepEqual(edited([2, 3, 4, 5], { from: at(2), to: at(4), text: ["", ""].slice(1), removed: ["a", "b", ""] }), [2, 3]);
+  assert.deepEqual(edited([3, 4, 5], { from: at(2, 3), to: at(3, 0), text: [""], removed: ["", ""] }), [3, 4]);
+  // All is replaced by a text with another line at its beginning.
+  const removed = ["a", "b", "c", "d"];
+  assert.deepEqual(edited([2, 4], { from: at(0), to: at(3, 1), text: ["new", ...removed], removed }), [3, 5]);
+  assert.deepEqual(edited([2, 4], { from: at(0), to: at(3, 1), text: ["a", "new", "b", "c", "d"], removed }), [3, 5]);
+});
+
+test("a line that is taken out takes its breakpoint along, and brings it back when that is undone", () => {
+  const list = new BreakpointList([{ line: 2 }, { line: 4, condition: "r4 = 7" }, { line: 6 }]);
+  list.edit({ from: at(2), to: at(4), text: [""], removed: ["a", "b", ""], origin: "cut" });
+  assert.deepEqual(list.all.map(({ line }) => line), [2, 4]);
+  assert.equal(list.edit({ from: at(2), to: at(2), text: ["a", "b", ""], removed: [""], origin: "undo" }), true);
+  assert.deepEqual(list.all.map(({ line, condition }) => [line, condition]), [[2, ""], [4, "r4 = 7"], [6, ""]]);
+});
+
+test("where all of the text is another one, breakpoints are where their addresses are", () => {
+  const list = new BreakpointList([{ line: 2, address: 4 }, { line: 3 }]);
+  list.edit({ from: at(0), to: at(3), text: ["new", "lines", "here", "x"], removed: ["a", "b", "c", "d"] });
+  assert.deepEqual(list.all.map(({ line, address }) => [line, address]), [[3, -1], [0, 4]]);
+});
+
+test("where a breakpoint has a condition or a count, the words of the stop have it", async () => {
+  const session = open();
+  session.breakpoints.add({ line: LINE.write, condition: "r4 = 2", from: 2 });
+  await session.applyBreakpoints();
+  assert.match((await session.go()).words, /^Stopped at 009 \(show \+ 1, line 9\), at a breakpoint, where r4 = 2, at hit 2\.$/);
+});

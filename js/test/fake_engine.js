@@ -1,0 +1,57 @@
+// In the place of the module: a session of one byte, the count of its commands. Lines: `run N` answers `ok C ran N end`, or stops early
+// where the count comes to `stopAt`; `trap` fails; all else that is no question is `ok C`. After `memory` calls it refuses by 90.
+
+import { BenchRefusal, BenchTrap } from "../core/bench/faults.js";
+import { readInputs } from "../core/bench/inputs.js";
+import { hex } from "../core/bench/numbers.js";
+
+const QUESTIONS = {
+  board: () => ["board", "[[ram]]", "bank = 0", "chips = 1"],
+  state: (count) => [`state seq ${count} acc 0 cy 0 pc ${hex(count, 3)} owed 0 dcl 0 test 0 r 0000000000000000 ret 000,000,000 src 00 `
+    + `banks 0.00 roms - rams 0.0.0 chains - keys - lamps ${count % 2 ? "*" : "."} breaks - watches -`],
+  trace: () => ["trace ran 0 end lines 0"],
+  list: () => [],
+  ram: () => ["ram 0 chips 1", "0.0.0 0000000000000000 0000"],
+};
+
+export class FakeEngine {
+  constructor() {
+    this.size = 1;
+    this.calls = 0;
+    this.stopAt = Infinity;
+    this.memory = Infinity;
+  }
+
+  begin(into = new Uint8Array(this.size)) {
+    into[0] = 0;
+    return into;
+  }
+
+  ask(file, lines) {
+    return this.answer(file[0], lines);
+  }
+
+  serve(file, lines, into) {
+    this.calls += 1;
+    if (this.calls > this.memory) throw new BenchRefusal(90);
+    const served = this.answer(file[0], lines);
+    into[0] = served.count;
+    return served;
+  }
+
+  answer(from, lines) {
+    let count = from;
+    const answers = [];
+    for (const { kind, words } of readInputs(lines)) {
+      if (kind === "trap") throw new BenchTrap("unreachable");
+      if (kind in QUESTIONS) {
+        answers.push(...QUESTIONS[kind](count));
+      } else {
+        count += 1;
+        const early = count === this.stopAt;
+        answers.push(kind === "run" ? `ok ${count} ran ${early ? 1 : words[1]} ${early ? "break" : "end"}` : `ok ${count}`);
+      }
+    }
+    return { status: 0, answers, count };
+  }
+}

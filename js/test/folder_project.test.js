@@ -1,0 +1,67 @@
+// A folder with a project file, as it is dropped on the page: its texts, and why it is none.
+import assert from "node:assert/strict";
+import { test } from "node:test";
+import { folderOfFiles, foldersOf, readFolder } from "../page/session/folder_files.js";
+import { textsOfFolder } from "../page/session/folder_project.js";
+import { openedFile } from "../core/session/opened_file.js";
+
+const PROJECT = "board = \"b/wires.toml\"\nprogram = \"main.asm\"\ntests = [\"a.test\", \"c.test\"]\nspeed = \"tenth\"\n";
+const TEXTS = {
+  "mcs4.toml": PROJECT, "b/wires.toml": "[[rom]]\nchip = 0\nport = \"0000\"\n", "main.asm": "NOP\n", "a.test": "test one\n  run 5\n",
+  "c.test": "test two\n  run 5\n", "holiday.jpg": "\u0000",
+};
+
+/** A file of a browser. */
+function file(name, text) {
+  return Object.assign(new globalThis.Blob([text]), { name });
+}
+
+function folder(texts, name = "lights") {
+  return { name, files: new Map(Object.entries(texts).map(([path, text]) => [path, file(path.replace(/.*\//, ""), text)])) };
+}
+
+test("the texts of a folder", async () => {
+  const { texts, speed, words } = await textsOfFolder(folder(TEXTS));
+  assert.deepEqual([texts.name, texts.board, texts.program, texts.tests, texts.properties], ["lights", TEXTS["b/wires.toml"], "NOP\n",
+    TEXTS["a.test"], ""]);
+  assert.deepEqual([speed, words], ["tenth", "The page has one text of each kind: c.test is left out."]);
+  // Boards and programs may stand in a script.
+  const script = "wire\n[[rom]]\nchip = 0\nport = \"0000\"\n.\nasm\nNOP\n.\n";
+  const both = await textsOfFolder(folder({ "mcs4.toml": "board = \"s.txt\"\nprogram = \"s.txt\"\n", "s.txt": script }, ""));
+  assert.deepEqual([both.texts.name, both.texts.program, both.speed, both.words], ["s", "NOP\n", "", ""]);
+});
+
+test("a folder that is no project", async () => {
+  const refused = async (texts) => {
+    try {
+      await textsOfFolder(folder(texts));
+      return "";
+    } catch (fault) {
+      return fault.message;
+    }
+  };
+  assert.equal(await refused({}), "mcs4.toml: there is no such file; it names the files of a project");
+  assert.equal(await refused({ ...TEXTS, "mcs4.toml": `${PROJECT}lamps = 1\n` }),
+    "mcs4.toml: line 5: a project has no key lamps; it has board, program, tests, properties and speed");
+  assert.equal(await refused({ "mcs4.toml": PROJECT, "main.asm": "" }), "mcs4.toml: line 1: board: there is no file b/wires.toml");
+  assert.match(await refused({ ...TEXTS, "mcs4.toml": PROJECT.replace("main.asm", "holiday.jpg") }), /not a text|zero|empty/);
+  assert.equal(await refused({ ...TEXTS, "mcs4.toml": PROJECT.replace("a.test", "main.asm") }), "main.asm has no text of tests");
+  assert.throws(() => openedFile("mcs4.toml", new TextEncoder().encode(PROJECT)), /drop its folder on the page/);
+});
+
+test("folders and files as a browser has them", async () => {
+  const entry = (name, inside) => (typeof inside === "string"
+    ? { name, isFile: true, isDirectory: false, file: (take) => take(file(name, inside)) }
+    : { name, isFile: false, isDirectory: true, createReader: () => {
+      const parts = [...Object.entries(inside).map(([each, text]) => [entry(each, text)]), []];
+      return { readEntries: (take) => take(parts.shift()) };
+    } });
+  const dropped = entry("lights", { "mcs4.toml": PROJECT, "main.asm": "NOP\n", "b": { "wires.toml": "" }, ".git": { "HEAD": "" } });
+  const { name, files } = await readFolder(dropped);
+  assert.deepEqual([name, [...files.keys()]], ["lights", ["mcs4.toml", "main.asm", "b/wires.toml"]]);
+  const items = [{ kind: "string" }, { kind: "file", webkitGetAsEntry: () => dropped }, { kind: "file", webkitGetAsEntry: () => null }];
+  assert.deepEqual(foldersOf({ items }), [dropped]);
+  assert.deepEqual(foldersOf(null), []);
+  assert.equal(folderOfFiles([file("mcs4.toml", "")]), null);
+  assert.deepEqual([...folderOfFiles([file("a.asm", ""), file("mcs4.toml", "")]).files.keys()], ["a.asm", "mcs4.toml"]);
+});

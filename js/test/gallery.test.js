@@ -1,0 +1,36 @@
+import assert from "node:assert/strict";
+import { readFileSync } from "node:fs";
+import { test } from "node:test";
+import { galleryPicture } from "../core/session/gallery_picture.js";
+
+const BOARD = `# row 0: left right
+# colour 0: red green
+[[lamp]]
+line = "ram0.0.0"
+
+[[lamp]]
+line = "ram0.0.1"
+`;
+
+const kinds = ({ shapes }) => shapes.map((shape) => shape.kind);
+
+test("lamps in their colours and keys with their legends; of each colour one is lit", () => {
+  const picture = galleryPicture(BOARD);
+  assert.deepEqual(kinds(picture), ["lamp", "lamp", "key", "key"]);
+  assert.deepEqual(picture.shapes.slice(0, 2).map(({ colour, isLit }) => [colour, isLit]), [["red", true], ["green", true]]);
+  assert.deepEqual(picture.shapes.slice(2).map(({ legend }) => legend), ["left", "right"]);
+});
+
+test("the calculator: a display, two lamps beside it that are named, twenty keys, all within the picture", () => {
+  const text = readFileSync(new URL("../../examples/calculator/board.toml", import.meta.url), "utf8");
+  const picture = galleryPicture(text);
+  assert.equal(kinds(picture).filter((kind) => kind === "display").length, 1);
+  assert.equal(kinds(picture).filter((kind) => kind === "key").length, 20);
+  assert.equal(picture.shapes.find(({ kind }) => kind === "display").digits.length, 8);
+  for (const { x, y } of picture.shapes) assert.ok(x >= 0 && x <= picture.width && y >= 0 && y <= picture.height);
+});
+
+test("a board without anything at its front, and no board", () => {
+  assert.deepEqual(galleryPicture("").shapes, []);
+  assert.deepEqual(galleryPicture('[[rom]]\nchip = 0\nport = "0000"\n').shapes, []);
+});

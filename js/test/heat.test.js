@@ -1,0 +1,166 @@
+// How often and how lately characters of RAM change, on the module of the page itself.
+import assert from "node:assert/strict";
+import { test } from "node:test";
+import { Cancelled } from "../core/bench/faults.js";
+import { PassingHeat, warmthOf, wordsOfHeat, wordsOfHeated, wordsOfPassing, wordsOfSeen } from "../core/machine/heat.js";
+import { bytesOfSource, namesOfCharacters } from "../core/machine/ram_names.js";
+import { SourceMap } from "../core/machine/source_map.js";
+import { readWatched } from "../core/debug/watched.js";
+import { begin } from "./page_session.js";
+
+const BOARD = `[[rom]]
+chip = 0
+port = "0000"
+[[ram]]
+bank = 0
+chips = 1
+[[ram]]
+bank = 2
+chips = 2
+`;
+const PROGRAM = `digit = 0x12
+other = 0x41
+limit = 7
+        FIM P0, digit
+        FIM P1, other
+        FIM P3, limit
+        LDM 0
+turn:   SRC P0
+        IAC
+        WRM
+        WRM
+        src p1
+        WR2
+        JUN turn
+`;
+// By hand: 7 cycles come before the first SRC, and 8 to a turn. In each turn ram.0.0x12 gets another value by the first WRM, at 009; the
+// second WRM writes the same value, and WR2 where the board has no chip.
+const SETUP = 7;
+const TURN = 8;
+const ALL = "seq\nstate\nram 0\nram 2\n";
+
+/** A session in which the program has done so many cycles, 30 at a time. */
+async function ran(cycles) {
+  const calls = await begin("three lamps");
+  await calls.serve(`wire\n${BOARD}.\nasm\n${PROGRAM}.\nreset\n`);
+  for (let done = 0; done < cycles; done += 30) await calls.serve(`run ${Math.min(30, cycles - done)}\n`);
+  return calls;
+}
+
+const FRAME = 1543;
+
+test("while time runs the same is told of the cycles that pass, frame by frame", async () => {
+  const calls = await begin("three lamps");
+  await calls.serve(`wire\n${BOARD.split("[[ram]]\nbank = 2")[0]}.\nasm\n${PROGRAM}.\nreset\n`);
+  assert.equal(calls.advance(SETUP).warmed, null);
+  calls.watchRam(true);
+  const passing = new PassingHeat();
+  for (let frame = 0; frame < 20; frame++) {
+    if (frame === 5) calls.press("test 1");
+    const { warmed, cycles } = calls.advance(FRAME);
+    assert.deepEqual([warmed.cycles, warmed.chips], [cycles, 1]);
+    passing.add(warmed, cycles, 20 * FRAME);
+  }
+  assert.deepEqual(passing.heat, await calls.heat(20 * FRAME));
+  for (let frame = 0; frame < 20; frame++) passing.add({ cycles: FRAME, cells: [], chips: 1 }, FRAME, 20 * FRAME);
+  assert.deepEqual(passing.heat, { cycles: 20 * FRAME, cells: [] }, "what is long ago is forgotten");
+  calls.watchRam(false);
+  assert.equal(calls.advance(FRAME).warmed, null);
+});
+
+test("of several chips one is looked at in each frame, and of full speed a sample", async () => {
+  const calls = await ran(SETUP);
+  calls.watchRam(true);
+  const told = Array.from({ length: 6 }, () => calls.advance(80).warmed);
+  assert.deepEqual(told.map(({ cells }) => cells.map(({ place, count }) => `${place} ${count}`)), [
+    ["ram.0.0x12 10"], [], [], ["ram.0.0x12 10"], [], []]);
+  assert.equal(calls.advance(50000).warmed, null);
+  const { warmed } = calls.session.senseAhead();
+  assert.deepEqual([warmed.chips, warmed.cycles, warmed.cells.length], [3, 2778, 1]);
+  assert.equal(wordsOfPassing(warmed, false), "Counted while time runs, in one of 3 chips at a time, at full speed in samples.");
+  assert.equal(wordsOfPassing({ chips: 1 }, true), "Counted while time runs.");
+});
+
+test("what changed is counted over the past, to the cycle, and nothing is undone", async () => {
+  const calls = await ran(SETUP + 20 * TURN);
+  const before = calls.ask(ALL);
+  const { cycles, cells } = await calls.heat(SETUP + 20 * TURN);
+  assert.equal(cycles, SETUP + 20 * TURN);
+  assert.deepEqual(cells, [
+    { place: "ram.0.0x12", count: 20, ago: 6, address: 0x009, line: "" },
+  ]);
+  assert.deepEqual(calls.ask(ALL), before);
+});
+
+test("of a shorter stretch that alone, and of a longer one as far as is remembered", async () => {
+  const calls = await ran(SETUP + 20 * TURN);
+  for (const [wanted, told, count] of [[TURN, TURN, 1], [5, 5, 0], [3 * TURN + 3, 3 * TURN + 3, 3], [1e7, SETUP + 20 * TURN, 20]]) {
+    const { cycles, cells } = await calls.heat(wanted);
+    assert.deepEqual([cycles, cells.reduce((sum, cell) => sum + cell.count, 0)], [told, count]);
+  }
+});
+
+test("a line that pokes is told as such, also in a bank that no SRC has selected", async () => {
+  const calls = await ran(SETUP);
+  await calls.serve("poke st.2.5.3 9\npoke ram.2.0x7F 1\npoke ram.2.0x7F 1\nrun 2\n");
+  const { cells } = await calls.heat(100);
+  assert.deepEqual(cells.filter(({ line }) => line), [
+    { place: "ram.2.0x7F", count: 1, ago: 2, address: -1, line: "poke ram.2.0x7F 1" },
+    { place: "st.2.5.3", count: 1, ago: 2, address: -1, line: "poke st.2.5.3 9" },
+  ]);
+});
+
+test("long runs are looked through in parts, with the same result", async () => {
+  const once = await begin("three lamps");
+  await once.serve(`wire\n${BOARD}.\nasm\n${PROGRAM}.\nreset\nrun 100000\nrun 63\n`);
+  const { cycles, cells } = await once.heat(1e7);
+  const turns = Math.floor((100063 - SETUP) / TURN);
+  assert.deepEqual([cycles, cells[0].place], [100063, "ram.0.0x12"]);
+  assert.ok(cells[0].count === turns || cells[0].count === turns + 1, `${cells[0].count} of ${turns}`);
+});
+
+test("it is cancelled like other long work, and a board without RAM has none", async () => {
+  const calls = await ran(SETUP + 20 * TURN);
+  calls.goesOn = async () => false;
+  await assert.rejects(calls.heat(1000), Cancelled);
+  const bare = await begin("three lamps");
+  await bare.serve("wire\n[[rom]]\nchip = 0\nport = \"0000\"\n.\nrun 20\n");
+  assert.deepEqual(await bare.heat(1000), { cycles: 0, cells: [] });
+});
+
+const HEAT = {
+  cycles: 1000,
+  cells: [
+    { place: "a", count: 1, ago: 1000, address: 0, line: "" }, { place: "b", count: 100, ago: 1, address: 9, line: "" },
+    { place: "c", count: 10, ago: 30, address: -1, line: "poke c 1" },
+  ],
+};
+
+test("five steps of warmth, and words", () => {
+  assert.deepEqual([...warmthOf(HEAT, "often").values()], [1, 5, 3]);
+  assert.deepEqual([...warmthOf(HEAT, "lately").values()], [1, 5, 3]);
+  assert.deepEqual([...warmthOf({ cycles: 5, cells: [{ ...HEAT.cells[0], ago: 0 }] }, "often").values()], [5]);
+  assert.equal(wordsOfHeated(HEAT.cells[1], null), "100 times, last by 009, 1 cycle, 0.011 ms ago");
+  assert.equal(wordsOfHeated({ ...HEAT.cells[2], count: 1, ago: 0 }, null), "once by the line poke c 1");
+  assert.equal(wordsOfSeen(HEAT.cells[1], null), "100 times as seen while time runs, last seen by 009");
+  assert.equal(wordsOfSeen({ ...HEAT.cells[2], count: 1 }, null), "once as seen while time runs, last seen by the line poke c 1");
+  assert.equal(wordsOfHeat(HEAT, 2000, (place) => place.toUpperCase(), null), "In the last 1,000 cycles, 10.800 ms (no more is "
+    + "remembered), 3 characters have changed: most often B, 100 times; last B, by 009, 1 cycle, 0.011 ms ago.");
+  assert.equal(wordsOfHeat({ cycles: 9, cells: [] }, 9, String, null), "In the last 9 cycles, 0.097 ms, no character of RAM has changed.");
+  assert.equal(wordsOfHeat({ cycles: 100, cells: [HEAT.cells[0]] }, 100, String, null), "In the last 100 cycles, 1.080 ms, one character "
+    + "has changed: a, once by 000, 1,000 cycles, 10.800 ms ago.");
+  assert.match(wordsOfHeat({ cycles: 0, cells: [] }, 9, String, null), /^No earlier cycle/);
+});
+
+test("names: those of values, and those that FIM puts into a pair of an SRC", async () => {
+  const calls = await begin("three lamps");
+  await calls.serve(`wire\n${BOARD}.\n`);
+  const map = new SourceMap(calls.checkProgram(PROGRAM).map, PROGRAM);
+  assert.deepEqual(bytesOfSource(map), [{ name: "digit", byte: 0x12 }, { name: "other", byte: 0x41 }]);
+  const texts = ["count = R5", "sum = ram 2 0x41", "ram 0 0x13", "mode = st 0 1 2", "digit = ram 0 0x12"];
+  const watched = texts.map((text) => readWatched(text).watched);
+  const board = { banks: [{ bank: 0, chips: 1 }, { bank: 2, chips: 2 }] };
+  assert.deepEqual([...namesOfCharacters(board, watched, map)], [
+    ["ram.2.0x41", ["sum", "other"]], ["st.0.1.2", ["mode"]], ["ram.0.0x12", ["digit"]], ["ram.2.0x12", ["digit"]]]);
+  assert.deepEqual([...namesOfCharacters(board, [], null)], []);
+});

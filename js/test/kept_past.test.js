@@ -1,0 +1,156 @@
+// What was done before a reload, given back to another worker, on the module of the page itself.
+import assert from "node:assert/strict";
+import { test } from "node:test";
+import { KeptPast } from "../page/session/kept_past.js";
+import { begin } from "./page_session.js";
+
+const ALL = "state\nram 0\nlist 0 256\n";
+
+/** As much of a browser's store of words as is used, with so much room. */
+function storeOf(room = 5000000) {
+  const kept = new Map();
+  return {
+    kept,
+    getItem: (key) => (kept.has(key) ? kept.get(key) : null),
+    setItem: (key, value) => {
+      if (value.length > room) throw new Error("no room");
+      kept.set(key, value);
+    },
+    removeItem: (key) => kept.delete(key),
+  };
+}
+
+/** What is shown of a call is taken, as the page does it. */
+function seen(past, calls, shown = calls.shown([], false)) {
+  past.take(shown.past, { file: calls.session.file.slice(), total: shown.total, reset: shown.reset });
+}
+
+/** A page that did some things, and went; what it was after each of them. */
+async function left(store, lines) {
+  const calls = await begin("three lamps");
+  const past = new KeptPast(store);
+  past.begin("one");
+  seen(past, calls);
+  const states = [calls.ask(ALL)];
+  for (const some of lines) {
+    seen(past, calls, await calls.serve(some));
+    states.push(calls.ask(ALL));
+  }
+  past.leave();
+  return { calls, states };
+}
+
+/** Another page, in which the session was opened anew. */
+async function reloaded(store, { session: { file, count } }, name = "one") {
+  const calls = await begin("three lamps");
+  const past = new KeptPast(store);
+  past.begin(name);
+  seen(past, calls, calls.open(file.slice(), count.total, count.reset));
+  return { calls, past, recalled: past.recalled() };
+}
+
+/** What is given back goes to the worker as a copy. */
+function recall(calls, recalled) {
+  return calls.recall(structuredClone(recalled));
+}
+
+const LINES = ["run 1000\n", "poke r5 9\npoke r6 3\n", "break 0x010\nrun 50000\n", "press 0 0\nrun 7\n", "step\n"];
+
+test("going back leads through the reload, to each stop", async () => {
+  const store = storeOf();
+  const { calls: before, states } = await left(store, LINES);
+  const { calls, past, recalled } = await reloaded(store, before);
+  assert.equal(recalled.length, 1);
+  assert.ok(recall(calls, recalled) >= 0);
+  past.goOn(recalled, recalled[0].entries.length);
+  seen(past, calls, await calls.serve("run 20\n"));
+  for (const state of states.slice().reverse()) {
+    assert.equal((await calls.goBack({ kind: "stop" })).isDone, true);
+    assert.deepEqual(calls.ask(ALL), state);
+  }
+  assert.equal((await calls.goBack({ kind: "stop" })).why, "short");
+  assert.equal(calls.session.count.total, 0);
+});
+
+test("also through two reloads, and by instructions and changes", async () => {
+  const store = storeOf();
+  const { calls: before, states } = await left(store, LINES);
+  const second = await reloaded(store, before);
+  recall(second.calls, second.recalled);
+  second.past.goOn(second.recalled, second.recalled[0].entries.length);
+  seen(second.past, second.calls, await second.calls.serve("run 3\n"));
+  second.past.leave();
+  const third = await reloaded(store, second.calls);
+  assert.ok(recall(third.calls, third.recalled) >= 0);
+  assert.equal((await third.calls.lastChange("r5")).isFound, true);
+  assert.equal((await third.calls.goBack({ kind: "stop" })).isDone, true);
+  assert.deepEqual(third.calls.ask(ALL), states[states.length - 1]);
+  assert.equal((await third.calls.goBack({ kind: "instruction" })).isDone, true);
+});
+
+test("after going back only what is left of the past is kept", async () => {
+  const store = storeOf();
+  const { calls } = await left(store, LINES);
+  const past = new KeptPast(store);
+  past.begin("one");
+  seen(past, calls, await calls.goBack({ kind: "stop" }));
+  seen(past, calls, await calls.serve("run 5\n"));
+  past.leave();
+  const { calls: after, recalled } = await reloaded(store, calls);
+  assert.deepEqual(recalled.map(({ entries }) => entries.map(({ line }) => line)), [["run 5"]]);
+  assert.ok(recall(after, recalled) >= 0);
+});
+
+test("what is of another session, another moment, damaged or has no room is not taken", async () => {
+  const store = storeOf();
+  const { calls: before } = await left(store, LINES);
+  const text = store.kept.get("fethsaim.past");
+  assert.deepEqual((await reloaded(store, before, "two")).recalled, []);
+  store.setItem("fethsaim.past", text);
+  const { recalled, calls } = await reloaded(store, before);
+  assert.equal(store.kept.size, 0);
+  await before.serve("poke r1 7\n");
+  const later = await reloaded(storeOf(), before);
+  assert.equal(recall(later.calls, recalled), -1);
+  assert.equal(recall(calls, [{ ...recalled[0], file: recalled[0].file.map((byte) => byte ^ 1) }]), -1);
+  assert.equal(recall(calls, []), -1);
+  const wrong = [text.replace(/"entries":/, '"entry":'), text.replace(/"cycles":\d+/, '"cycles":"9"')];
+  for (const damaged of [text.slice(0, 500), "{}", "null", ...wrong]) {
+    store.setItem("fethsaim.past", damaged);
+    assert.deepEqual((await reloaded(store, before)).recalled, []);
+  }
+  const small = storeOf(1000);
+  await left(small, LINES);
+  assert.equal(small.kept.size, 0);
+  new KeptPast(null).leave();
+});
+
+test("a session that was kept before the last of it goes back as far as it was kept", async () => {
+  const store = storeOf();
+  const { calls: before, states } = await left(store, LINES.slice(0, 3));
+  const { calls, recalled } = await reloaded(store, before);
+  const poke = { line: "poke r1 7", cycles: 0, resets: false, isStop: true };
+  const later = [{ ...poke, line: "run 50", cycles: 50 }, poke];
+  const count = recalled[0].entries.length;
+  recalled[0].entries.push({ ...poke, line: "poke r2 9" }, ...later);
+  assert.equal(recall(calls, recalled), count);
+  for (const state of states.slice(0, -1).reverse()) {
+    assert.equal((await calls.goBack({ kind: "stop" })).isDone, true);
+    assert.deepEqual(calls.ask(ALL), state);
+  }
+});
+
+test("of a long past the last two files are kept", async () => {
+  const calls = await begin("three lamps");
+  const past = new KeptPast(storeOf());
+  past.begin("one");
+  seen(past, calls);
+  for (let piece = 0; piece < 25; piece++) seen(past, calls, await calls.serve("run 100000\n".repeat(5)));
+  assert.equal(past.segments.length, 2);
+  const cycles = past.segments.map(({ entries }) => entries.reduce((sum, entry) => sum + entry.cycles, 0));
+  assert.deepEqual([past.segments[0].total, cycles], [8000000, [4000000, 500000]]);
+  const next = await begin("three lamps");
+  next.open(calls.session.file.slice(), calls.session.count.total, 0);
+  assert.ok(recall(next, past.segments) >= 0);
+  assert.equal((await next.goBack({ kind: "stop" })).cycles, 500000);
+});

@@ -1,0 +1,86 @@
+import assert from "node:assert/strict";
+import { test } from "node:test";
+import { hintOfKeys, keyOfKeyboard, keysOf } from "../core/board/board_keys.js";
+import { Face } from "../core/board/face.js";
+import { DOWN_CYCLES, KeyQueue, LONGEST_RUN, UP_CYCLES, lineOfChange } from "../core/engine/key_queue.js";
+
+const lines = (queue, cycles) => queue.plan(cycles).map((step) => step.line);
+
+test("legends come from the comments of a board's text", () => {
+  const { keys } = new Face("# row 0: 7 8 _\n[keys]\n#row 1: a\n# row 2: WALK  x \n");
+  assert.deepEqual([...keys].map(([key, { text }]) => [key, text]),
+    [["0 0", "7"], ["0 1", "8"], ["0 2", ""], ["1 0", "a"], ["2 0", "WALK"], ["2 1", "x"]]);
+});
+
+test("keys have places, legends and letters that are their own", () => {
+  const keys = keysOf({ rows: 2, columns: 2 }, new Face("# row 0: CE _\n# row 1: C x\n"));
+  assert.deepEqual(keys.map(({ key, legend, letter, isNamed }) => [key, legend, letter, isNamed]),
+    [["0 0", "CE", "c", true], ["0 1", "", "", false], ["1 0", "C", "C", true], ["1 1", "x", "x", true]]);
+  assert.equal(new Set(keysOf({ rows: 10, columns: 8 }, new Face("")).map(({ letter }) => letter).filter(Boolean)).size, 36);
+});
+
+test("keys of the keyboard: own letters, named keys, then the other case", () => {
+  const keys = keysOf({ rows: 1, columns: 5 }, new Face("# row 0: = C c x .\n"));
+  const meant = (typed) => keyOfKeyboard(keys, typed)?.legend;
+  assert.deepEqual(["Enter", "Escape", "c", "C", "X", ",", "Shift", "y"].map(meant), ["=", "C", "c", "C", "x", ".", undefined, undefined]);
+});
+
+test("what is at TEST is the last key, with a letter of its own", () => {
+  const keys = keysOf({ rows: 1, columns: 1 }, new Face("# row 0: w\n# test: button WALK_NOW\n"));
+  const wanted = { key: "test 0", legend: "WALK NOW", words: "button WALK NOW, at TEST", isNamed: true, isSwitch: false, letter: "a" };
+  assert.deepEqual(keys[1], wanted);
+  const [only] = keysOf({ rows: 0, columns: 0 }, new Face("# test: switch R to 1"));
+  assert.deepEqual([only.key, only.isSwitch, only.letter], ["test 1", true, "R"]);
+});
+
+test("the lines of presses: keys by their places, TEST by its level", () => {
+  const lineOf = (word, key) => lineOfChange({ word, key });
+  assert.deepEqual([lineOf("press", "0 1"), lineOf("release", "0 1")], ["press 0 1", "release 0 1"]);
+  assert.deepEqual([lineOf("press", "test 0"), lineOf("release", "test 0")], ["test 0", "test 1"]);
+  assert.deepEqual([lineOf("press", "test 1"), lineOf("release", "test 1")], ["test 1", "test 0"]);
+  const queue = new KeyQueue();
+  queue.press("test 0");
+  queue.release("test 0");
+  assert.deepEqual(lines(queue, 5000), ["test 0", `run ${DOWN_CYCLES}`, "test 1", "run 1000"]);
+});
+
+test("what is told below the keys", () => {
+  assert.equal(hintOfKeys([]), "This board has no keys.");
+  assert.match(hintOfKeys(keysOf({ rows: 1, columns: 1 }, new Face(""))), /# row 0: 7 8 9/);
+  assert.doesNotMatch(hintOfKeys(keysOf({ rows: 1, columns: 1 }, new Face("# row 0: 7"))), /# row 0/);
+});
+
+test("without keys the cycles are runs of at most 100,000", () => {
+  assert.deepEqual(lines(new KeyQueue(), 1543), ["run 1543"]);
+  assert.deepEqual(lines(new KeyQueue(), 2 * LONGEST_RUN + 5), ["run 100000", "run 100000", "run 5"]);
+});
+
+test("a press stays down and then up for its time, over several plans", () => {
+  const queue = new KeyQueue();
+  queue.press("0 1");
+  queue.release("0 1");
+  queue.press("0 2");
+  const first = queue.plan(5000);
+  assert.deepEqual(first.map(({ line }) => line), ["press 0 1", `run ${DOWN_CYCLES}`, "release 0 1", "run 1000"]);
+  queue.done(first, (at) => [0, DOWN_CYCLES, 0, 1000][at]);
+  assert.deepEqual(lines(queue, 1500), [`run ${UP_CYCLES - 1000}`, "press 0 2", "run 500"]);
+});
+
+test("a run that stops early leaves the rest of the time to wait", () => {
+  const queue = new KeyQueue();
+  queue.press("0 1");
+  queue.release("0 1");
+  const steps = queue.plan(3000);
+  queue.done(steps, () => 10);
+  assert.deepEqual(lines(queue, 4000), [`run ${DOWN_CYCLES - 10}`, "release 0 1", "run 10"]);
+});
+
+test("changes of a key can be forgotten, and all of them", () => {
+  const queue = new KeyQueue();
+  queue.press("0 1");
+  queue.press("0 2");
+  queue.forget("0 1");
+  assert.deepEqual(lines(queue, 1), ["press 0 2", "run 1"]);
+  queue.clear();
+  assert.deepEqual(lines(queue, 1), ["run 1"]);
+});

@@ -1,0 +1,121 @@
+// Which stretch of a listing is shown: in step with what is known, over all 4,096 bytes, up to the last one.
+
+import assert from "node:assert/strict";
+import test from "node:test";
+import { ListingReader } from "../core/machine/listing_reader.js";
+import { isInsideLine, stretchOf } from "../core/machine/listing_stretch.js";
+
+/** A small generator of numbers that are the same at each run. */
+function seeded(seed) {
+  let state = seed;
+  return (below) => {
+    state = (Math.imul(state, 1103515245) + 12345) & 0x7fffffff;
+    return (state >> 8) % below;
+  };
+}
+
+/** Codes whose instruction has two words: JCN, FIM, JUN, JMS and ISZ. */
+const hasTwoWords = (code) => [1, 4, 5, 7].includes(code >> 4) || ((code >> 4) === 2 && code % 2 === 0);
+
+const hex = (number, digits) => number.toString(16).toUpperCase().padStart(digits, "0");
+
+/** Answers `list A N` over some bytes, and counts the lines that were asked for. */
+function lister(bytes) {
+  const asked = { lists: 0, lines: 0 };
+  const ask = async (lines) => {
+    const [, start, count] = /^list (\d+) (\d+)\n$/.exec(lines).map(Number);
+    assert.ok(count >= 1 && count <= 256 && start <= 4095, lines);
+    const answers = [];
+    for (let at = start; at < 4096 && answers.length < count;) {
+      const size = hasTwoWords(bytes[at]) && at < 4095 ? 2 : 1;
+      const words = [...bytes.slice(at, at + size)].map((byte) => hex(byte, 2)).join(" ");
+      answers.push(`${hex(at, 3)} ${words.padEnd(5)} NOP`);
+      at += size;
+    }
+    asked.lists += 1;
+    asked.lines += answers.length;
+    return answers;
+  };
+  return { ask, asked };
+}
+
+function programs() {
+  const random = seeded(4004);
+  const made = [new Uint8Array(4096), new Uint8Array(4096).fill(0x40)];
+  for (let count = 0; count < 8; count++) made.push(Uint8Array.from({ length: 4096 }, () => random(256)));
+  return made;
+}
+
+/** The addresses at which the instructions of a program begin that is run from 000 on. */
+function beginnings(bytes) {
+  const found = [];
+  for (let at = 0; at < 4096; at += hasTwoWords(bytes[at]) && at < 4095 ? 2 : 1) found.push(at);
+  return found;
+}
+
+async function stretch(reader, from, anchor, rows) {
+  return stretchOf(await reader.read({ from, anchor }, rows), from, rows);
+}
+
+test("a line begins at the anchor, wherever it is, and all rows have a line", async () => {
+  const random = seeded(1);
+  for (const bytes of programs()) {
+    const reader = new ListingReader(lister(bytes).ask);
+    const starts = beginnings(bytes);
+    for (let turn = 0; turn < 60; turn++) {
+      const rows = 5 + random(45);
+      const counter = starts[random(starts.length)];
+      const lines = await stretch(reader, Math.max(0, counter - Math.floor(rows / 2)), counter, rows);
+      assert.equal(lines.length, rows);
+      assert.ok(lines.some((line) => line.address === counter));
+      assert.equal(isInsideLine(lines, counter), false);
+    }
+  }
+});
+
+test("page by page from one end to the other each address is shown, in step", async () => {
+  for (const bytes of programs()) {
+    const rows = 21;
+    const reader = new ListingReader(lister(bytes).ask);
+    let lines = await stretch(reader, 0, 0, rows);
+    const shown = new Set();
+    for (let page = 0; page < 400; page++) {
+      for (const { address } of lines) shown.add(address);
+      const next = lines[lines.length - 1].address;
+      if (lines[0].address === next || next + 1 + Number(hasTwoWords(bytes[next])) > 4095) break;
+      lines = await stretch(reader, next, next, rows);
+    }
+    assert.deepEqual([...shown].filter((address) => address === 0 || address >= 4094).length > 1, true);
+    assert.deepEqual(beginnings(bytes).slice(0, -rows).filter((address) => !shown.has(address)), []);
+    const last = lines[lines.length - 1];
+    assert.ok(last.address + Number(hasTwoWords(bytes[last.address])) >= 4095);
+  }
+});
+
+test("the end fills the rows with the last lines", async () => {
+  for (const bytes of programs()) {
+    const reader = new ListingReader(lister(bytes).ask);
+    for (const rows of [1, 7, 40]) {
+      const lines = await stretch(reader, 4095, null, rows);
+      assert.equal(lines.length, rows);
+      const { address } = lines[rows - 1];
+      assert.ok(address + (hasTwoWords(bytes[address]) && address < 4095 ? 2 : 1) === 4096);
+    }
+  }
+});
+
+test("the bench is asked for little more than is shown", async () => {
+  const random = seeded(2);
+  for (const bytes of programs()) {
+    const { ask, asked } = lister(bytes);
+    const reader = new ListingReader(ask);
+    for (let turn = 0; turn < 50; turn++) await stretch(reader, random(4096), null, 20);
+    assert.deepEqual([asked.lists, asked.lines <= 50 * 60], [50, true]);
+  }
+});
+
+test("whether an address lies inside a line", () => {
+  const lines = [{ address: 4, line: "" }, { address: 6, line: "" }, { address: 7, line: "" }];
+  assert.deepEqual([3, 4, 5, 6, 7, 8].map((address) => isInsideLine(lines, address)), [false, false, true, false, false, false]);
+  assert.equal(isInsideLine([], 0), false);
+});

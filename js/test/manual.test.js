@@ -1,0 +1,47 @@
+import assert from "node:assert/strict";
+import { execFileSync } from "node:child_process";
+import { test } from "node:test";
+import { cellWords, fittingLines, instructionsOf, linesOfBench, piecesOf, plain, searched, wordsOfCell } from "../core/help/manual.js";
+
+const SCRIPT = "import json; from manual_tables import manual_tables; print(json.dumps(manual_tables()))";
+const MANUAL = JSON.parse(execFileSync("python3", ["-B", "-c", SCRIPT], { cwd: new URL("../../page/", import.meta.url), encoding: "utf8" }));
+
+test("a cell is cut into text and code", () => {
+  assert.deepEqual(piecesOf("`wire`, then a text"), [{ text: "wire", isCode: true }, { text: ", then a text", isCode: false }]);
+  assert.equal(plain("`ram b` and `lamps`"), "ram b and lamps");
+});
+
+test("all 45 instructions are told, each with its cycles", () => {
+  const found = instructionsOf(MANUAL);
+  assert.equal(found.size, 45);
+  assert.deepEqual([...found.values()].filter(({ cycles }) => cycles === "2").map(({ form }) => form.split(" ")[0]),
+    ["JCN", "FIM", "FIN", "JUN", "JMS", "ISZ"]);
+  assert.equal(found.get("RD3").code, "EC to EF");
+});
+
+test("a line of the bench is found by what is typed of it", () => {
+  const lines = linesOfBench(MANUAL);
+  const forms = (typed) => fittingLines(lines, typed).map(({ form }) => form);
+  assert.deepEqual(forms("r"), ["release r c", "run n", "reset", "regs", "ram b"]);
+  assert.deepEqual(forms("run 100"), ["run n"]);
+  assert.deepEqual(forms(""), []);
+  assert.deepEqual(forms("runs 3"), []);
+});
+
+test("a search finds rows, and whole sections by their titles", () => {
+  const found = searched(MANUAL, "decimal adjust");
+  assert.deepEqual(found.map(({ title }) => title), ["The 45 instructions"]);
+  assert.equal(found[0].tables.length, 1);
+  assert.equal(found[0].tables[0].rows.length, 1);
+  assert.deepEqual(searched(MANUAL, "zzz"), []);
+  assert.equal(searched(MANUAL, "PLACES").find(({ title }) => title === "Places").tables[0].rows.length, 8);
+  assert.equal(searched(MANUAL, "").length, MANUAL.length);
+});
+
+test("cells have words", () => {
+  const words = cellWords(MANUAL);
+  for (const name of ["acc", "owed", "dcl", "ret 3", "R", "latch", "SRC, ROMs"]) assert.ok(words.has(name), name);
+  assert.equal(wordsOfCell(words, "R15"), words.get("R"));
+  assert.equal(wordsOfCell(words, "bank 3"), words.get("bank"));
+  assert.equal(wordsOfCell(words, "lines 3 to 0"), "");
+});

@@ -1,0 +1,116 @@
+// The module of the page itself, by the calls of the page.
+import assert from "node:assert/strict";
+import { readFileSync } from "node:fs";
+import { test } from "node:test";
+import { BenchCalls } from "../core/engine/bench_calls.js";
+import { Engine } from "../core/engine/engine.js";
+
+const page = readFileSync(new URL("../../page/fethsaim.html", import.meta.url), "utf8");
+const partOf = (id) => new RegExp(`id="${id}">([^<]*)<`).exec(page)[1];
+const module = Buffer.from(partOf("module"), "base64");
+const { examples } = JSON.parse(partOf("data"));
+const calculator = examples.find(({ name }) => name === "calculator");
+
+async function begin(example) {
+  const calls = new BenchCalls(async () => true);
+  const size = await calls.load(module, examples);
+  calls.open(calls.make(example));
+  return { calls, size };
+}
+
+test("a file is served, and asking leaves it as it was", async () => {
+  const engine = await Engine.load(module);
+  assert.equal(engine.size, 163856);
+  const file = engine.begin();
+  const before = Buffer.from(file);
+  assert.deepEqual(engine.ask(file, "poke r5 9\nseq\n"), { status: 0, opened: "session 0", answers: ["ok 1", "seq 1"] });
+  assert.equal(Buffer.compare(before, file), 0);
+  assert.deepEqual(engine.serve(file, "poke r5 9\n", file).answers, ["ok 1"]);
+  assert.deepEqual(engine.ask(file, "seq\n"), { status: 0, opened: "session 1", answers: ["seq 1"] });
+});
+
+test("answers that have no room are given room", async () => {
+  const engine = await Engine.load(module);
+  const { answers } = engine.ask(engine.begin(), "list 0 256\n".repeat(400));
+  assert.equal(answers.length, 400 * 256);
+});
+
+test("lines beyond ASCII, and more than the room at first", async () => {
+  const engine = await Engine.load(module);
+  const file = engine.begin();
+  assert.deepEqual(engine.ask(file, "caf\u00e9\n").answers, ["no 14"]);
+  assert.equal(engine.ask(file, `${"x".repeat(200)}\n`.repeat(4000)).answers.length, 4000);
+});
+
+test("bytes that are no session are refused, and the session stays", async () => {
+  const { calls } = await begin(calculator);
+  for (const [bytes, number] of [[0, 50], [9, 50], [163857, 50], [163856, 50]]) {
+    assert.throws(() => calls.open(new Uint8Array(bytes)), { number });
+    assert.throws(() => calls.settled(new Uint8Array(bytes)), { number });
+  }
+  assert.equal(calls.ask("board\n")[0], "board");
+});
+
+test("keys are pressed, time passes, and the display shows it", async () => {
+  const { calls } = await begin(calculator);
+  for (const place of ["2 1", "3 2"]) {
+    calls.press(place);
+    calls.release(place);
+  }
+  const frame = calls.advance(20000);
+  assert.equal(frame.cycles, 20000);
+  const changes = frame.ran.filter(({ runs }) => runs === 0).map(({ line }) => line);
+  assert.deepEqual(changes, ["press 2 1", "release 2 1", "press 3 2", "release 3 2"]);
+  assert.equal(frame.file.byteLength, 163856);
+  const next = calls.advance(1000);
+  assert.notEqual(next.file, frame.file);
+  calls.spare.push(frame.file);
+  assert.equal(calls.advance(1000).file, frame.file);
+});
+
+test("a key goes down with the cycles that it came with, or when its time comes", async () => {
+  const { calls } = await begin(calculator);
+  const lampsOf = ({ look }) => / lamps (\S+)/.exec(look[0])[1];
+  const linesOf = ({ ran }) => ran.map(({ line }) => line);
+  const before = calls.advance(100000);
+  const frame = calls.advance(2000, "2 1");
+  assert.deepEqual(linesOf(frame), ["press 2 1", "run 2000"]);
+  assert.notEqual(lampsOf(frame), lampsOf(before));
+  calls.release("2 1");
+  assert.deepEqual(linesOf(calls.advance(3000, "2 2")), ["run 2000", "release 2 1", "run 1000"]);
+  assert.deepEqual(linesOf(calls.advance(3000)), ["run 1000", "press 2 2", "run 2000"]);
+});
+
+test("a breakpoint ends a frame, and what came after it is not done", async () => {
+  const { calls } = await begin(calculator);
+  await calls.serve("break 0x024\n");
+  const frame = calls.advance(5000);
+  assert.match(frame.end, / break$/);
+  assert.ok(frame.cycles < 100);
+});
+
+test("a file of an example gets the texts of the example, and another one what the bench says", async () => {
+  const { calls } = await begin(calculator);
+  const texts = calls.texts(calls.make(calculator));
+  const { board, program, tests = "", properties = "" } = calculator;
+  assert.deepEqual(texts, { boardText: board, programText: program, testText: tests, propertiesText: properties });
+  const own = calls.make({ ...calculator, board: '[[rom]]\nchip = 0\nport = "0000"\n', program: "\tLDM 5\n\tJUN 0\n" });
+  assert.deepEqual(calls.texts(own), {
+    boardText: '[[rom]]\nchip = 0\nport = "0000"\n', programText: "\tLDM 5\n\tJUN 0x000\n", testText: "", propertiesText: "",
+  });
+});
+
+test("the line of a board that is at fault is found", async () => {
+  const { calls } = await begin(calculator);
+  const board = '[[rom]]\nchip = 0\nport = "0000"\n\n[[lamp]]\nline = "ram0.0.0"\n';
+  const { first } = await calls.serve(`wire\n${board}.\n`);
+  assert.equal(first, "no 25");
+  assert.deepEqual(calls.boardFault(board, 25), { from: 5, to: 6 });
+});
+
+test("long work is done whole", async () => {
+  const { calls } = await begin(calculator);
+  const told = await calls.serve("step\n".repeat(5000));
+  assert.equal(told.entries.length, 400);
+  assert.equal(calls.ask("seq\n")[0], "seq 5002");
+});

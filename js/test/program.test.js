@@ -1,0 +1,174 @@
+// What the page says of programs: words of a line, faults, completion, help, and the texts by which a program comes into ROM alone.
+import assert from "node:assert/strict";
+import { readFileSync } from "node:fs";
+import { test } from "node:test";
+import { distance, mostAlike } from "../core/text/alike.js";
+import { counted } from "../core/bench/numbers.js";
+import { programTexts, wordsOfAssembled } from "../core/text/assembling.js";
+import { namesOf, partsOf, tokensOf, wordAt } from "../core/text/assembly.js";
+import { completeProgram } from "../core/text/completion.js";
+import { instructionsOf } from "../core/help/manual.js";
+import { findProgramFaults } from "../core/text/program_faults.js";
+import { wordsOfProgramLine } from "../core/text/program_words.js";
+import { LONGEST_TEXT, faultsOfLines, sentText } from "../core/text/text_fault.js";
+import { helpForProgram } from "../core/text/text_help.js";
+
+// The table of the manual, as page/build reads it.
+const page = readFileSync(new URL("../../docs/MANUAL.md", import.meta.url), "utf8");
+const rows = page.split("### The 45 instructions")[1].split("### What SRC")[0].split("\n").filter((line) => /^\| `[A-Z]/.test(line))
+  .map((line) => line.slice(1, -1).split("|").map((cell) => cell.trim()));
+const instructions = instructionsOf([{ title: "The 45 instructions", tables: [{ caption: "", head: [], rows }] }]);
+const facts = (text) => ({ instructions, names: namesOf(text.split("\n")) });
+const wordsOf = (line, number = 30, text = line) => (wordsOfProgramLine(line, number, facts(text)) || { words: "" }).words;
+const wordAtFault = (line, number = 30) => (wordsOfProgramLine(line, number, facts(line)) || { word: { text: "" } }).word.text;
+
+test("all 45 instructions are there", () => {
+  assert.equal(instructions.size, 45);
+});
+
+test("the parts of a line", () => {
+  const { label, head, operands, comment } = partsOf("next:   ISZ R2 , loop ; again");
+  assert.deepEqual([label.text, head.text, operands.map(({ text }) => text), comment], ["next", "ISZ", ["R2", "loop"], 22]);
+  assert.equal(partsOf("zero = 4").defines, true);
+  assert.deepEqual(partsOf(" DB 1,,2").operands.map(({ text }) => text), ["1", "", "2"]);
+  assert.equal(partsOf("; a: b").label, null);
+});
+
+test("a line's words have colours, the comment whatever is in it", () => {
+  const kinds = tokensOf("a: LDM 5 ; LDM", (word) => instructions.has(word)).map(({ kind }) => kind);
+  assert.deepEqual(kinds, ["label", "instruction", "number", "comment"]);
+  assert.deepEqual(tokensOf("LDX P0, 5G", () => false).map(({ kind }) => kind), ["unknown", "register", "unknown"]);
+});
+
+test("words that are alike", () => {
+  assert.deepEqual([distance("strat", "start"), distance("LDX", "LDM"), distance("", "abc")], [1, 1, 3]);
+  assert.deepEqual(mostAlike("strat", ["start", "stop", "far"]), ["start"]);
+  assert.deepEqual(mostAlike("Loop", ["loop"]), ["loop"]);
+  assert.deepEqual(mostAlike("xyz", ["start"]), []);
+});
+
+test("what is no instruction, and what may be meant", () => {
+  assert.match(wordsOf("LDX 5"), /^LDX is no instruction; .*LDM\?$/);
+  assert.equal(wordsOf("JMP there"), "JMP is no instruction; JUN?");
+  assert.equal(wordsOf("begin"), "begin is no instruction; a label has a colon: begin:");
+  assert.equal(wordsOf("zero EQU 4"), "a name gets its number by =: zero = 4");
+  assert.equal(wordsOf("zero  set 0x10"), "a name gets its number by =: zero = 0x10");
+});
+
+test("what an instruction takes", () => {
+  assert.equal(wordsOf("FIM R0, 5"), "FIM takes a pair, P0 to P7");
+  assert.equal(wordAtFault("FIM R0, 5"), "R0");
+  assert.equal(wordsOf("FIM P0 5"), "FIM takes a pair, P0 to P7; a comma stands between two operands");
+  assert.equal(wordsOf("INC R16"), "INC takes a register, R0 to R15");
+  assert.equal(wordsOf("NOP 1"), "NOP takes nothing after it");
+  assert.equal(wordsOf("LDM"), "LDM takes a value, 0 to 15");
+  assert.match(wordsOf("LDM 5, 6"), /no more$/);
+  assert.match(wordsOf("ADD: NOP"), /ADD is an instruction, so it cannot be a name/);
+  assert.match(wordsOf("a_name_that_is_long: NOP"), /at most 16 characters; this has 19/);
+});
+
+test("numbers as other assemblers write them", () => {
+  assert.match(wordsOf("LDM 0FH"), /hexadecimal is 0x0F$/);
+  assert.match(wordsOf("LDM $12"), /hexadecimal is 0x12$/);
+  assert.match(wordsOf("LDM 0b101"), /it is 5$/);
+  assert.match(wordsOf("LDM 'A'"), /the code of A is 0x41$/);
+  assert.match(wordsOf("LDM #5"), /without #: 5$/);
+  assert.match(wordsOf("LDM 1+2"), /there are no expressions/);
+});
+
+test("names, values and addresses", () => {
+  assert.equal(wordsOf("JUN strat", 32, "start: NOP\nJUN strat"), "strat is not defined; start?");
+  assert.equal(wordsOf("JUN FF", 32), "FF is not defined; 0xFF?");
+  assert.equal(wordsOf("a: NOP", 31, "a: NOP\na: NOP"), "a is defined in line 1 already");
+  assert.equal(wordsOf("LDM 16", 33), "LDM takes a value, 0 to 15");
+  assert.match(wordsOf("JCN 4, far", 34), /^far is on another page; JCN reaches/);
+});
+
+/** A bench that refuses the first line with a word in it by this number. */
+const refusing = (numbers) => async (text) => {
+  const lines = text.split("\n");
+  for (const [word, number] of numbers) {
+    const at = lines.findIndex((line) => line.includes(word));
+    if (at >= 0) return { number, line: at + 1 };
+  }
+  return null;
+};
+
+test("all faults are found, one after the other, and a blanked line keeps what it defines", async () => {
+  const seen = [];
+  const refuse = refusing([["LDX", 30], ["strat", 32]]);
+  const text = "start: LDX 5\n FIM P0, strat\n";
+  const found = await findProgramFaults(text, instructions, () => "", async (part) => {
+    seen.push(part);
+    return refuse(part);
+  });
+  const told = found.faults.map(({ line, words }) => [line, words.split(";")[0]]);
+  assert.deepEqual(told, [[1, "LDX is no instruction"], [2, "strat is not defined"]]);
+  assert.equal(found.areAll, true);
+  assert.equal(seen[2], "start:\nDB 0,0\n");
+});
+
+test("a search for faults that is not wanted any more ends", async () => {
+  assert.equal(await findProgramFaults("LDX\n", instructions, () => "", async () => undefined), undefined);
+});
+
+test("a text is sent line for line, without comments and indentation", () => {
+  assert.equal(sentText("; f\u00fcr\r\n loop: NOP\t; on\n\tJUN loop ", ";"), "\nloop: NOP\nJUN loop\n");
+  assert.equal(sentText('  a = "#" # \u00e9\n', "#"), 'a = "#"\n');
+  assert.equal(sentText("a = \"\"\"\n  b # \u00e9\n\"\"\"\n", "#"), "a = \"\"\"\n  b #  \n\"\"\"\n");
+  assert.equal(sentText("", ";"), "");
+  assert.equal(sentText("NOP\n\t", ";"), "NOP\n\n");
+  assert.deepEqual(faultsOfLines("NOP\n\t", ";"), []);
+  assert.equal(sentText("NOP\n . ; no end\n.\n", ";"), "NOP\n .\n.\n");
+});
+
+test("lines that cannot be sent, at their places in the text", () => {
+  /** @type {(text: string) => (number | string)[][]} */
+  const faults = (text) => faultsOfLines(text, ";").map(({ line, from, to, number }) => [line, from, to, number]);
+  assert.deepEqual(faults("  caf\u00e9: NOP ; \u00e9\n"), [[1, 5, 6, 14]]);
+  assert.deepEqual(faults("NOP\n.\nNOP\n"), [[2, 0, 1, 0]]);
+  assert.equal(faultsOfLines("\ufeffNOP\n", ";")[0].words, "a character that is not to be seen (U+FEFF); delete it");
+  assert.deepEqual(faults("NOP\n . ; no end\n"), []);
+  assert.deepEqual(faults(`NOP\n  ${"x".repeat(256)}\n`), [[2, 257, 258, 12]]);
+  assert.deepEqual(faults(`NOP ;${"x".repeat(256)}\n`), []);
+  assert.deepEqual(faults(`${"NOP\n".repeat(4097)}`), [[4097, 0, 3, 13]]);
+  assert.deepEqual(faults(`${"\tNOP ; a comment\n".repeat(4096)}`), []);
+});
+
+test("what a word can become", () => {
+  const lines = ["loop: NOP", "      J", "  JUN lo", " FIM P", "; J"];
+  const texts = (line, at) => completeProgram(lines, line, at, instructions).list.map(({ text }) => text);
+  assert.deepEqual(texts(1, 7).sort(), ["JCN", "JIN", "JMS", "JUN"]);
+  assert.deepEqual(texts(2, 8), ["loop"]);
+  assert.deepEqual(texts(3, 6), ["P0", "P1", "P2", "P3", "P4", "P5", "P6", "P7"]);
+  assert.deepEqual(texts(4, 3), []);
+});
+
+test("what a word is", () => {
+  const lines = ["loop: LDM 5 ; LDM", " FIM P3, loop"];
+  const help = (line, at) => helpForProgram(lines, line, at, instructions, () => "");
+  assert.equal(help(0, 7), "LDM d: 1 word, 1 cycle. Load immediate: d into ACC. The carry stays.");
+  assert.match(help(1, 5), /^P3: the pair of R6/);
+  assert.equal(help(1, 10), "loop: defined in line 1.");
+  assert.equal(help(0, 15), "");
+  assert.deepEqual(wordAt("a loop", 3), { text: "loop", from: 2, to: 6 });
+});
+
+test("a program comes into ROM alone, by one text where it has room", () => {
+  assert.deepEqual(programTexts("NOP\n", []), ["NOP\n"]);
+  assert.deepEqual(programTexts("NOP\n", [5, 6, 9]), ["NOP\nORG 0x005\nDB 0,0\nORG 0x009\nDB 0\n"]);
+  const all = [...Array(4095).keys()].map((at) => at + 1);
+  const [one] = programTexts("NOP\n", all);
+  assert.ok(one.length <= LONGEST_TEXT && one.split("\n").every((line) => line.length <= 255));
+  assert.equal(one.split("DB").slice(1).join("").split(/[,\n]/).filter((word) => word.trim() === "0").length, 4095);
+  const long = `${"; long\n".repeat(2300)}NOP\n`;
+  assert.deepEqual(programTexts(long, all).map((text) => text.length <= LONGEST_TEXT), [true, true]);
+  assert.equal(programTexts(long, all)[1], long);
+});
+
+test("what assembling alone leaves, in words", () => {
+  assert.equal(wordsOfAssembled({ size: 3, left: [0x41, 0x42] }, "012"),
+    "3 bytes assembled. 2 bytes of before stay in ROM, from 0x041 on. The counter stays at 012; nothing was reset.");
+  assert.deepEqual([counted(1, "byte"), counted(0, "byte"), counted(1543, "cycle"), counted(2, "property is", "properties are")],
+    ["1 byte", "0 bytes", "1,543 cycles", "2 properties are"]);
+});

@@ -1,0 +1,135 @@
+import assert from "node:assert/strict";
+import { test } from "node:test";
+import { checksum } from "../core/session/checksum.js";
+import { NotAProject, isProject, projectText, readProject, wordsOfLength } from "../core/session/project_file.js";
+
+const SIZE = 163856;
+const encode = (text) => new TextEncoder().encode(text);
+
+function project(texts = {}) {
+  const file = new Uint8Array(SIZE);
+  file.set(encode("MCS4BEN1"));
+  file[SIZE - 1] = 0xfe;
+  return { name: "a lock", boardText: "# b\n", programText: "; p\n", testText: "", propertiesText: "", file, ...texts };
+}
+
+function read(text) {
+  return readProject(encode(text), SIZE);
+}
+
+test("the checksum is the one of cksum", () => {
+  // What the command prints for these bytes, with its count of them.
+  assert.equal(checksum(encode("")), 4294967295);
+  assert.equal(checksum(encode("hello\n")), 3015617425);
+  assert.equal(checksum(encode("123456789")), 930766865);
+  assert.equal(checksum(new Uint8Array(300000)), 2913298395);
+});
+
+test("a project is a text that people can read", () => {
+  const lines = projectText(project()).split("\n");
+  assert.equal(lines[0], "fethsaim project 1");
+  assert.match(lines[1], /^cksum \d+$/);
+  assert.match(lines[2], /^# /);
+  assert.deepEqual(lines.slice(3), ["name a lock", "wire", "# b", ".", "asm", "; p", ".", "session 163856",
+    "00000 4d43533442454e310000000000000000", "28000 000000000000000000000000000000fe", ".", "end", ""]);
+});
+
+test("a text of tests stands behind the program, where there is one", () => {
+  const text = projectText(project({ testText: "test one\n  run 1" }));
+  const lines = text.split("\n");
+  const wanted = ["name a lock", "unended test", "wire", "# b", ".", "asm", "; p", ".", "test", "test one", "  run 1"];
+  assert.deepEqual(lines.slice(3, 14), wanted);
+  assert.equal(read(text).testText, "test one\n  run 1");
+  assert.equal(read(text.replace(/^cksum.*\n/m, "").replace("\ntest one", "\ntest two")).testText, "test two\n  run 1");
+});
+
+test("what goes in comes out, whatever the texts are", () => {
+  for (const text of ["", "\n", "NOP", "NOP\n", "a\n\n", ".\n..\n...", ".", "\tx \n.y\n", "wire\n.\nasm\n", "; f\u00fcr \u{1f600}\n"]) {
+    const all = { boardText: text, programText: text, testText: text, propertiesText: text };
+    for (const texts of [{ boardText: text }, { programText: text }, { testText: text }, { propertiesText: text }, all]) {
+      const one = project(texts);
+      assert.deepEqual(read(projectText(one)), one);
+    }
+  }
+});
+
+test("carriage returns at the ends of lines, and a mark of the order of bytes, change nothing", () => {
+  const text = projectText(project({ programText: "a\nb" }));
+  assert.deepEqual(read(`\uFEFF${text.replace(/\n/g, "\r\n")}`), project({ programText: "a\nb" }));
+  assert.equal(projectText(project({ programText: "a\r\nb\r" })), text);
+});
+
+test("bytes that are a project are told from others", () => {
+  assert.equal(isProject(encode(projectText(project()))), true);
+  assert.equal(isProject(encode(`\uFEFF${projectText(project())}`)), true);
+  assert.equal(isProject(encode("MCS4BEN1")), false);
+  assert.equal(isProject(new Uint8Array(0)), false);
+  assert.equal(isProject(Uint8Array.of(255, 254, 0, 200)), false);
+});
+
+test("a text that the editors would not take is refused, and its project is not saved", () => {
+  const boardText = `#${" ".repeat(65535)}\n`;
+  const words = "the board's text has 65,537 characters, and 65,536 is the most";
+  assert.throws(() => read(projectText(project({ boardText }))), { message: words });
+  assert.equal(wordsOfLength({ boardText, programText: "" }), words);
+  assert.equal(wordsOfLength({ boardText: boardText.slice(1), programText: "x".repeat(65536) }), "");
+  assert.match(wordsOfLength({ boardText: "", programText: "x".repeat(65537) }), /^the source has 65,537 characters/);
+});
+
+test("each cut of a project is refused in words", () => {
+  const text = projectText(project());
+  for (let length = 0; length < text.length; length++) {
+    assert.throws(() => read(text.slice(0, length)), { message: /cut off|not a project/ });
+  }
+});
+
+test("each single byte that is another one is refused", () => {
+  const bytes = encode(projectText(project()));
+  for (let at = 0; at < bytes.length; at++) {
+    const changed = bytes.slice();
+    changed[at] ^= 1;
+    assert.throws(() => readProject(changed, SIZE), NotAProject, `byte ${at}`);
+  }
+});
+
+test("a project that is changed by hand is taken without its sum", () => {
+  const text = projectText(project()).replace("; p\n", "; p\n\tNOP\n");
+  assert.throws(() => read(text), /changed by hand/);
+  assert.equal(read(text.replace(/^cksum.*\n/m, "")).programText, "; p\n\tNOP\n");
+});
+
+test("what is wrong in a project without a sum is told with its line", () => {
+  const text = projectText(project()).replace(/^cksum.*\n/m, "");
+  const faults = [
+    ["project 1", "project 2", /version 2/],
+    ["name a lock", "nome a lock", /line 3 .* head/],
+    ["wire\n", "wire it\n", /line 4 .* head/],
+    ["asm\n", "asm it\n", /line 7 .* `asm`/],
+    ["session 163856", "session 12", /line 10 .* `session 163856`/],
+    ["00000 4d", "00000 4D", /line 11 .* not one of a session/],
+    ["28000 0000", "28010 0000", /line 12 .* not one of a session/],
+    ["\n.\nend\n", "\nend\n", /after `session 163856` has no end/],
+    ["\n.\nend\n", "\n.\nmore\nend\n", /end of the file/],
+  ];
+  for (const [from, to, words] of faults) assert.throws(() => read(text.replace(from, to)), words);
+  assert.throws(() => readProject(Uint8Array.of(...encode("fethsaim project 1\n"), 255), SIZE), /UTF-8/);
+  assert.throws(() => readProject(new Uint8Array((4 << 20) + 1), SIZE), /more bytes/);
+});
+
+test("breakpoints of the source stand in the head, and come back as they were", () => {
+  const breakpoints = [
+    { line: 14, address: 15, isOn: false, condition: 'r4 = 7 and lamp "a\\b" on', from: 5, note: "R4 is {r4}" },
+    { line: 0, address: 0x7FF, isOn: true, condition: "", from: 1, note: "" },
+    { line: 3, address: -1, isOn: true, condition: "", from: 1, note: "here" },
+  ];
+  const text = projectText(project({ breakpoints }));
+  assert.deepEqual(text.split("\n").filter((line) => line.startsWith("break")), [
+    'break line 14 at 0x00F off from 5 if "r4 = 7 and lamp \\"a\\\\b\\" on" log "R4 is {r4}"', "break at 0x7FF", 'break line 3 log "here"',
+  ]);
+  assert.deepEqual(read(text).breakpoints, breakpoints);
+  assert.equal(read(projectText(project({ breakpoints: [] }))).breakpoints, undefined);
+  for (const wrong of ["break", "break here", "break line x", "break line 3 if r4", "break at 0x12"]) {
+    const changed = text.replace(/\ncksum .*/, "").replace("break at 0x7FF", wrong);
+    assert.throws(() => read(changed), /has to be one of the head: `name`, `unended`, `break`/);
+  }
+});

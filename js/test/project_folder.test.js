@@ -1,0 +1,67 @@
+// The project file: what it says, and each of its faults with its line.
+import assert from "node:assert/strict";
+import { mkdirSync, mkdtempSync, rmSync, symlinkSync, writeFileSync } from "node:fs";
+import { tmpdir } from "node:os";
+import { join } from "node:path";
+import { test } from "node:test";
+import { ProjectFault, readProject } from "../core/project/project_folder.js";
+import { readProjectToml } from "../core/project/project_toml.js";
+import { projectIn } from "../node/project_folder.mjs";
+
+const GOOD = "board = \"board.toml\"\nprogram = \"main.asm\" # the source\n";
+const bytesOf = (text) => new TextEncoder().encode(text);
+const firstFault = (text) => {
+  const [{ line, words }] = readProjectToml(text).faults;
+  return `${line}: ${words}`;
+};
+
+test("a project file names files, and a speed", () => {
+  const rest = "tests = [\n  \"a.test\",\n  \"more/b.test\",\n]\nproperties = []\nspeed = \"full\"\r\n";
+  const { names, faults } = readProjectToml(`\uFEFF${GOOD}${rest}`);
+  assert.deepEqual(faults, []);
+  assert.deepEqual(names.board, { path: "board.toml", key: "board", line: 1, from: 8, to: 20 });
+  assert.deepEqual(names.tests.map(({ path, line }) => [path, line]), [["a.test", 4], ["more/b.test", 5]]);
+  assert.deepEqual([names.properties, names.speed], [[], "full"]);
+});
+
+test("what is wrong in a project file is told with its line", () => {
+  assert.match(firstFault(`${GOOD}lamp = "x"\n`), /^3: a project has no key lamp; it has board, program/);
+  assert.match(firstFault("board = \"b.toml\"\n"), /^1: program is missing/);
+  assert.match(firstFault(`${GOOD}board = "c.toml"\n`), /^3: board stands in line 1 already/);
+  assert.match(firstFault(`${GOOD}tests = "a.test"\n`), /^3: tests is a list of paths/);
+  assert.match(firstFault(`${GOOD}tests = [1]\n`), /^3: tests is a list of paths/);
+  assert.match(firstFault("board = []\n"), /^1: board is the path of a file/);
+  assert.match(firstFault(`${GOOD}speed = "quick"\n`), /^3: speed is one of "real", .* and "full"$/);
+  assert.match(firstFault(`${GOOD}[[rom]]\nchip = 0\n`), /^3: a project has no tables/);
+  assert.match(firstFault("board = b.toml\n"), /^1: b.toml is a text, so it stands in quotes/);
+  for (const path of ["/etc/passwd", "../b.toml", "a/../../b.toml", "a\\\\b", ""]) {
+    assert.match(firstFault(`board = "${path}"\n`), /^1: .*(folder|path)/, path);
+  }
+});
+
+test("a project's files have to be in its folder", () => {
+  const paths = readProject(bytesOf(GOOD), () => "");
+  assert.deepEqual(paths, { board: "board.toml", program: "main.asm", tests: [], properties: [], speed: "" });
+  assert.throws(() => readProject(bytesOf(GOOD), (path) => (path === "main.asm" ? "there is no file main.asm" : "")),
+    new ProjectFault("mcs4.toml", "program: there is no file main.asm", 2));
+  for (const bytes of [bytesOf(""), new Uint8Array(20000), bytesOf("board\0")]) {
+    assert.throws(() => readProject(bytes, () => ""), ProjectFault);
+  }
+});
+
+test("a project of the disk", (context) => {
+  const folder = mkdtempSync(join(tmpdir(), "project_folder."));
+  context.after(() => rmSync(folder, { recursive: true }));
+  assert.throws(() => projectIn(folder), /mcs4\.toml: there is no such file/);
+  writeFileSync(join(folder, "mcs4.toml"), GOOD);
+  writeFileSync(join(folder, "main.asm"), "NOP\n");
+  assert.throws(() => projectIn(folder), /mcs4\.toml: line 1: board: there is no file board\.toml$/);
+  symlinkSync("/etc/hostname", join(folder, "board.toml"));
+  assert.throws(() => projectIn(folder), /line 1: board: board\.toml is a link that leads out of the project's folder$/);
+  rmSync(join(folder, "board.toml"));
+  mkdirSync(join(folder, "board.toml"));
+  assert.throws(() => projectIn(folder), /line 1: board: board\.toml is a folder, not a file$/);
+  rmSync(join(folder, "board.toml"), { recursive: true });
+  writeFileSync(join(folder, "board.toml"), "");
+  assert.equal(projectIn(folder).program, join(folder, "main.asm"));
+});

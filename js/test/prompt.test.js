@@ -1,0 +1,229 @@
+// The debugger at the prompt, without a terminal: its commands, what they print, what they refuse, and what a line can go on with.
+import assert from "node:assert/strict";
+import { readFileSync } from "node:fs";
+import { test } from "node:test";
+import { DebugSession } from "../core/debug/debug_session.js";
+import { COMMANDS, commandOf, helpOf } from "../core/prompt/command_table.js";
+import { Prompt } from "../core/prompt/prompt.js";
+import { View, sizeOf } from "../core/prompt/view.js";
+import { countIn, cyclesIn, instructionIn } from "../core/prompt/words_of_line.js";
+import { Engine } from "../core/engine/engine.js";
+import { dataOfPage } from "../node/page_parts.mjs";
+import { moduleOfPage } from "./page_session.js";
+
+const engine = new Engine(new globalThis.WebAssembly.Module(moduleOfPage));
+const data = dataOfPage();
+const read = (name) => readFileSync(new URL(`../../examples/${name}`, import.meta.url), "utf8");
+const BOARD = read("three_lamps/board.toml");
+const PROGRAM = read("three_lamps/three_lamps.asm");
+const LOCK = { board: read("lock/board.toml"), program: read("lock/lock.asm") };
+
+/** A prompt, with what it has printed and refused since it was asked last. */
+async function prompted({ board, program } = { board: BOARD, program: PROGRAM }, isByHand = false) {
+  let told = [];
+  const session = new DebugSession(engine, { board, program });
+  const launched = { session, kept: null, program: "p.asm", board: "b.toml", stopsOnEntry: true, isDebugged: true, nameOf: (name) => name };
+  const calls = {
+    print: (words) => told.push(...words.split("\n")),
+    complain: (words) => told.push(`refused: ${words}`),
+    pause: async () => {},
+    source: () => PROGRAM.replace("time  = 0x0C", "time  = 0x0D"),
+    isByHand,
+    view: null,
+  };
+  const prompt = new Prompt(launched, data, calls);
+  await prompt.begin();
+  const ask = async (...lines) => {
+    told = [];
+    for (const line of lines) await prompt.take(line);
+    return told;
+  };
+  return { prompt, session, ask, told: () => told };
+}
+
+test("the table of commands: each is there, is found by its words, and has help", async () => {
+  const { prompt } = await prompted();
+  assert.deepEqual(Object.keys(prompt.acts).sort(), COMMANDS.map(({ name }) => name).sort());
+  const words = COMMANDS.flatMap(({ name, short }) => [name, ...short]);
+  assert.equal(new Set(words).size, words.length);
+  for (const word of words) assert.ok(commandOf(word).command, word);
+  for (const { name, use, does } of COMMANDS) {
+    assert.ok(helpOf(name).startsWith(`${use}: ${does}.`), name);
+    assert.ok(use.startsWith(name === "x" ? "x[" : name), name);
+  }
+  assert.equal(commandOf("und").command.name, "undisplay");
+  assert.equal(commandOf("re").words, "re is not clear: reverse-step, reverse-next, reverse-continue, release, reset");
+  assert.equal(commandOf("bogus").words, "there is no command bogus; help shows them all");
+});
+
+test("places, counts and times", async () => {
+  const { session } = await prompted();
+  const at = (text) => instructionIn(text, session);
+  assert.deepEqual(at("wait"), { line: session.map.lineOf(0x014), address: 0x014 });
+  assert.deepEqual(at("WAIT + 2").address, 0x016);
+  assert.deepEqual(at("*0x016").address, 0x016);
+  assert.deepEqual(at("three_lamps.asm:1").address, 0);
+  assert.deepEqual(at("").address, 0);
+  for (const wrong of ["nothing", "0x1000", "999", "wait + x", "-1"]) assert.throws(() => at(wrong), /place|addresses|instruction/, wrong);
+  assert.deepEqual([countIn("", 9), countIn(" 7 ", 9)], [1, 7]);
+  for (const wrong of ["0", "10", "x", "-1", "1.5"]) assert.throws(() => countIn(wrong, 9), /a count is 1 to 9/, wrong);
+  assert.deepEqual([cyclesIn("538"), cyclesIn("20 ms"), cyclesIn("1s")], [538, 1852, 92593]);
+  assert.throws(() => cyclesIn("soon"), /soon is no time/);
+});
+
+test("moves, and the same way back", async () => {
+  const { session, ask } = await prompted();
+  const state = () => session.debugger.session.ask("state\n")[0].replace(/^state seq \d+/, "");
+  const before = state();
+  assert.deepEqual(await ask("step 3"), ["3 instructions were done, after 4 cycles, 0.043 ms.", ">    7  004          XCH R4"]);
+  await ask("reverse-step 3");
+  assert.equal(state(), before);
+  await ask("until wait");
+  assert.equal(session.address, 0x014);
+  assert.match((await ask("backtrace"))[1], /^#1 {2}007 {2}next \+ 2, line \d+, the call$/);
+  assert.match((await ask("finish"))[0], /^Returned to 009 \(next \+ 4, line \d+\)/);
+  assert.match((await ask("reverse-next"))[0], /^Back at 007 \(next \+ 2, line \d+\): this instruction is not done\.$/);
+  assert.match((await ask("next"))[0], /^Returned to 009/);
+  assert.match((await ask("back lamps")).join(), /Back at 006 .*: this instruction changes lamps from \.\.\. to \.\.\*\./);
+  assert.match((await ask("forward"))[1], /^Forward again to 009/);
+  assert.deepEqual(await ask("finish"), ["refused: no call waits for its return here"]);
+});
+
+test("back to arrivals at breakpoints, to changes of what is watched, and to the stop before", async () => {
+  const { session, ask } = await prompted();
+  const total = () => session.debugger.session.count.total;
+  await ask("break next if r4 = 2", "continue");
+  const first = total();
+  await ask("run 50", "run 60");
+  const words = async (line) => (await ask(line)).find((each) => each.startsWith("Back at"));
+  assert.match(await words("back"), /^Back at the stop at .*, 60 cycles, .* before\.$/);
+  assert.match(await words("reverse-continue"), /^Back at 005 \(next, line \d+\), 50 cycles, .*, at a breakpoint, where r4 = 2\.$/);
+  assert.equal(total(), first);
+  await ask("watch lamps");
+  assert.match(await words("rc"), /: this instruction changes lamps from \.\.\. to \.\.\*\.$/);
+  assert.match(await words("rc"), /^Back at 000 .*, where what is remembered begins: no breakpoint was passed since\.$/);
+  assert.equal(total(), 0);
+  assert.deepEqual(await ask("rc"), ["refused: Nothing was done: what is remembered reaches no further back."]);
+  assert.match((await ask("rc 3")).join(), /^refused: reverse-continue stands alone/);
+});
+
+test("a run among lines of the bench ends at breakpoints as time does that runs", async () => {
+  const { session, ask } = await prompted();
+  const total = () => session.debugger.session.count.total;
+  await ask("break next if r4 = 2", "continue");
+  const [cycles, before] = [total(), session.breakpoints.all[0].hits];
+  await ask("back");
+  assert.equal(total(), 0);
+  const told = (await ask("bench run 100000")).filter((line) => /^(ok|Stopped)/.test(line));
+  assert.equal(total(), cycles);
+  assert.match(told[0], new RegExp(`^ok \\d+ ran ${cycles} end$`));
+  assert.match(told[1], /^Stopped at 005 \(next, line \d+\), at a breakpoint, where r4 = 2\. The line run 100000 ended there\.$/);
+  assert.equal(session.breakpoints.all[0].hits, before + 1);
+  await ask("delete", 'break next if r4 = 4 log "R4 is {r4}"');
+  const logged = await ask("bench run 20000");
+  assert.deepEqual(logged.filter((line) => line.startsWith("R4")), Array(session.breakpoints.all[0].hits).fill("R4 is 4"));
+  assert.match(logged[logged.length - 1], /^ok \d+ ran 20000 end$/);
+});
+
+test("breakpoints with conditions, counts and notes; watches", async () => {
+  const { ask, session } = await prompted();
+  assert.match((await ask("break wait from 3"))[0], /^Breakpoint 1 at 014 \(wait, line \d+\)\.$/);
+  assert.match((await ask("continue")).join("|"), /Stopped at 014 \(wait, line \d+\), at a breakpoint, at hit 3\.\|>\*/);
+  assert.match((await ask("info breakpoints"))[0], /^1 {2}line \d+ at 0x014 from 3, 3 hits$/);
+  assert.deepEqual(await ask("disable 1", "delete 7"), ["refused: there is no breakpoint 7; info breakpoints has their numbers"]);
+  await ask("delete", "break next if r4 = 4 log \"R4 is {r4}\"");
+  const notes = (await ask("run 100 ms")).filter((line) => line.startsWith("R4"));
+  assert.deepEqual(notes, Array(session.breakpoints.all[0].hits).fill("R4 is 4"));
+  assert.ok(notes.length > 1);
+  const [refused] = await ask("break next if r4 is big");
+  assert.match(refused, /^refused: /);
+  assert.equal(session.breakpoints.all.length, 1, "the one before stays");
+  await ask("delete");
+  assert.deepEqual(await ask("continue"), ["refused: nothing would stop it: set a breakpoint, or let a time pass by run 100 ms"]);
+  assert.deepEqual(await ask("watch r4", "info watches"), ["r4 is watched by continue.", "r4, by continue"]);
+  assert.match((await ask("continue")).join(), /after r4 changed/);
+  assert.match((await ask("watch acc"))[0], /^refused: r4 is watched/);
+  assert.deepEqual(await ask("watch ram.0.0x01", "delete r4", "info watches"), ["ram.0.0x01 is watched.", "ram.0.0x01"]);
+  assert.deepEqual(await ask("watch chain0.1"), ["refused: the board has no chain0.1"]);
+});
+
+test("what is shown, printed and set", async () => {
+  const { ask } = await prompted();
+  assert.deepEqual(await ask("set r4 = 0x0B", "print r4", "print P2", "set p2 time", "print p2"), ["0xB", "0xB0", "0x0C"]);
+  assert.deepEqual(await ask("x/2 wait"), ["  014 22 0C wait: FIM P1, 0x0C", "  016 73 16 turn: ISZ R3, 0x016"]);
+  assert.deepEqual(await ask("set ram.0.0x02 7", "x/4 ram.0.0x00"), ["ram.0.0x00  0070"]);
+  assert.deepEqual(await ask("display r4", "next"), ["1: r4 = 0x0", "At 002 (line 5), after 2 cycles, 0.022 ms.",
+    ">    5  002          SRC P0          ; the RAM chip", "1: r4 = 0x0"]);
+  assert.match((await ask("list wait")).join("\n"), /wait: {3}FIM P1, time/);
+  assert.match((await ask("info registers"))[0], /^acc 0 {2}cy 0 {2}pc 002/);
+  assert.match((await ask("info names")).join("\n"), /^time {12} 0C$/m);
+  assert.match((await ask("info"))[0], /^refused: info shows registers, ram, ports, keys, breakpoints, .*, session$/);
+  assert.match((await ask("bench lamps"))[0], /^lamps \.\.\.$/);
+  assert.match((await ask("bench poke r16 1"))[0], /^refused: no 11/);
+  assert.match((await ask("load"))[0], /The source is in ROM/);
+  assert.deepEqual(await ask("print time"), ["0x0D, 13"]);
+});
+
+test("the view: source, registers, lamps, in any size; values that are others stand out", async () => {
+  const { prompt, ask } = await prompted();
+  assert.match((await ask("view")).join(), /^refused: the view is for a terminal/);
+  assert.match((await ask("view far")).join(), /^refused: it is written as view, view on or view off$/);
+  const turned = [];
+  prompt.calls.view = { toggle: () => "no room", turn: (isOn) => { turned.push(isOn); return ""; } };
+  assert.deepEqual(await ask("tui enable", "layout src", "view off"), []);
+  assert.deepEqual([turned, await ask("view")], [[true, true, false], ["refused: no room"]]);
+  const plain = (text) => text;
+  const marks = { head: plain, here: (text) => `[${text}]`, other: (text) => `{${text}}` };
+  const view = new View(prompt);
+  assert.deepEqual(sizeOf(24, 80), { rows: 14, columns: 79 });
+  assert.deepEqual([sizeOf(11, 80), sizeOf(24, 39), sizeOf(undefined, undefined)], [null, null, null]);
+  view.lines(sizeOf(24, 80), marks);
+  await ask("until wait", "display r4", "hold 1");
+  const lines = view.lines(sizeOf(24, 80), marks);
+  assert.equal(lines.length, 14);
+  assert.match(lines[0], /^p\.asm {2}014 \(wait, line 20\) {2}9 cycles, 0\.097 ms *$/);
+  const here = lines.find((line) => line.startsWith("["));
+  assert.match(here, /^\[> {3}20 {2}014 {2}wait: {3}FIM P1, time\] +returns 009 000 000$/);
+  assert.match(lines.join("\n"), /\{acc 1\} {3}cy 0 .*\n.*\n.*P0 00 {2}P1 00\n.*\{P2 10\}/);
+  assert.deepEqual(lines.slice(-3), ["lamps ..* right", "r4 = 0x1", "-".repeat(79)]);
+  for (const [rows, columns] of [[12, 40], [24, 60], [50, 200]]) {
+    const size = sizeOf(rows, columns);
+    const told = view.lines(size, { head: plain, here: plain, other: plain });
+    assert.equal(told.length, size.rows);
+    assert.deepEqual(told.filter((line) => line.length > size.columns), []);
+    assert.match(told.join("\n"), /acc 1/);
+    assert.ok(told.some((line) => line.startsWith(">")));
+  }
+});
+
+test("keys", async () => {
+  const { ask } = await prompted(LOCK);
+  assert.match((await ask("info keys"))[0], /^1 2 3/);
+  await ask("run 20 ms");
+  assert.match((await ask("press 12")).join(), /Stands at/);
+  assert.deepEqual((await ask("hold 1", "info keys"))[1], "down: 0.0");
+  assert.deepEqual((await ask("release 1", "info keys"))[1], "none is down");
+  assert.match((await ask("press Q"))[0], /^refused: the board has no key Q; it has: 1 2 3/);
+  await ask("break 0x000");
+  const { ask: none } = await prompted();
+  assert.deepEqual(await none("press 1"), ["refused: the board has no keys"]);
+});
+
+test("an empty line does the last move again where a person types", async () => {
+  const { ask, session } = await prompted(undefined, true);
+  await ask("step", "", "");
+  assert.equal(session.address, 0x004);
+  await ask("info registers", "");
+  assert.equal(session.address, 0x004);
+  const script = await prompted();
+  await script.ask("step", "", "");
+  assert.equal(script.session.address, 0x002);
+});
+
+test("what a line can go on with", async () => {
+  const { prompt } = await prompted();
+  assert.deepEqual(prompt.complete("unt"), [["until "], "unt"]);
+  assert.deepEqual(prompt.complete("until wa"), [["wait"], "wa"]);
+  assert.deepEqual(prompt.complete("info reg"), [["registers"], "reg"]);
+  assert.deepEqual(prompt.complete("bogus wa")[1], "wa");
+});

@@ -1,0 +1,214 @@
+// The language server, without a process: its messages, its texts, and what it answers by the module of the page.
+import assert from "node:assert/strict";
+import { test } from "node:test";
+import { readFileSync } from "node:fs";
+import { Connection } from "../core/server/connection.js";
+import { cures, diagnosticsOf } from "../core/server/diagnostics.js";
+import { LONGEST_MESSAGE, MessageReader, StreamLost, framed } from "../core/server/framing.js";
+import { boardUriOf, isBoard, isProgram } from "../core/server/kinds.js";
+import { LanguageServer } from "../core/server/language_server.js";
+import { OpenText } from "../core/server/open_text.js";
+import { tokenCodes } from "../core/server/token_codes.js";
+import { Engine } from "../core/engine/engine.js";
+import { dataOfPage } from "../node/page_parts.mjs";
+import { moduleOfPage } from "./page_session.js";
+
+const engine = new Engine(new globalThis.WebAssembly.Module(moduleOfPage));
+const BOARD = readFileSync(new URL("../../examples/lock/board.toml", import.meta.url), "utf8");
+const bytesOf = (text) => new TextEncoder().encode(text);
+
+/** A server with one who asks it; `files` are beside the texts. */
+function served(files = {}) {
+  const reader = new MessageReader();
+  const told = [];
+  let status = null;
+  const connection = new Connection((bytes) => told.push(...reader.take(bytes).map(({ text }) => JSON.parse(text))), (ended) => {
+    status = ended;
+  });
+  const host = { readFile: (uri) => files[uri] || null, pause: async () => {} };
+  const server = new LanguageServer(connection, engine, dataOfPage(), host);
+  const answer = async (method, params, id = told.length + 1) => {
+    connection.take(framed({ jsonrpc: "2.0", id, method, params }));
+    for (let turns = 0; turns < 200 && !told.some((each) => each.id === id); turns++) await new Promise(setImmediate);
+    return told.find((each) => each.id === id);
+  };
+  const ask = async (method, params) => (await answer(method, params)).result;
+  const open = async (uri, text, languageId = "asm") => {
+    const textDocument = { uri, languageId, version: 1, text };
+    connection.take(framed({ jsonrpc: "2.0", method: "textDocument/didOpen", params: { textDocument } }));
+    const begin = { line: 0, character: 0 };
+    await ask("textDocument/codeAction", { textDocument: { uri }, range: { start: begin, end: begin } });
+    return told.filter((each) => each.method === "textDocument/publishDiagnostics" && each.params.uri === uri).pop().params.diagnostics;
+  };
+  const at = (uri, line, character) => ({ textDocument: { uri }, position: { line, character } });
+  return { server, connection, told, answer, ask, open, at, begin: () => ask("initialize", {}), status: () => status };
+}
+
+test("messages come out of a stream, wherever it is cut", () => {
+  const bytes = new Uint8Array([...framed({ id: 1 }), ...framed({ id: "\u00e9" })]);
+  for (const step of [1, 2, 7, bytes.length]) {
+    const reader = new MessageReader();
+    const texts = [];
+    for (let at = 0; at < bytes.length; at += step) texts.push(...reader.take(bytes.subarray(at, at + step)));
+    assert.deepEqual(texts.map(({ text }) => JSON.parse(text).id), [1, "\u00e9"]);
+  }
+  const reader = new MessageReader();
+  assert.deepEqual(reader.take(bytesOf("content-length: 2\r\nX: y\r\n\r\n{}")), [{ text: "{}" }]);
+  assert.throws(() => new MessageReader().take(bytesOf("GET / HTTP/1.1\r\n\r\n")), StreamLost);
+  assert.throws(() => new MessageReader().take(bytesOf("x".repeat(5000))), StreamLost);
+});
+
+test("a message that is too long is left out, and the next one is read", () => {
+  const reader = new MessageReader();
+  assert.deepEqual(reader.take(bytesOf(`Content-Length: ${LONGEST_MESSAGE + 1}\r\n\r\n`)), []);
+  assert.deepEqual(reader.take(new Uint8Array(LONGEST_MESSAGE)), []);
+  const rest = reader.take(new Uint8Array([32, ...framed({ id: 1 })]));
+  assert.deepEqual(rest.map((each) => each.tooLong || JSON.parse(each.text).id), [LONGEST_MESSAGE + 1, 1]);
+});
+
+test("edits of a text, also those outside of it", () => {
+  const open = new OpenText("file:///a.asm", "asm", "one\r\ntwo\rthree", 1);
+  assert.deepEqual(open.lines, ["one", "two", "three"]);
+  const range = (...at) => ({ start: { line: at[0], character: at[1] }, end: { line: at[2], character: at[3] } });
+  open.edit(range(0, 1, 1, 2), "X\nY");
+  assert.equal(open.text, "oX\nYo\nthree");
+  open.edit(range(2, 99, 99, 99), "!");
+  assert.equal(open.text, "oX\nYo\nthree!");
+  open.edit(range(1, 2, 1, 0), "");
+  assert.equal(open.text, "oX\n\nthree!");
+  open.edit(null, "");
+  assert.deepEqual(open.lines, [""]);
+});
+
+test("what is a board and what a program", () => {
+  const open = (uri, text, language = "toml") => new OpenText(uri, language, text, 1);
+  assert.equal(isBoard(open("file:///a/board.toml", "")), true);
+  assert.equal(isBoard(open("file:///a/x.toml", "lamp = [{ line = \"ram0.0.0\" }]")), true);
+  assert.equal(isBoard(open("file:///a/Cargo.toml", "[package]\nname = \"x\"\n[keys]\n")), false);
+  assert.equal(isProgram(open("file:///a/x.asm", "", "asm")), true);
+  assert.equal(isProgram(open("file:///a/x.test", "", "text")), false);
+  assert.equal(isBoard(open("file:///a/mcs4.toml", "[[rom]]")), false);
+});
+
+test("the board of a program, by its project file", () => {
+  const project = "board = \"my board.toml\"\nprogram = \"x.asm\"\n";
+  const textOf = (files) => (uri) => (uri in files ? files[uri] : null);
+  assert.equal(boardUriOf("file:///a/x.asm", textOf({})), "file:///a/board.toml");
+  assert.equal(boardUriOf("file:///a/x.asm", textOf({ "file:///a/mcs4.toml": project })), "file:///a/my%20board.toml");
+  assert.equal(boardUriOf("file:///a/b/c/x.asm", textOf({ "file:///a/mcs4.toml": project })), "file:///a/my%20board.toml");
+  assert.equal(boardUriOf("file:///a/x.asm", textOf({ "file:///a/mcs4.toml": "board = 1" })), "file:///a/board.toml");
+  assert.equal(boardUriOf("untitled:x", textOf({})), "board.toml");
+});
+
+test("the faults of a project file, and a program on the board that it names", async () => {
+  const files = { "file:///a/b/wires.toml": BOARD, "file:///a/b/x.asm": "NOP\n" };
+  const { begin, open, told, ask } = served(files);
+  await begin();
+  const uri = "file:///a/b/mcs4.toml";
+  const words = async (text) => (await open(uri, text, "toml")).map(({ range, message }) => `${range.start.line}: ${message}`);
+  assert.deepEqual(await words("board = \"wires.toml\"\nprogram = \"x.asm\"\n"), []);
+  assert.deepEqual(await words("board = \"wires.toml\"\nprogram = \"y.asm\"\n"), ["1: program: there is no file y.asm"]);
+  assert.match((await words("board = 7\nprogram = \"x.asm\"\nspeed = \"fast\"\n")).join(), /^0: board is the path.*,2: speed is one of/);
+  const tooFar = await open("file:///a/b/x.asm", "    = 0x100\n    NOP\n");
+  const count = told.length;
+  await open(uri, "board = \"wires.toml\"\nprogram = \"x.asm\"\n", "toml");
+  await ask("textDocument/documentSymbol", { textDocument: { uri: "file:///a/b/x.asm" } });
+  assert.ok(told.slice(count).some(({ params }) => params && params.uri === "file:///a/b/x.asm"), "the program is looked at again");
+  assert.ok(Array.isArray(tooFar));
+});
+
+test("words with their kinds as numbers", () => {
+  const words = [{ line: 1, from: 2, to: 5, type: "keyword" }, { line: 0, from: 0, to: 3, type: "function", isDeclaration: true }];
+  assert.deepEqual(tokenCodes([...words, { line: 1, from: 6, to: 8, type: "enumMember", isReadonly: true }]),
+    [0, 0, 3, 1, 1, 1, 2, 3, 4, 0, 0, 4, 2, 3, 2]);
+});
+
+test("faults with what cures them, and that there may be more", () => {
+  const faults = [{ number: 30, line: 2, from: 8, to: 11, words: "JMP is no instruction; JUN?", cures: ["JUN"] },
+    { number: 32, line: 3, from: 0, to: 2, words: "b" }];
+  assert.deepEqual(diagnosticsOf(faults, true).map(({ severity, code }) => [severity, code]), [[1, 30], [1, 32]]);
+  assert.deepEqual(diagnosticsOf(faults, false).map(({ severity }) => severity), [1, 1, 3]);
+  const at = (line, character) => ({ start: { line, character }, end: { line, character } });
+  assert.deepEqual(cures("u", faults, at(1, 11)).map(({ title }) => title), ["Write JUN"]);
+  assert.deepEqual(cures("u", faults, at(1, 12)), []);
+});
+
+test("the order of the protocol", async () => {
+  const { answer, begin, connection, told, status } = served();
+  assert.equal((await answer("textDocument/hover", {})).error.code, -32002);
+  assert.ok((await begin()).capabilities.renameProvider);
+  assert.equal((await answer("initialize", {})).error.code, -32600);
+  assert.equal((await answer("constructor", {})).error.code, -32601);
+  const nowhere = { textDocument: { uri: "file:///none.asm" }, position: { line: 0, character: 0 } };
+  assert.equal((await answer("textDocument/hover", nowhere)).error.code, -32602);
+  assert.equal((await answer("textDocument/hover", { position: { line: -1 } })).error.code, -32602);
+  connection.take(bytesOf("Content-Length: 1\r\n\r\n{"));
+  assert.equal(told[told.length - 1].error.code, -32700);
+  connection.take(framed({ jsonrpc: "2.0", id: 7 }));
+  assert.deepEqual([told[told.length - 1].id, told[told.length - 1].error.code], [7, -32600]);
+  assert.equal((await answer("shutdown")).result, null);
+  assert.equal((await answer("textDocument/hover", {})).error.code, -32600);
+  connection.take(framed({ jsonrpc: "2.0", method: "exit" }));
+  assert.equal(status(), 0);
+});
+
+test("all faults of a program, on the board beside it, and cures", async () => {
+  const { ask, begin, open } = served({ "file:///a/board.toml": BOARD });
+  await begin();
+  const uri = "file:///a/x.asm";
+  const told = await open(uri, "begin: JMP begn\n  LDM 0FH\nzero EQU 4\n  JUN begni\n");
+  assert.deepEqual(told.map(({ range, message }) => [range.start.line, range.start.character, range.end.character, message]), [
+    [0, 7, 10, "JMP is no instruction; JUN?"],
+    [1, 6, 9, "LDM takes a value, 0 to 15; hexadecimal is 0x0F"],
+    [2, 5, 10, "a name gets its number by =: zero = 4"],
+    [3, 6, 11, "begni is not defined; begin?"],
+  ]);
+  const range = { start: { line: 0, character: 0 }, end: { line: 9, character: 0 } };
+  const actions = await ask("textDocument/codeAction", { textDocument: { uri }, range });
+  assert.deepEqual(actions.map(({ title }) => title), ["Write JUN", "Write 0x0F", "Write = 4", "Write begin"]);
+  const lacks = await open("file:///a/y.asm", " ORG 0x200\n NOP\n");
+  assert.match(lacks[0].message, /^the board has no ROM 2, where this line stands/);
+  assert.deepEqual(await open("file:///b/y.asm", " ORG 0x200\n NOP\n"), []);
+});
+
+test("a program's words, names and places", async () => {
+  const { answer, ask, at, begin, open } = served();
+  await begin();
+  const uri = "file:///a/x.asm";
+  assert.deepEqual(await open(uri, "four = 4\nturn: LDM four ; turn\n JUN turn\n"), []);
+  const hover = await ask("textDocument/hover", at(uri, 2, 6));
+  assert.equal(hover.contents.value, "turn: address 0x000, line 2\n\nline 3: address 0x001, 40 00, 2 cycles");
+  assert.match((await ask("textDocument/hover", at(uri, 1, 7))).contents.value,
+    /^LDM d: 1 word, 1 cycle\. .*\n\nline 2: address 0x000, D4, 1 cycle$/);
+  assert.equal(await ask("textDocument/hover", at(uri, 1, 18)), null);
+  assert.deepEqual((await ask("textDocument/definition", at(uri, 2, 6))).range.start, { line: 1, character: 0 });
+  assert.equal((await ask("textDocument/references", { ...at(uri, 2, 6), context: { includeDeclaration: false } })).length, 1);
+  const { changes } = await ask("textDocument/rename", { ...at(uri, 2, 6), newName: "round" });
+  assert.deepEqual(changes[uri].map(({ range }) => range.start.line), [1, 2]);
+  assert.match((await answer("textDocument/rename", { ...at(uri, 2, 6), newName: "LDM" })).error.message, /is an instruction/);
+  assert.match((await answer("textDocument/rename", { ...at(uri, 2, 2), newName: "x" })).error.message, /No name/);
+  assert.deepEqual((await ask("textDocument/completion", at(uri, 2, 3))).map(({ label, detail }) => [label, detail]),
+    [["JUN", "t   jump unconditional: to t"]]);
+  const symbols = await ask("textDocument/documentSymbol", { textDocument: { uri } });
+  assert.deepEqual(symbols.map(({ name, kind, range }) => [name, kind, range.end.line]), [["four", 14, 0], ["turn", 12, 3]]);
+  assert.equal((await ask("textDocument/semanticTokens/full", { textDocument: { uri } })).data.length, 5 * 8);
+});
+
+test("a board's words and places: a lamp's line leads to its chip", async () => {
+  const { ask, at, begin, open } = served();
+  await begin();
+  const uri = "file:///a/board.toml";
+  assert.deepEqual(await open(uri, BOARD, "toml"), []);
+  const lines = BOARD.split("\n");
+  const lamp = lines.findIndex((line) => line.startsWith("lamp ="));
+  const column = lines[lamp].indexOf("ram0.0.2");
+  assert.deepEqual((await ask("textDocument/definition", at(uri, lamp, column + 3))).range.start.line, lines.indexOf("[[ram]]"));
+  assert.match((await ask("textDocument/hover", at(uri, lamp, column + 3))).contents.value,
+    /^ram0\.0\.2: line 2 of the port of RAM chip 0 in bank 0, lamp 2 \(alarm\); its chip stands in line \d+\.$/);
+  assert.equal((await ask("textDocument/references", at(uri, lines.indexOf("[[ram]]"), 3))).length, 4);
+  const wrong = await open("file:///b/board.toml", BOARD.replace("chips = 1", "chip = 1"), "toml");
+  assert.deepEqual(wrong.map(({ message }) => message), ["this ram lacks chips", "chip is no key of ram; chips?"]);
+  const range = { start: { line: 0, character: 0 }, end: { line: lines.length, character: 0 } };
+  const actions = await ask("textDocument/codeAction", { textDocument: { uri: "file:///b/board.toml" }, range });
+  assert.deepEqual(actions.map(({ title }) => title), ["Write chips"]);
+});

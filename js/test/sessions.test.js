@@ -1,0 +1,132 @@
+// Sessions that are begun, deleted and brought back, and the words beside them.
+import assert from "node:assert/strict";
+import { test } from "node:test";
+import { addressOf, readAddress } from "../page/session/address.js";
+import { Bin, namesOf } from "../page/session/bin.js";
+import { KeptSession, newRecord } from "../page/session/kept_session.js";
+import { Persistence } from "../page/session/persistence.js";
+import { MemoryStore } from "../page/session/store.js";
+import { TextsController, wordsOfLines } from "../page/session/texts_controller.js";
+
+const record = (name = "die") => newRecord(name, Uint8Array.of(1, 2), { boardText: "# b", programText: "; p" });
+const freeLocks = { take: async () => () => {} };
+
+test("what an address names", () => {
+  for (const [kind, value] of [["session", "m1-2-x"], ["example", "traffic light"], ["link", "1.abc-_"], ["example", "50 % \u00fc"]]) {
+    assert.deepEqual(readAddress(addressOf(kind, value)), { kind, value });
+  }
+  assert.deepEqual(readAddress("#example=50%"), { kind: "example", value: "50%" });
+  for (const other of ["", "#", "#help", "#sessions=1", "#link"]) assert.deepEqual(readAddress(other), { kind: "", value: "" });
+});
+
+test("a session of an example is not kept before something is done in it", async () => {
+  const store = new MemoryStore();
+  const session = new KeptSession(store, record(), () => {}, "die");
+  assert.equal(await session.keep(), "");
+  assert.equal(await session.keepNow(), "");
+  assert.deepEqual(await store.all(), []);
+  assert.deepEqual([session.touch(), session.touch()], [true, false]);
+  await session.keep();
+  assert.equal((await store.all()).length, 1);
+});
+
+test("sessions are deleted several at once, and brought back as they were", async () => {
+  const store = new MemoryStore();
+  const records = [record("one"), record("two"), record("three")];
+  for (const each of records) await store.put(each);
+  const refused = [];
+  const bin = new Bin(store, freeLocks, (words) => refused.push(words));
+  const [one, two] = await store.all();
+  assert.deepEqual(await bin.remove([one, two]), [one, two]);
+  assert.deepEqual((await store.all()).map(({ name }) => name), ["three"]);
+  assert.deepEqual(bin.deleted, [one, two]);
+  await bin.bringBack([one, two]);
+  await bin.bringBack([one]);
+  assert.deepEqual((await store.all()).map(({ name, programText }) => name + programText), ["three; p", "one; p", "two; p"]);
+  assert.deepEqual([bin.deleted, refused], [[], []]);
+  assert.deepEqual([namesOf([one]), namesOf([one, two])], ['"one"', "2 sessions"]);
+});
+
+test("what another tab has open is not deleted, and what the store refuses can be brought back later", async () => {
+  const store = new MemoryStore();
+  const [one, two] = [record("one"), record("two")];
+  await store.put(one);
+  await store.put(two);
+  const refused = [];
+  const bin = new Bin(store, { take: async (id) => (id === two.id ? null : () => {}) }, (words) => refused.push(words));
+  assert.deepEqual(await bin.remove([one, two]), [one]);
+  store.put = async () => { throw new DOMException("", "QuotaExceededError"); };
+  await bin.bringBack([one]);
+  assert.deepEqual(bin.deleted, [one]);
+  assert.deepEqual(refused, ['The session "two" is open in another tab, so it was not deleted.',
+    'The session "one" was not brought back: the browser has no more space for this page.']);
+});
+
+test("the browser is asked once to keep what it keeps", async () => {
+  let asked = 0;
+  const one = new Persistence({ persist: async () => { asked += 1; return true; } });
+  assert.equal(one.isPromised, false);
+  await one.ask();
+  await one.ask();
+  assert.deepEqual([asked, one.isPromised], [1, true]);
+  const other = new Persistence({ persist: async () => { throw new Error("blocked"); } });
+  await other.ask();
+  assert.equal(other.isPromised, false);
+  await new Persistence(null).ask();
+});
+
+test("lines in words", () => {
+  assert.deepEqual(["", "a", "a\n", "a\nb", "\n"].map(wordsOfLines), ["0 lines", "1 line", "1 line", "2 lines", "1 line"]);
+});
+
+/** A controller of texts over plain objects; what is asked is answered by `answers`. */
+function controller(answers, programText, found) {
+  const told = { asked: 0, notices: [], kept: 0 };
+  const session = { record: { id: "1", name: "one", boardText: "", programText } };
+  const shown = { session };
+  const notice = { show: (words, kind, action) => told.notices.push({ words, kind, action }) };
+  const ask = { ask: async () => { told.asked += 1; return answers.shift(); } };
+  const editor = (text) => ({ text, open(_id, shownText) { this.text = shownText; }, replaceText(other) { this.text = other; } });
+  const made = new TextsController(editor("# b"), editor(programText), editor(""), editor(""), ask, notice, {
+    session: () => shown.session, touch: () => {}, keep: async () => "", named: () => {}, source: async () => found,
+    failed: (fault) => { throw fault; },
+  });
+  return { made, told, shown, session };
+}
+
+test("a source that is replaced is asked for, and can be brought back", async () => {
+  const { made, told, session } = controller([false, true], "; mine", "\tNOP\n");
+  await made.takeFromRom();
+  assert.deepEqual([made.program.text, told.notices.length], ["; mine", 0]);
+  await made.takeFromRom();
+  assert.deepEqual([made.program.text, session.record.programText, told.asked], ["\tNOP\n", "\tNOP\n", 2]);
+  told.notices.pop().action.act();
+  assert.equal(session.record.programText, "; mine");
+  told.notices.pop().action.act();
+  assert.equal(session.record.programText, "\tNOP\n");
+  clearTimeout(made.editing);
+});
+
+test("an empty source is replaced at once, and the same one not at all", async () => {
+  const { made, told } = controller([], " \n", "\tNOP\n");
+  await made.takeFromRom();
+  assert.equal(made.program.text, "\tNOP\n");
+  await made.takeFromRom();
+  assert.match(told.notices.pop().words, /already/);
+  assert.equal(told.asked, 0);
+  clearTimeout(made.editing);
+});
+
+test("a source of another session is not brought back into this one", async () => {
+  const { made, told, shown, session } = controller([true], "; mine", "\tNOP\n");
+  await made.takeFromRom();
+  shown.session = { record: { id: "2", name: "two", boardText: "", programText: "; two" } };
+  made.show(shown.session.record);
+  told.notices.pop().action.act();
+  assert.equal(made.program.text, "; two");
+  assert.match(told.notices.pop().words, /session "one"/);
+  shown.session = session;
+  told.notices.pop().action.act();
+  assert.equal(made.program.text, "; mine");
+  clearTimeout(made.editing);
+});

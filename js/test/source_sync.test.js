@@ -1,0 +1,114 @@
+import assert from "node:assert/strict";
+import { test } from "node:test";
+import { SourceSync } from "../core/machine/source_sync.js";
+
+const TEXT = "on = 12\ngo: JMS put\n\nput: BBL 0\n";
+const MAP = ["map lines 4 names 3", "line 1 000 0", "line 2 000 2", "line 3 002 0", "line 4 002 1", "name on 00C", "name go 000",
+  "name put 002"];
+const FITS = { map: MAP, refusal: null, difference: null };
+
+/** A source over an editor and a bench that do as they are told by the test. */
+function begin(text, checked) {
+  const seen = { next: [], addresses: [], revealed: [], changed: [], checks: 0 };
+  const now = { text, checked };
+  const sync = new SourceSync({
+    text: () => now.text,
+    check: async () => {
+      seen.checks += 1;
+      return now.checked;
+    },
+    changed: (map, words) => seen.changed.push([map !== null, words]),
+    wordsOfRefusal: (number) => `words of ${number}`,
+  });
+  sync.editor = {
+    showNext: (line) => seen.next.push(line),
+    showAddresses: (addresses) => seen.addresses.push(addresses),
+    reveal: (line) => seen.revealed.push(line),
+  };
+  return { sync, seen, now };
+}
+
+test("a text that stands in ROM: its next line, and none while time runs", async () => {
+  const { sync, seen } = begin(TEXT, FITS);
+  await sync.check();
+  assert.deepEqual(seen.changed, [[true, ""]]);
+  assert.deepEqual(seen.addresses, [["", "000", "", "002"]]);
+  for (const [counter, isRunning] of [[0, false], [0, false], [2, false], [2, true], [0, true], [1, false], [9, false]]) {
+    sync.showNext(counter, isRunning);
+  }
+  assert.deepEqual(seen.next, [2, 4, 0, 2, 0]);
+});
+
+test("the line of an address is brought into view", async () => {
+  const { sync, seen } = begin(TEXT, FITS);
+  sync.reveal(2);
+  await sync.check();
+  for (const address of [2, 9, 0]) sync.reveal(address);
+  assert.deepEqual(seen.revealed, [4, 2]);
+});
+
+test("another text in the editor is shown anew, also where it is the same one", async () => {
+  const { sync, seen } = begin(TEXT, FITS);
+  await sync.check();
+  sync.showNext(0, false);
+  sync.forget();
+  await sync.check();
+  sync.showNext(0, false);
+  assert.deepEqual(seen.changed, [[true, ""], [false, ""], [true, ""]]);
+  assert.deepEqual([seen.addresses.length, seen.next], [2, [2, 2]]);
+});
+
+test("what is told again is not shown again", async () => {
+  const { sync, seen } = begin(TEXT, FITS);
+  await sync.check();
+  await sync.check();
+  assert.equal(seen.changed.length, 1);
+});
+
+test("a text that differs from ROM says where", async () => {
+  const { sync, seen } = begin(TEXT, { map: MAP, refusal: null, difference: { address: 2, hasRom: true } });
+  await sync.check();
+  const words = "The source differs from ROM at 0x002, line 4: assemble it.";
+  assert.deepEqual(seen.changed, [[false, words]]);
+  sync.showNext(0, false);
+  assert.deepEqual(seen.next, []);
+});
+
+test("a text that is refused, or has no ROM to stand in, says so", async () => {
+  const { sync, seen, now } = begin("NOP x\n", { map: [], refusal: { number: 30, line: 1 }, difference: null });
+  await sync.check();
+  now.checked = { map: [], refusal: { number: 13, line: 0 }, difference: null };
+  await sync.check();
+  now.text = ".\n";
+  now.checked = { map: [], refusal: { number: 0, line: 1 }, difference: null };
+  await sync.check();
+  now.checked = { map: MAP, refusal: null, difference: { address: 2, hasRom: false } };
+  await sync.check();
+  assert.deepEqual(seen.changed.map(([, words]) => words), ["The source has a fault in line 1: no 30: words of 30.",
+    "The source has a fault: no 13: words of 13.", "The source has a fault in line 1: a line with only a dot ends the text.",
+    "The board has no ROM at 0x002, where line 4 of the source goes."]);
+});
+
+test("a text that was edited is looked at where that is wanted", async () => {
+  const { sync, seen, now } = begin(TEXT, FITS);
+  await sync.fresh();
+  await sync.fresh();
+  now.text = `\n${TEXT}`;
+  now.checked = { ...FITS, map: ["map lines 5 names 0", "line 1 000 0", "line 2 000 0", "line 3 000 2", "line 4 002 0", "line 5 002 1"] };
+  await sync.fresh();
+  assert.deepEqual([seen.checks, sync.map.addressOf(5)], [2, 2]);
+});
+
+test("an empty text is no program", async () => {
+  const { sync, seen } = begin("", { map: ["map lines 0 names 0"], refusal: null, difference: null });
+  await sync.check();
+  assert.deepEqual(seen.changed, [[false, ""]]);
+});
+
+test("what names mean", async () => {
+  const { sync } = begin(TEXT, FITS);
+  assert.equal(sync.meaningOf("on"), "");
+  await sync.check();
+  assert.deepEqual(["on", "put", "JMS", "constructor"].map((word) => sync.meaningOf(word)), ["on = 0x0C, 12", "put: address 0x002, line 4",
+    "", ""]);
+});

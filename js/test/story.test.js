@@ -1,0 +1,87 @@
+// Stories of examples: their places can be read, and each names what the example has.
+import assert from "node:assert/strict";
+import { readFileSync, readdirSync } from "node:fs";
+import { test } from "node:test";
+import { placeOf } from "../core/bench/places.js";
+import { Face } from "../core/board/face.js";
+import { stepsOfStory } from "../core/help/story.js";
+import { doAct } from "../core/help/story_acts.js";
+import { storyOf } from "../page/session/address.js";
+
+const EXAMPLES = new URL("../../examples/", import.meta.url);
+const stories = readdirSync(EXAMPLES, { recursive: true }).filter((name) => name.endsWith(".story"));
+const read = (name) => readFileSync(new URL(name, EXAMPLES), "utf8");
+const actsOf = (steps) => steps.flatMap(({ words }) => words.flat()).filter((part) => typeof part !== "string").map(({ act }) => act);
+
+test("a text becomes steps, paragraphs and places", () => {
+  const one = "## One\n\nPress [5](press 5)\nand [go\non](run to add_up).\n\nThen [?](fly), [x](show nothing).\n\n";
+  const steps = stepsOfStory(`# All\n\n${one}## Two\n`);
+  assert.deepEqual(steps.map(({ title, words }) => [title, words]), [
+    ["One", [
+      ["Press ", { words: "5", act: { name: "press", of: "5" } }, " and ", { words: "go on", act: { name: "run to", of: "add_up" } }, "."],
+      ["Then ", "?", ", ", "x", "."],
+    ]],
+    ["Two", []],
+  ]);
+  assert.deepEqual(stepsOfStory("no story"), []);
+});
+
+for (const name of stories) {
+  test(`each place of ${name} is there`, () => {
+    const text = read(name);
+    const folder = name.slice(0, name.lastIndexOf("/") + 1);
+    const program = read(name.replace(/story$/, "asm"));
+    const keys = [...new Face(read(`${folder}board.toml`)).keys.values()].map((each) => each.text);
+    const acts = actsOf(stepsOfStory(text));
+    // Each `[` begins a place that could be read.
+    assert.equal(acts.length, text.split("](").length - 1);
+    for (const { name: act, of } of acts) {
+      if (act === "go to" || act === "run to") assert.match(program, new RegExp(`^${of}:`, "m"));
+      if (act === "press" || act === "release") assert.ok(keys.includes(of), of);
+      if (act === "back to") assert.ok(placeOf(of), of);
+    }
+  });
+}
+
+test("an act calls the page, and tells why it cannot", async () => {
+  const done = [];
+  const note = (name) => (...words) => {
+    done.push([name, ...words]);
+  };
+  const key = { legend: "7", key: "0 0" };
+  let isDown = false;
+  let isRunning = false;
+  const calls = {
+    isDown: () => isDown, isRunning: () => isRunning,
+    addressOf: (label) => ({ turn: 2 })[label], keys: () => [key], run: note("run"), stand: note("stand"), goOn: note("goOn"),
+    goBack: note("goBack"), goForward: note("goForward"), goTo: note("goTo"), press: note("press"), showText: note("showText"),
+    showPanel: note("showPanel"),
+  };
+  for (const [name, of = ""] of [
+    ["run"], ["stop"], ["back"], ["forward"], ["go to", "turn"], ["run to", "turn"], ["back to", "r11"], ["press", "7"],
+    ["show", "waves"], ["show", "memory"],
+  ]) assert.equal(await doAct({ name, of }, calls), "");
+  assert.deepEqual(done, [
+    ["run"], ["stand"], ["goBack", { kind: "stop" }], ["goForward"], ["goTo", 2], ["goOn", { kind: "here", address: 2 }],
+    ["goBack", { kind: "change", place: "r11" }], ["press", key], ["showText", "waves"], ["showPanel", "memory"],
+  ]);
+  done.length = 0;
+  assert.match(await doAct({ name: "run to", of: "nowhere" }, calls), /no label nowhere/);
+  assert.match(await doAct({ name: "press", of: "8" }, calls), /no key 8/);
+  assert.match(await doAct({ name: "release", of: "8" }, calls), /no key 8/);
+  // A key that is up is not let go; one that stays down is not pressed again, and is let go.
+  await doAct({ name: "release", of: "7" }, calls);
+  isDown = true;
+  await doAct({ name: "press", of: "7" }, calls);
+  assert.deepEqual(done, []);
+  await doAct({ name: "release", of: "7" }, calls);
+  isRunning = true;
+  await doAct({ name: "press", of: "7" }, calls);
+  assert.deepEqual(done, [["press", key], ["press", key]]);
+});
+
+test("the story that an address names", () => {
+  assert.equal(storyOf("?story=printing%20calculator"), "printing calculator");
+  assert.equal(storyOf("?story=printing_calculator"), "printing calculator");
+  assert.equal(storyOf("?other=1"), "");
+});

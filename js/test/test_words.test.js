@@ -1,0 +1,90 @@
+import assert from "node:assert/strict";
+import { test } from "node:test";
+import { markOfOutcomes, wordsOfCounts, wordsOfFaults, wordsOfOutcomes, wordsOfTime } from "../words/results.js";
+import { textOfCount, wordsOfCount } from "../page/text/count_marks.js";
+import { completeProperty, firstProperties, helpForProperty, propertyForms } from "../core/text/property_words.js";
+import { completeTest, helpForTest, testForms } from "../core/text/test_words.js";
+
+const names = { keys: ["1", "2", "ENTER"], lamps: ["red", "green"], labels: ["start", "stop"] };
+const table = (...rows) => ({ caption: "", head: ["", ""], rows });
+/** Some rows as the manual has them. */
+const manual = [{ title: "The lines of a test", tables: [
+  table(["`test NAME ..`", "begins a test"], ["`press KEY ..`, `release KEY ..`", "keys go down, or up"], ["`reset`", "a power cycle"],
+    ["`run TIME`", "runs for that long"], ["`expect CONDITION`", "fails if it does not hold"]),
+  table(["`lamps NAME ..`, `lamps none`", "these lamps are lit"], ["`@LABEL`", "the counter is there"], ["`acc V`", "a register"],
+    ["`ram.B.S V ..`", "the RAM character: `ram.0.0x00 2 4`"]),
+] }, { title: "What may change", tables: [table(["`press KEY ..`", "these keys may go down"])],
+}, { title: "What must hold", tables: [table(["`never C`", "the condition never holds"], ["`at @LABEL C`", "it holds there"])] }];
+const forms = testForms(manual);
+const completed = (line) => completeTest([line], 0, line.length, names, forms).list.map(({ text }) => text);
+const help = (line, at) => helpForTest([line], 0, at, forms);
+
+test("shared steps that stand before a line are completed", () => {
+  const lines = ["steps unlock", "  keys 1", " steps  lock", "test a", "  do ", "steps later"];
+  const names_ = (line) => completeTest(lines, line, lines[line].length, names, forms).list.map(({ text }) => text);
+  assert.deepEqual([names_(4), completed("do ")], [["unlock", "lock"], []]);
+});
+
+test("words of tests are completed with the names of board and program", () => {
+  assert.deepEqual(completed("  e"), ["expect"]);
+  assert.deepEqual(completed("re"), ["release", "reset"]);
+  assert.deepEqual(completed("press "), ["1", "2", "ENTER"]);
+  assert.deepEqual(completed("keys 1 E"), ["ENTER"]);
+  assert.deepEqual(completed("until @st"), ["@start", "@stop"]);
+  assert.deepEqual(completed("expect not lamp r"), ["red"]);
+  assert.deepEqual(completed("expect lamp red o"), ["on", "off"]);
+  assert.deepEqual(completed("until lamps gr"), ["green"]);
+  assert.ok(completed("expect ").includes("acc") && completed("expect ").includes("@stop"));
+  assert.deepEqual([completed("# e"), completed("run 1"), completed("test e")], [[], [], []]);
+});
+
+test("what a word means is said, as the manual says it", () => {
+  assert.equal(help("  run 20 ms", 3), "run TIME: runs for that long");
+  assert.equal(help("release 3", 3), "release KEY ..: keys go down, or up");
+  assert.equal(help("expect lamps red", 9), "lamps NAME ..: these lamps are lit");
+  assert.equal(help("until not ram.1.0x20 3 within 5", 12), "ram.B.S V ..: the RAM character: ram.0.0x00 2 4");
+  assert.equal(help("until @stop within 5", 8), "@LABEL: the counter is there");
+  assert.deepEqual([help("# run", 3), help("", 0), help("keys run", 6)], ["", "", ""]);
+});
+
+test("results in words", () => {
+  const outcome = (failure) => ({ name: "one", line: 1, cycles: 92593, failure });
+  assert.equal(wordsOfOutcomes([outcome(null)]), "The test passed.");
+  assert.equal(wordsOfOutcomes([outcome(null), outcome(null)]), "All 2 tests passed.");
+  assert.equal(wordsOfOutcomes([outcome(null), outcome({})]), "1 of 2 tests failed.");
+  assert.deepEqual([markOfOutcomes([outcome({})]), markOfOutcomes([outcome(null)])], ["1 failed", "passed"]);
+  assert.equal(wordsOfTime(outcome(null)), "92,593 cycles, 1.00 s");
+  assert.equal(wordsOfTime({ cycles: 1 }), "1 cycle, 0.0 ms");
+  const fault = { text: "tests", line: 3, number: 0, words: "a condition is missing" };
+  assert.equal(wordsOfFaults([fault, fault], () => ""), "Nothing was run: Tests, line 3: a condition is missing, and 1 more.");
+  const refused = { text: "board", line: 0, number: 25, words: "" };
+  assert.equal(wordsOfFaults([refused], (number) => `refusal ${number}`), "Nothing was run: Board: no 25: refusal 25.");
+  const jump = { line: 2, count: 3, isJump: true, taken: 3 };
+  const coverage = { lines: [jump], instructions: 2, run: 1, ways: 2, waysRun: 1, never: [] };
+  assert.equal(wordsOfCounts({ coverage }), "1 of 2 instructions were run (50.0 %), 1 of 2 ways of conditional jumps (50.0 %). "
+    + "1 jump always went one way. The counts stand beside the source.");
+  assert.equal(wordsOfCounts({ coverage: null }), "");
+});
+
+test("counts of lines", () => {
+  const line = (count, isJump = false, taken = 0) => ({ line: 1, count, isJump, taken });
+  assert.deepEqual([line(0), line(4), line(976, true, 912)].map(textOfCount), ["never", "4", "976 912/64"]);
+  assert.deepEqual([line(0), line(1), line(976, true, 912), line(1200, true, 1200)].map(wordsOfCount), ["no test runs it", "run once",
+    "run 976 times; it jumped 912 times, and went on 64 times", "run 1,200 times; it jumped 1,200 times, and went on never"]);
+});
+
+test("the words of properties: what they become, and what the manual says of them", () => {
+  const told = propertyForms(manual);
+  const list = (line) => completeProperty([line], 0, line.length, names, told).list.map(({ text }) => text);
+  assert.deepEqual(list("ne"), ["never"]);
+  assert.deepEqual(list("press "), ["1", "2", "ENTER"]);
+  assert.deepEqual(list("lamp red on only after press "), ["1", "2", "ENTER"]);
+  assert.deepEqual(list("never lamp "), ["red", "green"]);
+  assert.deepEqual(list("always lamp red on and lamp g"), ["green"]);
+  assert.deepEqual(list("at @sto"), ["@stop"]);
+  assert.deepEqual(list("# ne"), []);
+  assert.equal(helpForProperty(["never lamp red on"], 0, 2, told), "never C: the condition never holds");
+  assert.equal(helpForProperty(["never lamps none"], 0, 8, told), "lamps NAME ..: these lamps are lit");
+  assert.match(firstProperties(names), /\nnote lamps\n\nreach lamp red on\n/);
+  assert.match(firstProperties({ ...names, keys: [] }), /\ntest\nwait /);
+});

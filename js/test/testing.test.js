@@ -1,0 +1,120 @@
+// Tests of programs, run on the module of the page itself. checks/testing compares them with tools/test, cover and profile.
+import assert from "node:assert/strict";
+import { readFileSync } from "node:fs";
+import { before, test } from "node:test";
+import { Cancelled } from "../core/bench/faults.js";
+import { wordsOfCoverage } from "../core/testing/coverage.js";
+import { readTested, runTests } from "../core/testing/testing.js";
+import { Engine } from "../core/engine/engine.js";
+import { moduleOfPage } from "./page_session.js";
+
+const example = (name) => readFileSync(new URL(`../../examples/three_lamps/${name}`, import.meta.url), "utf8");
+const boardText = example("board.toml");
+const programText = example("three_lamps.asm");
+const texts = (testText, program = programText) => ({ boardText, programText: program, testText });
+const always = async () => true;
+
+/** @type {Engine} */
+let engine;
+before(async () => {
+  engine = await Engine.load(moduleOfPage);
+});
+
+test("tests pass, and what they have run is counted", async () => {
+  const { faults, outcomes, coverage, profile } = await runTests(engine, texts(example("three_lamps.test")), always);
+  assert.deepEqual(faults, []);
+  assert.deepEqual(outcomes.map(({ failure, cycles }) => [failure, cycles]), [[null, 1621], [null, 538]]);
+  assert.equal(wordsOfCoverage(coverage), "20 of 20 instructions were run (100.0 %), 6 of 6 ways of conditional jumps (100.0 %)");
+  assert.deepEqual(coverage.lines.find(({ line }) => line === 18), { line: 18, count: 4, isJump: true, taken: 1 });
+  assert.equal(profile.total, 2159);
+  assert.deepEqual(profile.rows.map(({ label, own }) => [label, own]), [["turn", 2084], ["next", 60], ["wait", 8], ["first", 4], ["", 3]]);
+  assert.deepEqual(profile.rows[2].calls, { times: 4, withCalls: 2092, longest: 523 });
+});
+
+test("a test that fails tells its line, its trace, and gives the session as it is there", async () => {
+  const quick = programText.replace("0x0C", "0x0D");
+  const { outcomes } = await runTests(engine, texts(example("three_lamps.test"), quick), always);
+  const { failure } = outcomes[1];
+  assert.deepEqual([failure.line, failure.text, failure.words], [14, "expect cycles 538", "cycles are 536, and have to be 538"]);
+  assert.deepEqual([failure.cycles, failure.lamps], [536, ".*."]);
+  assert.equal(failure.trace[0], "     522  01A C0    BBL 0            acc 0 cy 0  ret 000 000 01B");
+  assert.equal(failure.trace[failure.trace.length - 1], "     536  007 50 14 JMS wait         comes next");
+  assert.match(engine.ask(failure.file, "regs\n").answers[0], /^acc 2 cy 1 pc 007 owed 0 /);
+});
+
+test("a test whose state was never saved was not begun", async () => {
+  const text = "test one\n expect acc 1\n save there\ntest two\n from there\n run 1\n";
+  const { outcomes } = await runTests(engine, texts(text), always);
+  assert.equal(outcomes[0].failure.words, "acc is 0, and has to be 1");
+  assert.equal(outcomes[1].failure.words, "the state there is not there, since the test `one` did not come to save it");
+  assert.equal(outcomes[1].failure.file, null);
+});
+
+test("a comment may stand behind a line, where no key has its mark as its name", async () => {
+  const text = "test a # 1 ; 2\n run 5   # a moment\n mark ;\n run 10 us ; # ;\n expect cycles 1 #\n expect lamps #none\n";
+  const { faults } = readTested(engine, texts(text));
+  assert.deepEqual(faults.map(({ line, words }) => `${line}: ${words.slice(0, 26)}`), ["6: the board has no lamp #non"]);
+  const { outcomes } = await runTests(engine, texts(text.replace("#none", "... ; dark")), always);
+  assert.deepEqual(outcomes.map(({ name, failure }) => [name, failure]), [["a # 1 ; 2", null]]);
+  const ofLock = (name) => readFileSync(new URL(`../../examples/lock/${name}`, import.meta.url), "utf8");
+  const lock = { boardText: ofLock("board.toml"), programText: ofLock("lock.asm") };
+  const keys = "test b\n press 1 # 2 ; keys\n release # ; the key #\n keys # ; #\n press x ; y\n";
+  const [fault, ...more] = readTested(engine, { ...lock, testText: keys }).faults;
+  assert.deepEqual([fault.line, more], [5, []]);
+});
+
+test("what is repeated, shared steps, and the label that was passed last", async () => {
+  const text = [
+    "steps wait", " run 538",
+    "test a", " run 7", " repeat 3", "  expect lamps right", "  repeat 3", "   do wait", "  end", " end",
+    " mark", " repeat 2", "  repeat 5", "   do wait", "   expect cycles at most 2000", "  end", " end",
+    "test b", " run 9", " until @first within 4",
+  ];
+  const { outcomes } = await runTests(engine, texts(text.join("\n")), always);
+  assert.deepEqual([outcomes[0].cycles, outcomes[0].failure.line], [7 + 13 * 538, 15]);
+  assert.equal(outcomes[0].failure.words,
+    "cycles are 2152, and have to be at most 2000; in turn 4 of 5 of line 13, in turn 1 of 2 of line 12");
+  assert.equal(outcomes[1].failure.words, "it did not come within 4 cycles: pc is 016 (turn), and has to be @first; "
+    + "the label passed last is turn, 2 cycles ago; @first was passed last 10 cycles ago");
+});
+
+test("a test that repeats for long can be left", async () => {
+  const text = "test a\n repeat 100000\n  run 100000\n end\n";
+  let asked = 0;
+  await assert.rejects(() => runTests(engine, texts(text), async () => ++asked < 3), Cancelled);
+  assert.equal(asked, 3);
+});
+
+test("faults of the texts are told, and nothing is run", async () => {
+  const report = await runTests(engine, texts("test a\n  until lamps green within 10 ms\n  press x\n  run 10 years\n"), always);
+  assert.deepEqual(report.faults.map(({ text, line, words }) => `${text}:${line}: ${words}`), [
+    "tests:2: the board has no lamp green; it has: left middle right",
+    "tests:3: the board has no key x; its text names no keys (`# row 0: NAME ..`)",
+    "tests:4: it is written as `run TIME`, as in: run 500, run 20 ms, run 1.5 s",
+  ]);
+  assert.deepEqual([report.outcomes, report.coverage, report.profile], [[], null, null]);
+  assert.deepEqual(readTested(engine, texts("", " JUN nowhere\n")).faults, [{ text: "program", line: 1, number: 32, words: "" }]);
+  assert.equal(readTested(engine, { ...texts(""), boardText: "rom = 3\n" }).faults[0].text, "board");
+  const [named] = readTested(engine, { ...texts(""), boardText: `# lamp 7: x\n${boardText}` }).faults;
+  assert.equal(named.words, "the lamp x is number 7, and the board has 3");
+  assert.equal(readTested(engine, texts("")).faults[0].words, "there is no line `test NAME`");
+  assert.match(readTested(engine, texts("test a\n run 1 \u00fc\n")).faults[0].words, /^a byte that is neither/);
+});
+
+test("long work is cancelled between pieces", async () => {
+  let asked = 0;
+  const goesOn = async () => {
+    asked += 1;
+    return asked < 3;
+  };
+  await assert.rejects(runTests(engine, texts("test for ever\n until r15 9 within 10000 s\n"), goesOn), Cancelled);
+  assert.equal(asked, 3);
+});
+
+test("bytes of ROM that a test sets are in the counts of its own run alone", async () => {
+  // NOP in the place of ISZ R3 takes one cycle.
+  const text = "test a\n set rom.0x016 0\n set rom.0x017 0\n run 20\n save s\ntest b\n from s\n run 20\ntest c\n run 20\n";
+  const { outcomes, profile } = await runTests(engine, texts(text), always);
+  assert.deepEqual(outcomes.map(({ failure }) => failure), [null, null, null]);
+  assert.equal(profile.total, profile.rows.reduce((sum, { own }) => sum + own, 0) + profile.begunBefore);
+});

@@ -1,0 +1,102 @@
+import assert from "node:assert/strict";
+import { test } from "node:test";
+import { Rate } from "../core/time/rate.js";
+import { MOST_AHEAD, MOST_DUE, REAL_CYCLES, RealTime } from "../core/time/real_time.js";
+import { wordsOfTime } from "../core/bench/words.js";
+
+test("a second of frames is 92,593 cycles, whatever their length", () => {
+  for (const frame of [1000 / 60, 1000 / 144, 7, 100]) {
+    const time = new RealTime(0, 0);
+    let sum = 0;
+    let now = 0;
+    for (; now < 10000; now += frame) sum += time.due(now);
+    assert.ok(Math.abs(sum - ((now - frame) / 1000) * REAL_CYCLES) < 1, `${frame}: ${sum}`);
+  }
+});
+
+test("a slow frame owes little, and clocks that go back owe nothing", () => {
+  const time = new RealTime(0, 0);
+  assert.equal(time.due(900), MOST_DUE);
+  assert.equal(time.due(900), 0);
+  assert.equal(time.due(890), 0);
+  assert.equal(time.due(910), 925);
+});
+
+test("after an hour in the background nothing is owed, and the gap is told", () => {
+  const time = new RealTime(0, 0);
+  time.hide();
+  assert.deepEqual(time.skipGap(3600000, 3600000), { gap: 3600000, wasHidden: true });
+  assert.equal(time.due(3600000), 0);
+  assert.equal(time.skipGap(3600010, 3600010), null);
+  assert.equal(time.due(3600010), 925);
+});
+
+test("a page that was held up or asleep stood still, though the clock of the frames may not have gone on", () => {
+  const time = new RealTime(0, 0);
+  assert.equal(time.skipGap(999, 999), null);
+  assert.deepEqual(time.skipGap(1000, 8000), { gap: 7001, wasHidden: false });
+  assert.equal(time.due(1000), 0);
+});
+
+/** The cycles of a second of frames, and of keys at some times, each with what it lends. */
+function cyclesOf(frame, keys) {
+  const time = new RealTime(0, 0);
+  const events = keys.map((now) => ({ now, ahead: MOST_AHEAD }));
+  for (let now = 0; now <= 1000; now += frame) events.push({ now, ahead: 0 });
+  events.push({ now: 1000.5, ahead: 0 });
+  let sum = 0;
+  for (const { now, ahead } of events.sort((one, other) => one.now - other.now)) {
+    const due = time.due(now, ahead);
+    assert.ok(due >= 0, `${due} at ${now}`);
+    sum += due;
+    assert.ok(sum <= ((now + MOST_AHEAD) / 1000) * REAL_CYCLES, `ahead of its time at ${now}`);
+    assert.ok(Math.abs(time.reached - (sum + Math.max(0, time.owed)) * (1000 / REAL_CYCLES)) < 0.001, `reached at ${now}`);
+  }
+  return sum;
+}
+
+test("a second has as many cycles with keys as without, and no moment is more than a frame ahead", () => {
+  for (const frame of [1000 / 60, 1000 / 144, 7, 100]) {
+    const sum = cyclesOf(frame, []);
+    for (const keys of [[3], [3, 4, 5], [100, 130, 160.5, 700], Array.from({ length: 500 }, (_, at) => 1.7 * at)]) {
+      assert.equal(cyclesOf(frame, keys), sum);
+    }
+  }
+});
+
+test("a key is served at once, and frames then wait until it is paid back", () => {
+  const time = new RealTime(0, 0);
+  assert.equal(time.due(10), 925);
+  assert.equal(time.due(15, MOST_AHEAD), 464 + 1543);
+  assert.equal(time.due(20), 0);
+  assert.equal(time.due(25), 0);
+  assert.equal(time.due(31.6), 0);
+  assert.equal(time.due(40), Math.floor(40 * REAL_CYCLES / 1000) - 925 - 464 - 1543);
+});
+
+test("what was lent is forgotten where time stands still", () => {
+  const time = new RealTime(0, 0);
+  assert.equal(time.due(0, MOST_AHEAD), 1543);
+  time.hide();
+  time.skipGap(1000, 1000);
+  assert.equal(time.reached, 1000);
+  assert.equal(time.due(1010), 925);
+  assert.equal(time.due(1010, MOST_AHEAD), 1544);
+  time.goOn(1011, 1011);
+  assert.equal(time.due(1021), 925);
+});
+
+test("the rate is told every half second", () => {
+  const rate = new Rate(0);
+  rate.add(1000, 400);
+  assert.equal(rate.told, 0);
+  rate.add(1000, 500);
+  assert.equal(rate.told, 4000);
+  rate.add(500, 1000);
+  assert.equal(rate.told, 1000);
+});
+
+test("times in words", () => {
+  assert.deepEqual([1000, 2400, 62000, 3600000, 3723000, 7200000].map(wordsOfTime),
+    ["1 second", "2 seconds", "1 minute 2 seconds", "1 hour", "1 hour 2 minutes", "2 hours"]);
+});

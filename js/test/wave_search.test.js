@@ -1,0 +1,82 @@
+// Looking for values and edges in a recording: by hand, and beside what the bench tells.
+import assert from "node:assert/strict";
+import { test } from "node:test";
+import { Waves } from "../core/waves/waves.js";
+import { find, readSearch } from "../core/waves/wave_search.js";
+import { lineNamed } from "../core/waves/trigger.js";
+import { begin, examplesOfPage } from "./page_session.js";
+
+const line = (name, kind, rest = {}) => ({ name, title: "", group: "", kind, places: [], members: [], width: 1, ...rest });
+const LINES = [
+  line("rom0.0", "level"), line("rom0.1", "level"), line("lamp.minus", "level", { group: "lamps" }),
+  line("lamp1", "level", { group: "lamps", title: "over.flow" }), line("key.7", "key", { group: "keys" }),
+  line("rom0[1:0]", "port", { members: [0, 1], width: 2, title: "to the chain" }), line("r5", "value", { width: 4 }),
+  line("pc", "pc", { width: 12 }), line("label", "label", { width: 16 }),
+];
+const bits = (...moments) => ({ first: 0, moments: Uint32Array.from(moments), values: null });
+const none = { first: 0, moments: new Uint32Array(0), values: new Uint16Array(0) };
+
+function wavesOf() {
+  const r5 = { first: 9, moments: Uint32Array.of(10, 20, 30), values: Uint16Array.of(3, 9, 12) };
+  return new Waves({
+    from: 0, cycles: 50, isStuck: false, isOwed: false, lines: LINES,
+    tracks: [bits(5, 25), bits(15), bits(7), bits(), bits(8), none, r5, none, none],
+    moments: Uint32Array.of(0, 20, 40), counters: Uint16Array.of(0, 0x10, 0x12), listing: [],
+    program: { text: "", lines: new Uint16Array(4096), labels: [{ address: 0, name: "begin" }, { address: 0x10, name: "next" }] },
+  });
+}
+
+test("lines by what people call them", () => {
+  const named = (text) => LINES[lineNamed(text, LINES)]?.name;
+  assert.deepEqual(["rom0.1", "ROM0 1", "rom0", "to the chain"].map(named), ["rom0.1", "rom0.1", "rom0[1:0]", "rom0[1:0]"]);
+  assert.deepEqual(["lamp 0", "minus", "lamp minus"].map(named), Array(3).fill("lamp.minus"));
+  assert.deepEqual(["lamp 1", "over.flow"].map(named), ["lamp1", "lamp1"]);
+  assert.deepEqual(["7", "key 7", "r5"].map(named), ["key.7", "key.7", "r5"]);
+  assert.deepEqual(["lamp 2", "rom1", "", "r"].map(named), [undefined, undefined, undefined, undefined]);
+});
+
+test("what is looked for is found, in both directions", () => {
+  const waves = wavesOf();
+  const marked = 6;
+  const all = (text, isForward = true) => {
+    const { search, fault } = readSearch(text, waves, marked);
+    assert.equal(fault, "", text);
+    const moments = [];
+    for (let moment = find(waves, search, isForward ? 0 : 50, isForward); moment >= 0; moment = find(waves, search, moment, isForward)) {
+      moments.push(moment);
+    }
+    return moments;
+  };
+  assert.deepEqual([all("9"), all("9", false), all("0x9"), all("0b1001")], [[20], [20, 0], [20], [20]]);
+  assert.deepEqual([all("r5 = 3"), all("r5=3"), all("r5 != 3"), all("r5 > 8"), all("r5 > 8", false)], [[10], [10], [20], [20], [20, 0]]);
+  assert.deepEqual([all("changes"), all("r5 changes", false)], [[10, 20, 30], [30, 20, 10]]);
+  assert.deepEqual([all("rom0.0 rises"), all("rom0.0 falls"), all("minus rises"), all("rom0.0 = 1")], [[5], [25], [7], [5]]);
+  assert.deepEqual([all("rom0 = 3"), all("rom0 changes"), all("rom0 = 1")], [[15], [5, 15, 25], [5]]);
+  assert.deepEqual([all("@next"), all("pc = next"), all("pc = 0x12"), all("label = next")], [[20], [20], [40], [20]]);
+  assert.deepEqual(all("@begin", false), [0]);
+});
+
+test("what cannot be looked for, in words", () => {
+  const waves = wavesOf();
+  const fault = (text, marked = 6) => readSearch(text, waves, marked).fault;
+  assert.match(fault(""), /^What do you look for\? a value of the marked line/);
+  assert.match(fault("A"), /^A is no number: 10, 0x0A or 0b1010 is one/);
+  assert.equal(fault("16"), "r5 has 4 bits: it is 15 at most.");
+  assert.equal(fault("2", 0), "rom0.0 has 1 bit: it is 1 at most.");
+  assert.equal(fault("r9 = 3"), "Nothing that was recorded is called r9: choose it, and record again.");
+  assert.equal(fault("r5 rises"), "r5 is a number: it changes, or it is = 5.");
+  assert.equal(fault("@nowhere"), "The program of this recording has no label nowhere.");
+  assert.equal(fault("3", -1), "No line is marked.");
+});
+
+test("in two million cycles what is found is what the bench tells", async () => {
+  const { board, program } = examplesOfPage.find((each) => each.name === "stopwatch");
+  const calls = await begin("stopwatch", "test 0\n");
+  const waves = new Waves(await calls.record(2000000, false, { board, program, values: ["r4"] }));
+  const found = (text, moment, isForward) => find(waves, readSearch(text, waves, -1).search, moment, isForward);
+  const first = found("lamp15 rises", 0, true);
+  assert.ok(found("lamp15 rises", 2000000, false) > 1990000);
+  assert.equal(found("pc = 0xFFF", 0, true), -1);
+  const [told] = calls.ask(`trace ${first} lamps\n`).slice(-1);
+  assert.equal(Number(told.split(" ")[0]) + 1, first);
+});

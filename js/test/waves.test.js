@@ -1,0 +1,324 @@
+// Recordings: lines, what is taken of answers, edges, VCD. The board and the answers are those of the manual's first hour.
+import assert from "node:assert/strict";
+import { test } from "node:test";
+import { readBoard } from "../core/bench/answers.js";
+import { vcdParts } from "../core/waves/vcd.js";
+import { catalogOf, found, valuesAmong } from "../core/waves/wave_catalog.js";
+import { linesOfBoard, valueLine } from "../core/waves/wave_lines.js";
+import { Answers } from "../core/engine/tracing.js";
+import { WaveTaking } from "../core/engine/wave_taking.js";
+import { countUpTo } from "../core/waves/growing.js";
+import { Waves } from "../core/waves/waves.js";
+
+const BOARD = readBoard([
+  "board", "[[rom]]", "chip = 0", 'port = "0000"', "[[rom]]", "chip = 1", 'port = "iiii"', "[[rom]]", "chip = 2", 'port = "iiii"',
+  "[[ram]]", "bank = 0", "chips = 1", "[[ram]]", "bank = 1", "chips = 1", "[[chain]]", 'clock = "rom0.0"', 'data = "rom0.1"', "chips = 1",
+  "[keys]", "chain = 0", "first = 0", "rows = 10",
+  'columns = ["rom1.0", "rom1.1", "rom1.2", "rom1.3", "rom2.0", "rom2.1", "rom2.2", "rom2.3"]',
+  "[[lamp]]", 'line = "chain0.0"', "[[lamp]]", 'line = "chain0.1"', "[[lamp]]", 'line = "ram0.0.3"',
+]);
+const STATE = "state seq 8 acc 6 cy 0 pc 00A owed 0 dcl 0 test 1 r 1000000000000000 ret 000,000,000 src 10 banks 0.10,1.00 "
+  + "roms 0.3.0,1.0.6,2.0.0 rams 0.0.0,1.0.0 chains 1100000000 keys 0.1,1.2 lamps **. breaks 003,00F watches 0.3F";
+const TEXT = "# row 0: 7 CE =\n# lamp 1: minus over.flow\n";
+
+/** Other values in a state. */
+function stateWith(changes) {
+  return Object.entries(changes).reduce((state, [key, value]) => state.replace(new RegExp(` ${key} \\S+`), ` ${key} ${value}`), STATE);
+}
+
+function linesWith(hasLabels = false, values = []) {
+  return linesOfBoard(BOARD, TEXT, hasLabels, values);
+}
+
+function numberOf(lines, name) {
+  return lines.findIndex((line) => line.name === name);
+}
+
+test("the lines of a board have the names of the manual, and those of the board's text", () => {
+  const names = linesWith(true).map(({ name }) => name);
+  assert.deepEqual(names.slice(0, 12), [0, 1, 2].flatMap((rom) => [0, 1, 2, 3].map((line) => `rom${rom}.${line}`)));
+  assert.deepEqual(names.slice(12, 20), [0, 1].flatMap((bank) => [0, 1, 2, 3].map((line) => `ram${bank}.0.${line}`)));
+  assert.deepEqual(names.slice(20, 30), [..."0123456789"].map((bit) => `chain0.${bit}`));
+  assert.deepEqual(names.slice(30, 33), ["lamp0", "lamp.minus", "lamp2"]);
+  assert.deepEqual(names.slice(33, 37), ["key.7", "key.CE", "key0.2", "key0.3"]);
+  const ports = ["rom0[3:0]", "rom1[3:0]", "rom2[3:0]", "ram0.0[3:0]", "ram1.0[3:0]", "chain0[9:0]"];
+  assert.deepEqual(names.slice(-10), ["key9.7", "test", ...ports, "pc", "label"]);
+  assert.equal(names.length, 12 + 8 + 10 + 3 + 80 + 3 + 6);
+});
+
+test("what each line is asked for by: a lamp by the line that it is at, a key by its place", () => {
+  const places = (wanted) => linesWith().filter(({ kind }) => kind === wanted).map(({ places: [place] }) => place);
+  assert.deepEqual(places("level").slice(-3), ["chain0.0", "chain0.1", "ram0.0.3"]);
+  assert.deepEqual(places("key").slice(0, 9), ["0.0", "0.1", "0.2", "0.3", "0.4", "0.5", "0.6", "0.7", "1.0"]);
+  const other = readBoard(["board", "[[rom]]", "chip = 12", 'port = "i0i1"', "[[rom]]", "chip = 3", 'port = "0000"']);
+  assert.deepEqual(linesOfBoard(other, "", false).map(({ name }) => name),
+    [...["rom3", "rom12"].flatMap((rom) => [0, 1, 2, 3].map((line) => `${rom}.${line}`)), "test", "rom3[3:0]", "rom12[3:0]", "pc"]);
+});
+
+test("ports and chains are asked for as wholes, sixteen places at once, each one once", () => {
+  const asked = new WaveTaking(linesWith()).questions(100).split("\n");
+  assert.deepEqual(asked, ["trace 100", "trace 100 rom0 rom1 rom2 ram0.0 ram1.0 chain0", ""]);
+  const more = new WaveTaking(linesWith(false, ["p2", "r4", ...[..."0123456789"].map((at) => `ram.0.0x0${at}`)])).questions(7).split("\n");
+  assert.deepEqual(more.map((line) => line.split(" ").length), [2, 8, 14, 1]);
+  const characters = [..."0123456789"].map((at) => `ram.0.0x0${at}`).join(" ");
+  assert.equal(more[2], `trace 7 r4 r5 ${characters}`);
+});
+
+test("values by their names, and what a board lacks", () => {
+  const told = (text) => {
+    const line = valueLine(text, BOARD);
+    return line && [line.name, line.places.join(" "), line.width, line.group];
+  };
+  assert.deepEqual(told("R5"), ["r5", "r5", 4, "registers"]);
+  assert.deepEqual(told("P2"), ["p2", "r4 r5", 8, "registers"]);
+  assert.deepEqual([told("cy")[2], told("dcl")[2], told("src")[2]], [1, 3, 8]);
+  assert.deepEqual(told("ram 0 0x12"), ["ram.0.0x12", "ram.0.0x12", 4, "RAM, bank 0"]);
+  assert.deepEqual(told("ram.1.18"), ["ram.1.0x12", "ram.1.0x12", 4, "RAM, bank 1"]);
+  assert.deepEqual(told("st 0 1 2"), ["st.0.1.2", "st.0.1.2", 4, "RAM, bank 0"]);
+  for (const text of ["r16", "p8", "ram 0 0x40", "ram 2 0", "st 0 4 0", "rom0", "ram0.0", "lamps", "lamp 0", "chain0.1", "pc", ""]) {
+    assert.equal(told(text), null, text);
+  }
+  assert.deepEqual(linesWith(false, ["r5", "r16", "p2"]).slice(-3).map(({ name }) => name), ["r5", "p2", "pc"]);
+});
+
+test("titles are what the board's text says of ports, and of names that no file can have", () => {
+  const lines = linesOfBoard(BOARD, `${TEXT}# port rom1: keys here\n`, false);
+  const titles = Object.fromEntries(lines.map(({ name, title }) => [name, title]));
+  assert.deepEqual([titles["rom1.2"], titles["rom1[3:0]"], titles["rom0.2"]], ["keys here, line 2", "keys here", ""]);
+  assert.deepEqual([titles.lamp2, titles["key0.2"], titles["lamp.minus"]], ["over.flow", "=", ""]);
+});
+
+test("what is offered, by words", () => {
+  const offered = catalogOf(BOARD, TEXT);
+  const named = (text, chosen = []) => found(offered, text, new Set(chosen)).lines.map(({ name }) => name);
+  assert.ok(named("").includes("r5") && named("").includes("rom0[3:0]") && !named("").includes("ram.0.0x12"));
+  assert.ok(named("", ["ram.0.0x12"]).includes("ram.0.0x12"));
+  assert.deepEqual(named("ram 0 0x12"), ["ram.0.0x12"]);
+  assert.deepEqual(named("minus"), ["lamp.minus"]);
+  assert.deepEqual(named("over.fl"), ["lamp2"]);
+  assert.deepEqual(named("p2"), ["p2"]);
+  assert.match(found(offered, "", new Set()).more, /^160 characters of RAM are not listed: look for one, as in: ram 0 0x12/);
+  assert.equal(found(offered, " rubbish ", new Set()).more, "Nothing here is called rubbish.");
+  assert.deepEqual(valuesAmong(offered, new Set(["r5", "lamp2", "st.1.3.0", "gone"])), ["r5", "st.1.3.0"]);
+});
+
+/** What stands at places at the beginning; all others are 0. */
+const LEVELS = { "rom0.0": 1, "rom0.1": 1, "rom1.1": 1, "rom1.2": 1, "chain0.0": 1, "chain0.1": 1 };
+
+/**
+ * The answers to the questions of a recording: each instruction by the cycles before it, its address, and what it changes.
+ */
+function answersOf({ groups }, levels, instructions = []) {
+  const now = { ...levels };
+  const levelsOf = (place, count, values) => Array.from({ length: count }, (_, line) => values[`${place}.${line}`] || 0);
+  const digitOf = (bits) => bits.reduce((sum, level, line) => sum + level * 2 ** line, 0).toString(16).toUpperCase();
+  const toldOf = (place, values) => {
+    if (place.startsWith("chain")) return levelsOf(place, 10, values).join("");
+    return values[place] || digitOf(levelsOf(place, 4, values));
+  };
+  const rowOf = ({ asked }, values) => asked.map(({ place }) => ` ${toldOf(place, values)}`).join("");
+  const rows = instructions.map(([cycles, address, changes]) => {
+    const before = { ...now };
+    Object.assign(now, changes);
+    return { cycles, address, before, after: { ...now } };
+  });
+  const head = (lines, row) => [`trace ran 9 end lines ${lines.length}${row}`, ...lines];
+  const changed = (group) => rows.filter(({ before, after }) => rowOf(group, before) !== rowOf(group, after))
+    .map(({ cycles, address, after }) => `${cycles} ${address}${rowOf(group, after)}`);
+  return [...head(rows.map(({ cycles, address }) => `${cycles} ${address}`), ""),
+    ...groups.flatMap((group) => head(changed(group), rowOf(group, levels)))];
+}
+
+/** A recording that begins with a state. */
+function begin(state = STATE, values = []) {
+  const taking = new WaveTaking(linesWith(false, values));
+  taking.begin(new Answers([state, ...answersOf(taking, LEVELS)]));
+  return taking;
+}
+
+/** A run, and the state after it. */
+function run(taking, levels, instructions, answer, changes) {
+  taking.takeRun(new Answers([...answersOf(taking, levels, instructions), answer]));
+  taking.takeState(stateWith(changes));
+  return taking;
+}
+
+const textOf = (waves, chosen) => [...vcdParts(waves, chosen)].join("");
+
+const PROGRAM = [[0, "00A", { "rom0.1": 0 }], [1, "00B", { "ram0.0.3": 1 }], [2, "00C", {}], [4, "00A", { "rom0.1": 1 }]];
+
+/** Four instructions of which the third has two cycles; then comes a code that is none. */
+function record(cycles) {
+  const instructions = PROGRAM.filter(([before]) => before < cycles);
+  if (cycles > 5) return run(begin(), LEVELS, instructions, "ok 9 ran 5 code", { pc: "00B" });
+  const ends = { 3: { pc: "00E", owed: "1" }, 4: { pc: "00A" } };
+  return run(begin(), LEVELS, instructions, `ok 9 ran ${cycles} end`, ends[cycles]);
+}
+
+const LISTING = [[0x00a, "00A E2    WRR"], [0x00b, "00B E1    WMP"], [0x00c, "00C 40 0A JUN 0x00A"]];
+
+function wavesOf(taking, program = null) {
+  return new Waves({ ...taking.take(), lines: taking.lines, listing: LISTING, program });
+}
+
+test("changes stand at the moment after their instruction", () => {
+  const waves = wavesOf(record(100));
+  const of = (name) => [...waves.changesOf(numberOf(waves.lines, name))];
+  assert.deepEqual([of("rom0.1"), of("lamp2"), of("ram0.0.3"), of("test"), of("rom0.0")], [[1, 5], [2], [2], [], []]);
+  assert.deepEqual(of("pc"), [1, 2, 4, 5]);
+  assert.deepEqual([waves.cycles, waves.isStuck], [5, true]);
+});
+
+test("a recording ends at its last cycle, inside an instruction too", () => {
+  const waves = wavesOf(record(3));
+  assert.deepEqual([waves.cycles, waves.isStuck], [3, false]);
+  assert.deepEqual([...waves.changesOf(numberOf(waves.lines, "pc"))], [1, 2]);
+  assert.equal(wavesOf(record(4)).counterAt(4), 0x00a);
+});
+
+test("a bench that refuses is told", () => {
+  assert.throws(() => begin().takeRun(new Answers(["no 90"])), /no 90/);
+  assert.throws(() => run(begin(), LEVELS, [], "no 46", {}), /no 46/);
+});
+
+test("an instruction of two cycles is one, and commands between cycles take no time", () => {
+  const taking = begin();
+  run(taking, LEVELS, [[0, "00A", {}]], "ok 9 ran 1 end", { pc: "020", owed: "1" });
+  taking.takeState(stateWith({ pc: "020", owed: "1", keys: "0.1" }));
+  run(taking, { ...LEVELS, "rom1.1": 0 }, [], "ok 11 ran 1 break", { pc: "020", keys: "0.1" });
+  taking.takeState(stateWith({ pc: "020", keys: "0.1", test: "0" }));
+  taking.takeState(stateWith({ pc: "020", keys: "0.1" }));
+  taking.takeState(stateWith({ pc: "030", keys: "0.1" }));
+  run(taking, { ...LEVELS, "rom1.1": 0 }, [[0, "030", { "rom0.0": 0 }]], "ok 15 ran 1 watch", { pc: "031", keys: "0.1" });
+  taking.takeState(stateWith({ pc: "031", keys: "0.1", test: "0" }));
+  const waves = wavesOf(taking);
+  const of = (name) => [...waves.changesOf(numberOf(waves.lines, name))];
+  assert.deepEqual([of("key1.2"), of("rom1.1"), of("rom0.0"), of("test"), of("pc")], [[1], [1], [3], [3], [2, 3]]);
+  assert.deepEqual([0, 1, 2, 3].map((moment) => waves.counterAt(moment)), [0x00a, 0x00a, 0x030, 0x031]);
+});
+
+test("values and edges", () => {
+  const waves = wavesOf(record(100));
+  const data = numberOf(waves.lines, "rom0.1");
+  assert.deepEqual([0, 1, 4, 5].map((moment) => waves.valueAt(data, moment)), ["1", "0", "0", "1"]);
+  assert.equal(waves.changeAfter(data, 0), 1);
+  assert.equal(waves.changeAfter(data, 1), 5);
+  assert.equal(waves.changeAfter(data, 5), undefined);
+  assert.equal(waves.changeBefore(data, 5), 1);
+  assert.equal(waves.changeBefore(data, 1), undefined);
+  assert.deepEqual([0, 2, 3, 4].map((moment) => waves.valueAt(numberOf(waves.lines, "pc"), moment)), ["00A", "00C", "00C", "00A"]);
+});
+
+test("a port as a number, in three ways", () => {
+  const waves = wavesOf(record(100));
+  const [port, chain] = ["rom0[3:0]", "chain0[9:0]"].map((name) => numberOf(waves.lines, name));
+  assert.deepEqual([...waves.changesOf(port)], [1, 5]);
+  assert.deepEqual([0, 1, 5].map((moment) => waves.valueAt(port, moment)), ["3", "1", "3"]);
+  assert.equal(waves.valueAt(chain, 0), "003");
+  waves.base = "binary";
+  assert.deepEqual([waves.valueAt(port, 1), waves.valueAt(chain, 2)], ["0001", "0000000011"]);
+  waves.base = "decimal";
+  assert.equal(waves.valueAt(chain, 2), "3");
+  assert.deepEqual([waves.changeAfter(port, 1), waves.changeBefore(port, 5)], [5, 1]);
+});
+
+test("registers, pairs and characters", () => {
+  const taking = begin(STATE, ["r5", "p2", "ram.0.0x12"]);
+  const values = { r4: "0", r5: "7", "ram.0.0x12": "9" };
+  run(taking, LEVELS, [[0, "00A", values], [1, "00B", { r4: "A", r5: "0" }], [2, "00C", { r5: "F" }]], "ok 9 ran 4 end", { pc: "00A" });
+  const waves = wavesOf(taking);
+  const of = (name) => {
+    const line = numberOf(waves.lines, name);
+    return [...waves.changesOf(line)].map((moment) => `${moment} ${waves.valueAt(line, moment)}`);
+  };
+  assert.deepEqual([of("r5"), of("p2"), of("ram.0.0x12")], [["1 7", "2 0", "3 F"], ["1 07", "2 A0", "3 AF"], ["1 9"]]);
+});
+
+test("a recording becomes longer, and forgets its beginning and its end", () => {
+  const whole = wavesOf(record(4));
+  const taking = begin();
+  run(taking, LEVELS, PROGRAM.slice(0, 1), "ok 9 ran 1 end", { pc: "00B" });
+  const parts = wavesOf(taking);
+  const after = { ...LEVELS, "rom0.1": 0 };
+  const shifted = PROGRAM.slice(1, 3).map(([cycles, ...rest]) => [cycles - 1, ...rest]);
+  const pc = numberOf(parts.lines, "pc");
+  assert.deepEqual([...parts.changesOf(pc)], [1]);
+  run(taking, after, shifted, "ok 10 ran 3 end", { pc: "00A" });
+  parts.append({ ...taking.take(), listing: [] });
+  assert.equal(textOf(parts, parts.lines.map((_, line) => line)), textOf(whole, whole.lines.map((_, line) => line)));
+  parts.beginAt(2);
+  const data = numberOf(parts.lines, "rom0.1");
+  assert.deepEqual([parts.from, parts.span, parts.valueAt(data, 2), [...parts.changesOf(pc)]], [2, 2, "0", [4]]);
+  assert.deepEqual([parts.counterAt(2), parts.counterAt(3), parts.valueAt(numberOf(parts.lines, "lamp2"), 2)], [0x00c, 0x00c, "1"]);
+  parts.endAt(3);
+  assert.deepEqual([parts.cycles, [...parts.changesOf(pc)], parts.counterAt(3)], [3, [], 0x00c]);
+});
+
+test("the instruction at a moment, in both its cycles", () => {
+  const waves = wavesOf(record(100), {
+    text: "stop: NOP\n  JUN go ; on", lines: new Uint16Array(4096).fill(2, 0x00c, 0x00e), labels: [{ address: 0x00b, name: "stop" }],
+  });
+  for (const moment of [2, 3]) {
+    const { address, listed, line, source, isEnd } = waves.instructionAt(moment);
+    assert.deepEqual([address, listed, line, source, isEnd], [0x00c, "00C 40 0A JUN 0x00A", 2, "JUN go ; on", false]);
+  }
+  assert.deepEqual([waves.instructionAt(0).line, waves.instructionAt(5).isEnd], [0, true]);
+  assert.deepEqual([waves.labelAt(0), waves.labelAt(1), waves.labelAt(3)], ["", "stop", "stop"]);
+});
+
+test("the first sample may be the second cycle of an instruction", () => {
+  const taking = run(begin(stateWith({ owed: "1" })), LEVELS, [], "ok 9 ran 1 end", {});
+  assert.deepEqual([wavesOf(taking).instructionAt(0).isSecond, wavesOf(taking).instructionAt(1).isSecond], [true, false]);
+});
+
+test("a VCD file: a cycle is 108 units of 100 ns, lines in the order of the choice", () => {
+  const waves = wavesOf(record(100));
+  const text = textOf(waves, ["lamp2", "rom0.1", "pc"].map((name) => numberOf(waves.lines, name)));
+  const port = textOf(waves, [numberOf(waves.lines, "rom0[3:0]")]);
+  assert.match(port, /\$var wire 4 A rom0\[3:0\] \$end\n[^]*\nb0011 A\n\$end\n#108\nb0001 A\n#540/);
+  assert.equal(text, `$version Fethsaim $end
+$comment 108 units of time are a cycle of the 4004, 10.8 microseconds $end
+$timescale 100 ns $end
+$scope module board $end
+$var wire 1 A lamp2 $end
+$var wire 1 C rom0.1 $end
+$var wire 12 D pc $end
+$upscope $end
+$enddefinitions $end
+#0
+$dumpvars
+0A
+1C
+b000000001010 D
+$end
+#108
+0C
+b000000001011 D
+#216
+1A
+b000000001100 D
+#432
+b000000001010 D
+#540
+1C
+b000000001011 D
+`);
+});
+
+test("a VCD file ends with the end of the recording", () => {
+  const waves = wavesOf(record(3));
+  const text = textOf(waves, [numberOf(waves.lines, "test")]);
+  assert.match(text, /#0\n\$dumpvars\n1A\n\$end\n#324\n$/);
+});
+
+test("the short names of lines in the file differ", () => {
+  const waves = wavesOf(record(3));
+  const all = waves.lines.map((_, line) => line);
+  const codes = textOf(waves, all).split("\n").filter((line) => line.startsWith("$var")).map((line) => line.split(" ")[3]);
+  assert.equal(new Set(codes).size, all.length);
+  assert.deepEqual([codes[0], codes[21], codes[22], codes[43], codes[44]], ["A", "Y", "AA", "AY", "CA"]);
+});
+
+test("how many of rising numbers are at most one of them", () => {
+  assert.deepEqual([0, 1, 2, 5, 9].map((most) => countUpTo([1, 2, 5], most)), [0, 1, 2, 3, 3]);
+});

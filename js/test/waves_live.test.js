@@ -1,0 +1,168 @@
+// Recordings while time runs, with the module of the page itself: what they have is what a recording once has.
+import assert from "node:assert/strict";
+import { test } from "node:test";
+import { LiveWaves } from "../core/waves/live_waves.js";
+import { vcdParts } from "../core/waves/vcd.js";
+import { Waves } from "../core/waves/waves.js";
+import { begin, examplesOfPage } from "./page_session.js";
+
+async function beginWith(name, lines = "") {
+  const { board, program } = examplesOfPage.find((each) => each.name === name);
+  return { calls: await begin(name, lines), texts: { board, program, values: [] } };
+}
+
+const numberOf = (waves, name) => waves.lines.findIndex((line) => line.name === name);
+const wholeText = (waves) => [...vcdParts(waves, waves.lines.map((_, line) => line))].join("");
+
+/** A recording of what is done from here on; `did` are the answers of calls, in which its parts are. */
+function record(calls, texts, { most = 1000000, behind = 0, trigger = "", stopsTime = false } = {}) {
+  const { recorded, fault } = calls.recordLive(texts, { trigger, behind, stopsTime });
+  assert.equal(fault, "");
+  const live = new LiveWaves(recorded, { most, behind, trigger, stopsTime });
+  return { live, did: (shown) => live.take(shown.waves) };
+}
+
+test("frames, keys, lines and steps are recorded as they are recorded up to here", async () => {
+  const { calls, texts } = await beginWith("calculator", "run 30000\n");
+  texts.values = ["r5", "p2", "ram.0.0x12"];
+  const { live, did } = record(calls, texts);
+  for (let frame = 0; frame < 4; frame++) did(calls.advance(1543));
+  did(calls.advance(1543, "2 0"));
+  did(calls.advance(3000));
+  calls.release("2 0");
+  did(calls.advance(4000));
+  did(await calls.serve("step\nrun 777\npress 0 0\nrun 50\nrelease 0 0\npoke r5 3\nstep\nreset\nstep\nrun 100\n"));
+  did(await calls.goOn({ kind: "over" }));
+  did(calls.advance(500));
+  const whole = new Waves(await calls.record(live.waves.cycles, true, texts));
+  assert.equal(live.waves.cycles, whole.cycles);
+  assert.equal(wholeText(live.waves), wholeText(whole));
+  assert.deepEqual([...live.waves.listing].sort(), [...whole.listing].sort());
+  assert.ok(live.waves.changesOf(numberOf(live.waves, "key.1")).length === 2);
+  live.take(calls.endRecording());
+  assert.match(live.words, /^Recorded: .* It was stopped\.$/);
+  assert.equal(calls.advance(100).waves, null);
+});
+
+test("the session is the same with and without a recording", async () => {
+  const [plain, recording] = [await beginWith("stopwatch", "test 0\n"), await beginWith("stopwatch", "test 0\n")];
+  record(recording.calls, recording.texts, { trigger: "lamp 15 on", behind: 100 });
+  for (const { calls } of [plain, recording]) {
+    for (let frame = 0; frame < 20; frame++) calls.advance(1543);
+    await calls.serve("break 0x00C\n");
+    calls.advance(5000);
+  }
+  assert.deepEqual(plain.calls.ask("state\n"), recording.calls.ask("state\n"));
+  assert.deepEqual(plain.calls.session.file, recording.calls.session.file);
+});
+
+test("only the last cycles are kept, and they are what they were", async () => {
+  const { calls, texts } = await beginWith("stopwatch", "test 0\n");
+  const { live, did } = record(calls, texts, { most: 5000 });
+  live.waves.changesOf(numberOf(live.waves, "rom0[3:0]"));
+  for (let frame = 0; frame < 30; frame++) did(calls.advance(1543));
+  assert.deepEqual([live.waves.span, live.waves.cycles], [5000, 30 * 1543]);
+  const whole = new Waves(await calls.record(5000, true, texts));
+  assert.equal(wholeText(live.waves), wholeText(whole));
+});
+
+test("a breakpoint stops time, and the recording stands with it", async () => {
+  const { calls, texts } = await beginWith("three lamps", "break 0x00C\n");
+  const { live, did } = record(calls, texts);
+  const frame = calls.advance(100000);
+  did(frame);
+  assert.equal(frame.stop.why, "break");
+  assert.equal(live.waves.cycles, frame.cycles);
+  assert.equal(live.waves.counterAt(live.waves.cycles), 0x00c);
+});
+
+/** What a line was before a moment and at it. */
+const around = (waves, name, at) => [at - 1, at].map((moment) => waves.valueAt(numberOf(waves, name), moment));
+
+const TRIGGERS = [
+  ["lamp15 rises", (waves, at) => around(waves, "lamp15", at), ["0", "1"]],
+  ["lamp 15 falls", (waves, at) => around(waves, "lamp15", at), ["1", "0"]],
+  ["r3 = 9", (waves, at) => around(waves, "r3", at).map((value) => value === "9"), [false, true]],
+  ["@wait", (waves, at) => [waves.labelAt(at), waves.counterAt(at) === waves.counterAt(at - 1)], ["wait", false]],
+];
+
+for (const [trigger, told, wanted] of TRIGGERS) {
+  test(`a trigger, ${trigger}, with cycles before and behind it`, async () => {
+    const { calls, texts } = await beginWith("stopwatch", "test 0\nrun 20000\n");
+    texts.values = ["r3"];
+    const { live, did } = record(calls, texts, { most: 3000, behind: 1000, trigger });
+    for (let frame = 0; frame < 200 && live.isOn; frame++) {
+      const shown = calls.advance(1543);
+      assert.equal(shown.stop, null);
+      did(shown);
+    }
+    assert.equal(live.over, "trigger");
+    const { waves, triggered } = live;
+    assert.deepEqual(told(waves, triggered), wanted);
+    assert.equal(waves.cycles, triggered + 1000);
+    assert.equal(waves.from, Math.max(0, triggered - 2000));
+    assert.match(live.words, /The trigger came at cycle/);
+  });
+}
+
+test("time stops where the cycles behind a trigger are recorded, at an instruction", async () => {
+  const { calls, texts } = await beginWith("stopwatch", "test 0\nrun 20000\n");
+  const { live, did } = record(calls, texts, { most: 3000, behind: 10, trigger: "lamp15 changes", stopsTime: true });
+  let frame = calls.advance(1);
+  for (let count = 0; count < 50 && !frame.stop; count++) {
+    did(frame);
+    frame = calls.advance(1543);
+  }
+  did(frame);
+  assert.equal(frame.stop.why, "recorded");
+  assert.deepEqual([live.over, live.waves.cycles], ["trigger", live.triggered + 10]);
+  assert.match(calls.ask("regs\n")[0], / owed 0 /);
+  const after = calls.advance(1543);
+  assert.deepEqual([after.stop, after.cycles, after.waves], [null, 1543, null]);
+});
+
+test("a key is an edge, too", async () => {
+  const { calls, texts } = await beginWith("calculator", "run 30000\n");
+  const { live, did } = record(calls, texts, { most: 9000, behind: 3000, trigger: "key 1 rises" });
+  did(calls.advance(1543));
+  did(calls.advance(1543, "2 0"));
+  did(calls.advance(4000));
+  assert.equal(live.waves.valueAt(numberOf(live.waves, "key.1"), live.triggered), "1");
+  assert.deepEqual([live.triggered, live.over], [1543, "trigger"]);
+});
+
+test("what ends a recording, in words", async () => {
+  const ends = async (act) => {
+    const { calls, texts } = await beginWith("three lamps", "run 500\n");
+    const { live, did } = record(calls, texts);
+    did(calls.advance(100));
+    did(await act(calls));
+    assert.equal((await calls.serve("step\n")).waves, null);
+    return live.words.replace(/^Recorded: [^.]*\.\d microseconds\. /, "");
+  };
+  assert.equal(await ends((calls) => calls.goBack({ kind: "instruction" })), "It ended where the session went back or forward.");
+  const board = "wire\n[[rom]]\nchip = 0\nport = \"0000\"\n.\n";
+  assert.equal(await ends((calls) => calls.serve(board)), "It ended where the board was wired again.");
+  assert.equal(await ends((calls) => calls.serve("asm\nNOP\n.\n")), "It ended where other bytes were put into ROM.");
+  assert.equal(await ends((calls) => calls.serve("run 100000\n".repeat(30))), "It ended at lines that did more than it can follow.");
+});
+
+test("a trigger that is not understood is told, and nothing is recorded", async () => {
+  const { calls, texts } = await beginWith("calculator");
+  const faultOf = (trigger) => calls.recordLive(texts, { trigger, behind: 0, stopsTime: false });
+  const faults = {
+    "r99 rises": 'nothing here is called r99; the list "Lines and values" has the names',
+    "rom0 rises": "rom0 is a number: it is written as rom0 changes, or as rom0 = 5",
+    "pc changes": "a place of the program is written as @LABEL",
+    "r9 = 16": /15/,
+    "@nowhere": /nowhere/,
+    rubbish: /./,
+  };
+  for (const [trigger, words] of Object.entries(faults)) {
+    const { recorded, fault } = faultOf(trigger);
+    assert.equal(recorded, null, trigger);
+    if (typeof words === "string") assert.equal(fault, words);
+    else assert.match(fault, words);
+  }
+  assert.equal(calls.advance(100).waves, null);
+});

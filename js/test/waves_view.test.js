@@ -1,0 +1,147 @@
+// What is seen of a recording, and what is told of it.
+import assert from "node:assert/strict";
+import { test } from "node:test";
+import { WaveWindow, ticksOf } from "../core/waves/wave_window.js";
+import {
+  betweenText, cursorText, cyclesText, instructionText, microseconds, readCycles, recordedText, spokenText, valueText,
+} from "../core/waves/wave_words.js";
+import { Waves } from "../core/waves/waves.js";
+
+/** A line that changes at some moments. */
+function wavesWith(changes, cycles) {
+  return new Waves({
+    from: 0, cycles, isStuck: false,
+    lines: [{ name: "test", title: "", group: "test", kind: "test", places: [], members: [], width: 1 }],
+    tracks: [{ first: 1, moments: Uint32Array.from(changes), values: null }],
+    moments: Uint32Array.of(0, 1, 3), counters: Uint16Array.of(0, 1, 2), isOwed: false,
+    listing: [[0, "000 D5    LDM 5"], [1, "001 40 00 JUN 0x000"], [2, "002 00    NOP"]], program: null,
+  });
+}
+
+function windowOf(cycles, width) {
+  const view = new WaveWindow(cycles);
+  view.width = width;
+  return view;
+}
+
+test("all is seen at first, and places are moments", () => {
+  const view = windowOf(1000, 500);
+  assert.deepEqual([view.xOf(0), view.xOf(1000), view.cyclesAt(250)], [0, 500, 500]);
+});
+
+test("what stands at a place stays there where it is zoomed", () => {
+  const view = windowOf(1000, 500);
+  view.zoom(4, 600);
+  assert.deepEqual([view.span, view.xOf(600)], [250, 300]);
+  view.zoom(1 / 16, 600);
+  assert.deepEqual([view.from, view.span], [0, 1000]);
+});
+
+test("ten cycles are seen at least, and never more than there are", () => {
+  const view = windowOf(1000, 500);
+  view.zoom(1e9, 995);
+  assert.equal(view.span, 10);
+  assert.ok(view.from >= 0 && view.to <= 1000);
+  view.goTo(5000);
+  assert.equal(view.to, 1000);
+  view.goTo(-5000);
+  assert.equal(view.from, 0);
+  view.showAll();
+  assert.deepEqual([view.from, view.span], [0, 1000]);
+});
+
+test("a cursor stays within the recording, and is brought into view", () => {
+  const view = windowOf(1000, 500);
+  view.zoom(10, 0);
+  view.move(700);
+  assert.ok(view.from <= 700 && view.to >= 700);
+  view.move(4000);
+  view.active = 1;
+  view.move(-3);
+  assert.deepEqual([view.cursors, view.between], [[1000, 0], 1000]);
+});
+
+test("a click means an edge that is near, else the cycle that is there", () => {
+  const waves = wavesWith([100, 400], 1000);
+  const view = windowOf(1000, 500);
+  assert.deepEqual([47, 53, 60, 197, 204, 300].map((x) => view.momentAt(x, waves, 0)), [100, 100, 120, 400, 400, 600]);
+  assert.deepEqual([view.momentAt(53, waves, -1), view.momentAt(-9, waves, 0), view.momentAt(900, waves, 0)], [106, 0, 1000]);
+  view.zoom(100, 0);
+  assert.deepEqual([0, 49, 50, 499].map((x) => view.momentAt(x, waves, -1)), [0, 0, 1, 9]);
+});
+
+test("a window goes along with the end of a recording, where that was seen", () => {
+  const view = windowOf(1000, 500);
+  view.zoom(4, 1000);
+  view.stretch(500, 2000);
+  assert.deepEqual([view.from, view.to, view.cursors], [1750, 2000, [500, 500]]);
+  view.goTo(600);
+  view.stretch(700, 2500);
+  assert.deepEqual([view.from, view.span], [700, 250]);
+});
+
+test("a recording that goes on is seen whole as long as it is short, then its last part", () => {
+  const view = windowOf(0, 500);
+  view.stretch(0, 3000);
+  assert.deepEqual([view.from, view.to, view.cursors], [0, 3000, [3000, 3000]]);
+  view.move(100);
+  view.stretch(0, 50000);
+  assert.deepEqual([view.from, view.to, view.cursors], [30000, 50000, [100, 50000]]);
+  view.showAll();
+  view.stretch(10000, 90000);
+  assert.deepEqual([view.from, view.to, view.cursors], [40000, 90000, [10000, 90000]]);
+  view.showAround(20000);
+  assert.deepEqual([view.from, view.to, view.cursors[0]], [10000, 30000, 20000]);
+});
+
+test("a recording of no cycle has a window, too", () => {
+  const view = windowOf(0, 500);
+  view.zoom(2, 0);
+  view.move(3);
+  assert.deepEqual([view.from, view.moment, ticksOf(view, 90)], [0, 0, [0, 1]]);
+});
+
+test("the numbers of moments have room", () => {
+  assert.deepEqual(ticksOf(windowOf(1000, 500), 90), [0, 200, 400, 600, 800, 1000]);
+  const view = windowOf(100000, 500);
+  view.zoom(10000, 50000);
+  const ticks = ticksOf(view, 90);
+  assert.ok(ticks.length >= 4 && ticks.every((tick) => Number.isInteger(tick)));
+});
+
+test("times are exact: a cycle is 10.8 microseconds", () => {
+  assert.deepEqual([0, 1, 5, 926, 100000].map(microseconds), ["0.0", "10.8", "54.0", "10,000.8", "1,080,000.0"]);
+  assert.deepEqual([cyclesText(1), cyclesText(92593)], ["1 cycle", "92,593 cycles"]);
+  assert.equal(betweenText(926), "A to B: 926 cycles, 10,000.8 microseconds");
+});
+
+test("what is at a cursor, in words", () => {
+  const waves = wavesWith([2], 3);
+  assert.equal(cursorText("A", 0, waves), "A: cycle 0, 0.0 microseconds: 000 D5 LDM 5");
+  assert.equal(cursorText("B", 3, waves), "B: cycle 3, 32.4 microseconds: next: 002 00 NOP");
+  assert.equal(spokenText(2, waves, 0), "test is 0, cycle 2, 001 40 00 JUN 0x000");
+  assert.equal(spokenText(1, waves, -1), "cycle 1, 001 40 00 JUN 0x000");
+  const told = { address: 1, listed: "001 40 00 JUN 0x000", line: 3, source: "JUN wait", isSecond: false, isEnd: false };
+  assert.equal(instructionText(told), "001 40 00 JUN 0x000; line 3 of the source: JUN wait");
+  assert.equal(instructionText({ ...told, isSecond: true }), "the second cycle of an instruction");
+});
+
+test("what was recorded, in words", () => {
+  const waves = wavesWith([2], 3);
+  assert.equal(recordedText(waves, 3, false), "3 cycles recorded, 32.4 microseconds.");
+  assert.equal(recordedText(waves, 9, true), "3 cycles recorded, 32.4 microseconds. The past reaches no further back.");
+  waves.isStuck = true;
+  assert.match(recordedText(waves, 9, false), /Then comes a code that is no instruction\.$/);
+  assert.match(recordedText(wavesWith([], 0), 9, true), /^Nothing was recorded/);
+});
+
+test("a value in three ways", () => {
+  assert.deepEqual(["hex", "decimal", "binary"].map((base) => valueText(10, 4, base)), ["A", "10", "1010"]);
+  assert.deepEqual(["hex", "decimal", "binary"].map((base) => valueText(1, 1, base)), ["1", "1", "1"]);
+  assert.equal(valueText(3, 10, "hex"), "003");
+});
+
+test("how many cycles are wanted", () => {
+  assert.deepEqual(["1", " 10,000 ", "10,000,000"].map(readCycles), [1, 10000, 10000000]);
+  assert.deepEqual(["0", "10000001", "", "x", "1.5", "-1", "999999999"].map(readCycles), [0, 0, 0, 0, 0, 0, 0]);
+});

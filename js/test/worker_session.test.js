@@ -1,0 +1,113 @@
+import assert from "node:assert/strict";
+import { test } from "node:test";
+import { Debugger } from "../core/debug/debugger.js";
+import { WorkerSession, MOST_ENTRIES } from "../core/engine/worker_session.js";
+import { FullSpeed } from "../core/engine/full_speed.js";
+import { FakeEngine } from "./fake_engine.js";
+
+const goesOn = async () => true;
+
+function begin() {
+  const engine = new FakeEngine();
+  return { engine, session: new WorkerSession(engine, engine.begin()) };
+}
+
+test("cycles pass in one call, which looks as well", () => {
+  const { engine, session } = begin();
+  session.queue.press("0 1");
+  const frame = session.advance(5000);
+  assert.equal(engine.calls, 1);
+  assert.deepEqual(frame.ran.map(({ line }) => line), ["press 0 1", "run 5000"]);
+  assert.deepEqual([frame.cycles, frame.end, frame.changesKeys], [5000, "", true]);
+  assert.match(frame.look[0], / lamps \. breaks /);
+  assert.equal(session.file[0], 2);
+});
+
+test("a run that stops early: what came after it is not done", () => {
+  const { engine, session } = begin();
+  engine.stopAt = 2;
+  const frame = session.advance(300000);
+  assert.deepEqual(frame.ran.map(({ answer }) => answer), ["ok 1 ran 100000 end", "ok 2 ran 1 break"]);
+  assert.deepEqual([frame.cycles, frame.end], [100001, "ok 2 ran 1 break"]);
+  assert.equal(session.file[0], 2);
+});
+
+test("a failed call changes nothing, and the keys wait on", () => {
+  const { engine, session } = begin();
+  session.queue.press("0 1");
+  engine.memory = 0;
+  assert.throws(() => session.advance(10), /no 90/);
+  assert.equal(session.file[0], 0);
+  engine.memory = Infinity;
+  assert.equal(session.advance(10).ran[0].line, "press 0 1");
+});
+
+test("lines are served piece by piece, as if at once", async () => {
+  const { session } = begin();
+  const told = await session.serve("step\n".repeat(3000), goesOn);
+  assert.equal(session.file[0], 3000 % 256);
+  assert.equal(told.first, "ok 1");
+  assert.equal(told.entries.length, MOST_ENTRIES);
+  assert.match(told.entries[MOST_ENTRIES - 1].answers[0], /^ok /);
+  assert.equal(told.look.length, 2);
+});
+
+test("of long work nothing is done where a piece fails, or it is cancelled", async () => {
+  const { engine, session } = begin();
+  await assert.rejects(session.serve(`${"step\n".repeat(3000)}trap\n`, goesOn), /unreachable/);
+  assert.equal(session.file[0], 0);
+  engine.memory = 2;
+  await assert.rejects(session.serve("step\n".repeat(9000), goesOn), /no 90/);
+  assert.equal(session.file[0], 0);
+  engine.memory = Infinity;
+  let pieces = 0;
+  await assert.rejects(session.serve("step\n".repeat(9000), async () => ++pieces < 2), /cancelled/);
+  assert.equal(session.file[0], 0);
+  await session.serve("step\n", goesOn);
+  assert.equal(session.file[0], 1);
+});
+
+test("what lines may have changed is told", async () => {
+  const { session } = begin();
+  const of = async (lines) => {
+    const { touchesRom, wires } = await session.serve(lines, goesOn);
+    return [touchesRom, wires];
+  };
+  assert.deepEqual(await of("step\nseq\n"), [false, false]);
+  assert.deepEqual(await of("poke r5 9\n"), [true, false]);
+  session.queue.press("0 1");
+  assert.deepEqual(await of("wire\n.\n"), [true, true]);
+  assert.deepEqual(session.queue.plan(1).map(({ line }) => line), ["run 1"]);
+});
+
+test("full speed: batches are told together, where the page has taken the last ones", () => {
+  const { engine, session } = begin();
+  const machine = new Debugger(session);
+  const fullSpeed = new FullSpeed();
+  fullSpeed.start(false);
+  fullSpeed.batch(machine);
+  assert.equal(fullSpeed.isToBeTold(false), false);
+  fullSpeed.batch(machine);
+  assert.equal(fullSpeed.isToBeTold(true), true);
+  const told = fullSpeed.take();
+  assert.equal(told.ran.length, 1);
+  assert.equal(told.ran[0].cycles, told.cycles);
+  assert.equal(fullSpeed.take().cycles, 0);
+  engine.stopAt = session.file[0] + 1;
+  fullSpeed.batch(machine);
+  assert.equal(fullSpeed.isOn, false);
+  assert.equal(fullSpeed.isToBeTold(false), true);
+  assert.match(fullSpeed.take().end, /break$/);
+});
+
+test("a hidden page is told once a second, and of keys at once", () => {
+  const { session } = begin();
+  const machine = new Debugger(session);
+  const fullSpeed = new FullSpeed();
+  fullSpeed.start(true);
+  fullSpeed.batch(machine);
+  assert.equal(fullSpeed.isToBeTold(true), false);
+  session.queue.press("0 1");
+  fullSpeed.batch(machine);
+  assert.equal(fullSpeed.isToBeTold(true), true);
+});

@@ -1,0 +1,187 @@
+// What people read while a board is drawn: the shelf, the fields, what was done and why something was not.
+
+// --- drawing/acts.js ---
+export const TEST_TAKEN = "TEST has its button or switch: delete that one first.";
+/** @type {(what: string) => string} */
+export const boardHasNo = (what) => `The board has no ${what}.`;
+/** @type {(name: string, target: string) => string} */
+export const needsInput = (name, target) => `${name} is an output line: ${target} is read at an input line of a ROM.`;
+/** @type {(name: string, target: string) => string} */
+export const needsOutput = (name, target) => `${name} is an input line: ${target} takes an output line.`;
+/** @type {(name: string) => string} */
+export const cannotDrive = (name) => (
+  `The rows of the keys are driven by bits of one chain that follow one another: ${name} cannot drive this one.`);
+/** @type {(name: string, kind: string, target: string) => string} */
+export const needsChipLine = (name, kind, target) => (
+  `${name} is a ${kind} of a chain: ${target} takes an output line of a ROM or a RAM chip.`);
+/** @type {(line: string, takers: string) => string} */
+export const takenLine = (line, takers) => `${line} is wired to ${takers}: wire that to another line first.`;
+export const AND = " and ";
+export const ONLY_ONCE = "A board has only one of these.";
+export const COPY_IN_TEXT = "Lamps that belong together can only be copied in the board's text.";
+export const GRID_DIFFERS = "Another lamp would then stand at its place in the grid: choose another name.";
+export const TEST_NEEDS_NAME = "What is at TEST needs a name.";
+export const BUZZER_NEEDS_NAME = "A buzzer needs a name.";
+export const NO_OWN_NAME = "This has no name of its own.";
+/** @type {(colour: string, colours: string) => string} */
+export const noColour = (colour, colours) => `${colour} is no colour; there are ${colours}.`;
+/** @type {(digits: string) => string} */
+export const displayAdded = (digits) => `A display of ${digits} was added`;
+/** @type {(part: string, original: string) => string} */
+export const copyAdded = (part, original) => `${part} was added, a copy of ${original}`;
+/** @type {(line: string, target: string) => string} */
+export const lineWired = (line, target) => `Line ${line} is wired to ${target}`;
+/** @type {(line: string, as: string) => string} */
+export const lineIs = (line, as) => `Line ${line} is an ${as}`;
+export const INPUT = "input";
+/** @type {(level: string) => string} */
+export const outputReadsAs = (level) => `output that reads as ${level}`;
+/** @type {(chain: number, chips: string) => string} */
+export const chainHas = (chain, chips) => `Chain ${chain} has ${chips}`;
+/** @type {(rows: string) => string} */
+export const keysHave = (rows) => `The keys have ${rows}`;
+export const MORE_COLUMNS = "The keys have one more column";
+/** @type {(words: string) => string} */
+export const andWithIt = (words) => `, and with it ${words}`;
+/** @type {(part: string, name: string) => string} */
+export const named = (part, name) => (name ? `${part} is called ${name}` : `${part} has no name`);
+/** @type {(lamp: number, colour: string) => string} */
+export const lampIs = (lamp, colour) => `Lamp ${lamp} is ${colour}`;
+export const USUAL_RED = "red, as usual";
+export const FACE_UNREADABLE = "The face of the board could not be read then.";
+export const TEXT_HAS_FAULTS = "The board's text has faults: see Board.";
+/** @type {(parts: string) => string} */
+export const withAlso = (parts) => `, with ${parts}`;
+/** @type {(names: string[]) => string} */
+export const listOf = (names) => names.join(", ").replace(/, ([^,]*)$/, " and $1");
+
+// --- drawing/adding.js ---
+/** @type {(most: number) => string} */
+export const mostRoms = (most) => `A board has at most ${most} ROMs.`;
+/** @type {(banks: number, chips: number) => string} */
+export const mostRams = (banks, chips) => `A board has at most ${banks} banks of ${chips} RAM chips.`;
+export const AT_TEST = "what is at TEST";
+export const THE_BOARD = "the board";
+/** @type {(part: string) => string} */
+export const thePart = (part) => `the ${part}`;
+export const THE_BUZZER = "the buzzer";
+/** @type {(most: number) => string} */
+export const mostChains = (most) => `A board has at most ${most} chains.`;
+export const ONE_MATRIX = "A board has one key matrix: give it more rows and columns.";
+export const NO_KEYS = "The board has no keys.";
+/** @type {(most: number) => string} */
+export const mostRows = (most) => `A key matrix has at most ${most} rows.`;
+export const LEAST_ROWS = "A key matrix has at least one row; or delete the keys.";
+/** @type {(chain: number) => string} */
+export const noBitForRow = (chain) => `Chain ${chain} has no bit for another row: give it another chip.`;
+/** @type {(most: number) => string} */
+export const mostColumns = (most) => `A key matrix has at most ${most} columns.`;
+/** @type {(most: number, count: number) => string} */
+export const mostLamps = (most, count) => `A board has at most ${most} lamps; it has ${count}.`;
+export const ONE_BUZZER = "A board has one buzzer: delete that one first.";
+export const LEAST_DIGITS = "A display has a whole number of digits, at least 1.";
+/** @type {(most: number) => string} */
+export const mostScanned = (most) => `A display whose digits are lit in turn has 1 to ${most} digits.`;
+/** @type {(place: string) => string} */
+export const buzzerIsAt = (place) => `The buzzer is at ${place}: give it another line first.`;
+/** @type {(line: string) => string} */
+export const printerIsAt = (line) => `The printer is at ${line}: give it other lines first, in Board.`;
+/** @type {(most: number) => string} */
+export const mostChips = (most) => `A chain has at most ${most} chips.`;
+export const LEAST_CHIPS = "A chain has at least one chip; or delete the chain.";
+/** @type {(bit: string) => string} */
+export const inUse = (bit) => `${bit} is in use: wire what is there to another line first.`;
+
+// --- drawing/board_lines.js ---
+/** @type {(kind: string, number: number) => string} */
+export const ofChain = (kind, number) => `the ${kind} of chain ${number}`;
+/** @type {(target: string) => string} */
+export const ofKeys = (target) => `${target} of the keys`;
+
+// --- drawing/deleting.js ---
+export const PROCESSOR_STAYS = "Each board has its processor.";
+export const CHAIN_NEEDS_LINES = "A chain needs a clock and data: wire it to another line, or delete the chain.";
+export const LINE_STAYS = "A line is deleted only with its chip.";
+/** @type {(bank: number, chip: number) => string} */
+export const deleteChipFirst = (bank, chip) => `The chips of a bank are numbered from 0: delete RAM ${bank}.${chip} first.`;
+export const DELETE_LAST_ROW = "The rows of the keys are numbered from 0: delete the last one first.";
+/** @type {(count: number) => string} */
+export const allLampsOf = (count) => `all ${count} lamps of its display`;
+
+// --- drawing/drawing.js ---
+export const CANNOT_READ = "The board's text is written in a way that the picture cannot change; change it in Board.";
+/** @type {(why: string) => string} */
+export const benchRefuses = (why) => `The bench refuses the board's text: ${why}. Board shows where.`;
+/** @type {(name: string) => string} */
+export const lineOfBoard = (name) => `line ${name}`;
+/** @type {(pin: string, pins: string) => string} */
+export const wireBegins = (pin, pins) => `A wire begins at ${pin}: it can end at ${pins}.`;
+export const NO_WIRE = "No wire was drawn.";
+export const ALREADY_SO = "It is so already.";
+/** @type {(why: string) => string} */
+export const notDone = (why) => `It was not done. ${why}`;
+export const UNDONE = "Undone.";
+export const REDONE = "Redone.";
+export const NOTHING_TO_UNDO = "There is nothing to undo.";
+export const NOTHING_TO_REDO = "There is nothing to redo.";
+
+// --- drawing/drawing_view.js ---
+/**
+ * What the shelf calls its parts, and says of them.
+ * @type {Record<import("../core/drawing/acts.js").Shelved, [string, string]>}
+ */
+export const SHELF = {
+  rom: ["ROM", "a 4001: 256 bytes of program, and a port of four output lines"],
+  inputs: ["ROM, inputs", "a 4001 whose port reads four lines"],
+  ram: ["RAM", "a 4002: 80 characters, and a port of four output lines"],
+  chain: ["Shift register", "a chain of one 4003: ten bits, shifted by a clock line and a data line"],
+  keys: ["Keys", "a matrix: rows driven by a chain, columns read by a ROM"],
+  lamp: ["Lamp", "at the chosen output line, else at the next free one"],
+  digit: ["Digits", "a display whose digits are numbers of four lines each"],
+  segments: ["7 segments", "a display whose digits are seven lines each"],
+  scanned: ["Scanned", "digits that are lit by turns: seven lines for all of them, and a line for each"],
+  button: ["Button", "at the processor's TEST pin; it springs back"],
+  switch: ["Switch", "at the processor's TEST pin; it stays"],
+  buzzer: ["Buzzer", "at the chosen output line, else at the next free one; the edges of its line are sound"],
+};
+export const NOT_WIRED = "Not wired yet.";
+export const SHOW_IN_BOARD = "Show in Board";
+
+// --- drawing/fields.js ---
+/** @type {(label: string) => string} */
+export const lineOf = (label) => `${label} at`;
+export const WHAT_IS_THERE = "what is there";
+/** What a line of a ROM's port is, by its letter in the board's text. */
+export const DIRECTIONS = [["i", "an input"], ["0", "an output"], ["1", "an output that reads as 1"]];
+/** @type {(line: number) => string} */
+export const lineIsA = (line) => `line ${line} is`;
+export const COPY = "Copy";
+export const DELETE = "Delete";
+/** @type {(chip: number) => string} */
+export const romWithPort = (chip) => `ROM ${chip}, a 4001 with a port`;
+/** @type {(chain: number) => string} */
+export const chainOf = (chain) => `Chain ${chain} of 4003`;
+export const ANOTHER_COLUMN = "Another column";
+export const KEYS = "Keys";
+export const COPY_DISPLAY = "Copy the display";
+/** @type {(count: number) => string} */
+export const deleteLamps = (count) => `Delete its ${count} lamps`;
+/** @type {(lamp: number) => string} */
+export const lampTitle = (lamp) => `Lamp ${lamp}`;
+export const THE_BUZZER_TITLE = "The buzzer";
+/** @type {(chip: string) => string} */
+export const ramWithPort = (chip) => `RAM ${chip}, a 4002 with a port`;
+export const LAMP_HERE = "A lamp here";
+export const BUZZER_HERE = "A buzzer here";
+/** @type {(line: string, isInput: boolean) => string} */
+export const lineTitle = (line, isInput) => `Line ${line}, an ${isInput ? "input" : "output"}`;
+export const IT_IS = "it is at";
+export const ALL_LAMPS = "All lamps";
+export const DELETE_ALL_LAMPS = "Delete all lamps";
+/** @type {(kind: string) => string} */
+export const atTest = (kind) => `The ${kind} at TEST`;
+export const BOARD_TITLE = "The board";
+
+// --- drawing/lamp_labels.js ---
+/** @type {(lamp: string) => string} */
+export const allDigits = (lamp) => `all digits: ${lamp}`;

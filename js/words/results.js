@@ -1,0 +1,63 @@
+// What came of tests, in words: of all, of one, of what was counted. Without a document.
+
+import { counted } from "../core/bench/numbers.js";
+import { wordsOfCoverage } from "../core/testing/coverage.js";
+
+/**
+ * @typedef {import("../core/testing/prepared.js").TextFault} TextFault
+ * @typedef {import("../core/testing/testing.js").Report} Report
+ * @typedef {import("../core/testing/test_run.js").Outcome} Outcome
+ */
+
+/** @type {Record<TextFault["text"], string>} */
+const WHERE = { board: "Board", program: "Source", tests: "Tests", properties: "Properties" };
+
+/**
+ * How many passed, and how many did not.
+ * @param {Outcome[]} outcomes
+ */
+export function wordsOfOutcomes(outcomes) {
+  const failed = outcomes.filter(({ failure }) => failure).length;
+  if (failed === 0) return outcomes.length === 1 ? "The test passed." : `All ${counted(outcomes.length, "test")} passed.`;
+  return `${failed} of ${counted(outcomes.length, "test")} failed.`;
+}
+
+/**
+ * The same for a tab.
+ * @param {Outcome[]} outcomes
+ */
+export function markOfOutcomes(outcomes) {
+  const failed = outcomes.filter(({ failure }) => failure).length;
+  return failed > 0 ? `${failed} failed` : "passed";
+}
+
+/**
+ * Why nothing was run.
+ * @param {TextFault[]} faults
+ * @param {(number: number) => string} wordsOfRefusal
+ */
+export function wordsOfFaults(faults, wordsOfRefusal) {
+  const [{ text, line, number, words }] = faults;
+  const what = words || `no ${number}: ${wordsOfRefusal(number)}`;
+  const more = faults.length > 1 ? `, and ${faults.length - 1} more` : "";
+  return `Nothing was run: ${WHERE[text]}${line > 0 ? `, line ${line}` : ""}: ${what}${more}.`;
+}
+
+/**
+ * @param {Outcome} outcome
+ */
+export function wordsOfTime({ cycles }) {
+  const time = cycles * 0.0108;
+  return `${counted(cycles, "cycle")}, ${time < 1000 ? `${time.toFixed(1)} ms` : `${(time / 1000).toFixed(2)} s`}`;
+}
+
+/**
+ * What the tests have run of the program.
+ * @param {Report} report
+ */
+export function wordsOfCounts({ coverage }) {
+  if (!coverage || coverage.instructions === 0) return "";
+  const ways = coverage.lines.filter(({ isJump, count, taken }) => isJump && count > 0 && (taken === 0 || taken === count)).length;
+  const oneWay = ways === 0 ? "" : ` ${counted(ways, "jump")} always went one way.`;
+  return `${wordsOfCoverage(coverage)}.${oneWay} The counts stand beside the source.`;
+}

@@ -1,0 +1,166 @@
+// Why time stopped, where, and after how many cycles, in words.
+
+import { hex } from "../core/bench/numbers.js";
+import { wordsOfCycles } from "../core/time/cycles.js";
+
+/**
+ * @typedef {import("../core/engine/going_back.js").BackGoal} BackGoal
+ * @typedef {import("../core/bench/protocol.js").Gone} Gone
+ * @typedef {import("../core/debug/debugger.js").Stop} Stop
+ * @typedef {import("../core/debug/goals.js").Goal} Goal
+ * @typedef {import("../core/machine/source_map.js").SourceMap} SourceMap
+ */
+
+/** @type {Record<string, string>} why a run stopped, by the word of its answer */
+export const REASONS = {
+  code: "before a code that is not an instruction",
+  break: "at a breakpoint",
+  watch: "after a watched character changed",
+  usual: "before a fault that is reported",
+  recorded: "where the waves after the trigger are recorded",
+};
+
+/** @type {(line: number) => string} a line of a text, by its number */
+export const wordsOfLine = (line) => `line ${line}`;
+
+/**
+ * An address with its name and its line: `00D (show + 3, line 12)`.
+ * @param {string} address as it is written
+ * @param {SourceMap | null} map the program that stands in ROM
+ */
+export function wordsOfAddress(address, map) {
+  const number = parseInt(address, 16);
+  const line = map ? map.lineOf(number) : 0;
+  const words = map && line > 0 ? [map.nameOf(number), wordsOfLine(line)].filter(Boolean).join(", ") : "";
+  return words ? `${address} (${words})` : address;
+}
+
+/**
+ * What going back or forward came to.
+ * @param {BackGoal | { kind: "forward" }} goal
+ * @param {Pick<Gone, "isDone" | "why" | "place" | "from" | "to" | "line" | "end" | "cycles">} gone
+ * @param {string} where time stands still
+ * @param {{ condition: string }} [breakpoint] at which it arrived there
+ */
+export function wordsOfGone(goal, gone, where, breakpoint) {
+  const { isDone, why, from, to, line, end, cycles } = gone;
+  if (!isDone) return `Nothing was done: ${whyNot(goal, why)}.`;
+  const over = cycles === 0 ? "" : `, ${wordsOfCycles(cycles)}`;
+  if (goal.kind === "forward") return `Forward again to ${where}${over}${over && " later"}.`;
+  const before = cycles === 0 ? "" : `${over} before`;
+  if (goal.kind === "stop") return `Back at the stop at ${where}${before}.`;
+  if (goal.kind === "instruction") return `Back at ${where}${before}: this instruction is not done.`;
+  if (end === "break") {
+    const when = wordsOfWhen(breakpoint && { ...breakpoint, from: 1, hits: 0 });
+    return `Back at ${where}${before}, at a breakpoint${when}.`;
+  }
+  if (end === "beginning") return `Back at ${where}${before}, where what is remembered begins: no breakpoint was passed since.`;
+  const who = line ? `the line ${line}` : "this instruction";
+  return `Back at ${where}${before}: ${who} changes ${gone.place} from ${from} to ${to}.`;
+}
+
+/**
+ * @param {BackGoal | { kind: "forward" }} goal
+ * @param {string} why
+ */
+function whyNot(goal, why) {
+  if (goal.kind === "forward") return "forward leads where going back came from, until something else is done";
+  if (goal.kind === "stop") return "no stop before this one is remembered";
+  if (goal.kind === "instruction" || why === "short" && goal.kind === "arrival") return "what is remembered reaches no further back";
+  if (why === "lacks") return `this board has no ${goal.place}`;
+  return `${goal.place} has not changed as far back as is remembered`;
+}
+
+/**
+ * When a place changed last, and by what; "" where there is no such place.
+ * @param {string} name of the place
+ * @param {import("../core/debug/debugger.js").LastChange} told
+ * @param {SourceMap | null} map the program that stands in ROM
+ */
+export function wordsOfLastChange(name, { isFound, why, from, to, line, cycles, address }, map) {
+  if (why === "lacks") return "";
+  if (!isFound) return `${name}: no change as far back as the page remembers.`;
+  const who = line ? `the line ${line}` : wordsOfAddress(hex(address, 3), map);
+  return `${name}: from ${from} to ${to} by ${who}${cycles === 0 ? "" : `, ${wordsOfCycles(cycles)} ago`}.`;
+}
+
+/**
+ * What is waited for.
+ * @param {Goal} goal
+ */
+export function wordsOfGoal(goal) {
+  if (goal.kind === "here") return `the address ${hex(goal.address, 3)}`;
+  if (goal.kind === "count") return `the end of ${goal.count.toLocaleString("en")} instructions`;
+  if (goal.kind === "change") return `a change of ${goal.place}`;
+  return "the return from the subroutine";
+}
+
+/**
+ * Time runs to a goal that did not come soon.
+ * @param {Goal} goal
+ */
+export function wordsOfMove(goal) {
+  return `Time runs, up to ${wordsOfGoal(goal)}.`;
+}
+
+/**
+ * @param {Goal} goal
+ * @param {boolean} returns whether a return was waited for
+ * @param {string} where
+ */
+function reached(goal, returns, where) {
+  if (goal.kind === "here") return `Stopped at ${where}, as wanted`;
+  if (goal.kind === "change") return `Stopped at ${where}, after ${goal.place} changed`;
+  if (goal.kind === "count") return `${goal.count.toLocaleString("en")} instruction${goal.count === 1 ? " was" : "s were"} done`;
+  return returns ? `Returned to ${where}` : `At ${where}`;
+}
+
+/**
+ * @param {Goal | null} goal null where time ran to none
+ * @param {Pick<Stop, "why" | "cycles" | "returns">} stop
+ * @param {string} where time stands still
+ * @param {string} [when] what of the breakpoint that stopped it
+ */
+export function wordsOfStop(goal, { why, cycles, returns }, where, when = "") {
+  if (why === "lacks") return `Nothing was done: this board has no ${goal && goal.kind === "change" ? goal.place : "such place"}.`;
+  const after = `after ${wordsOfCycles(cycles)}`;
+  if (goal && why === "goal") return `${reached(goal, returns, where)}, ${after}.`;
+  const reason = (REASONS[why] || why) + (why === "break" ? when : "");
+  return goal ? `Stopped at ${where}, ${reason}, ${after}; ${wordsOfGoal(goal)} was not reached.` : `Stopped at ${where}, ${reason}.`;
+}
+
+/**
+ * When a breakpoint stops: `, where r9 = 9`, `, at hit 5`.
+ * @param {{ condition: string, from: number, hits: number } | undefined} breakpoint
+ */
+export function wordsOfWhen(breakpoint) {
+  if (!breakpoint) return "";
+  const { condition, from, hits } = breakpoint;
+  return (condition.trim() ? `, where ${condition.trim()}` : "") + (from > 1 ? `, at hit ${hits.toLocaleString("en")}` : "");
+}
+
+/** @type {(where: string) => string} */
+export const standsAt = (where) => `Stands at ${where}.`;
+/** @type {(where: string) => string} */
+export const stoppedAt = (where) => `Stopped at ${where}.`;
+
+/**
+ * Time was stopped by a hand before its goal.
+ * @param {Goal | null} goal
+ * @param {number} cycles since it began
+ * @param {string} where
+ */
+export function wordsOfHalt(goal, cycles, where) {
+  return goal ? `Stopped at ${where}, after ${wordsOfCycles(cycles)}; ${wordsOfGoal(goal)} was not reached.` : stoppedAt(where);
+}
+
+/**
+ * A move was under way as the page was loaded anew, or as another session was shown.
+ * @param {Goal} goal
+ * @param {boolean} ran whether time ran up to it; else it was looked for
+ * @param {string} where
+ */
+export function wordsOfBroken(goal, ran, where) {
+  const what = `${wordsOfGoal(goal)} was ${ran ? "not reached" : "looked for, and nothing was done"}`;
+  return `Stopped at ${where}: ${what}, as the page was loaded again or another session was shown.`;
+}
