@@ -1,8 +1,8 @@
-"""What the page takes from others: esbuild, which joins its modules, and CodeMirror 6, the editor of its texts.
+"""What the page takes from others: esbuild, which joins its modules; CodeMirror 6, the editor of its texts; and pako, which unpacks its module.
 
-CodeMirror stands in page/codemirror as Debian's packages of trixie have it; page/codemirror/fetch brings it, and page/codemirror/SUMS has the
+CodeMirror and pako are in page/codemirror as Debian's packages of trixie have it; page/codemirror/fetch brings it, and page/codemirror/SUMS has the
 sum of each file. esbuild is looked for where `npm install --prefix page/from_npm esbuild@VERSION` puts it, then where Debian does. Another
-version makes another page than the one that is shipped: it is used, and that is said.
+version makes another page than the one that is shipped: it is used, and that is said. So does a zlib that packs in another way.
 """
 
 import hashlib
@@ -10,11 +10,15 @@ import pathlib
 import re
 import shutil
 import subprocess
+import zlib
 
 HERE = pathlib.Path(__file__).resolve().parent
 ESBUILD = "0.17.0"
 EDITOR = HERE / "codemirror"
-# What page/src imports of the editor.
+# A text, and the sum (SHA-256) of what zlib packs it to.
+PACKED_TEXT = " ".join(str(number * number) for number in range(20000)).encode()
+PACKED_SUM = "c9235e861439903a62dc18ba276c200da9cfd6a308ace067475943966a4aaa78"
+# What js/page imports of the editor.
 IMPORTS = re.compile(r'^import \{([^}]*)\}\s*from "(@codemirror/[a-z]+|style-mod)";', re.M)
 
 
@@ -32,7 +36,7 @@ def esbuild():
 
 
 def sums():
-    """By the names of the files of CodeMirror, their sums (SHA-256)."""
+    """By the names of the files of CodeMirror and pako, their sums (SHA-256)."""
     lines = (EDITOR / "SUMS").read_text().splitlines()
     return {name: told for told, name in (line.split("  ", 1) for line in lines)}
 
@@ -54,13 +58,21 @@ def editor_imports(folder):
     return {module: sorted(names) for module, names in sorted(used.items())}
 
 
+def packed(data):
+    """Bytes packed by raw DEFLATE."""
+    packer = zlib.compressobj(9, wbits=-15)
+    return packer.compress(data) + packer.flush()
+
+
 def other_parts():
     """In words, each part that is another one than that of the shipped page."""
     found = subprocess.run([esbuild(), "--version"], stdout=subprocess.PIPE, text=True, check=True).stdout.strip()
-    return [] if found == ESBUILD else [f"esbuild is {found}, not {ESBUILD}"]
+    other_esbuild = [] if found == ESBUILD else [f"esbuild is {found}, not {ESBUILD}"]
+    other_zlib = [] if hashlib.sha256(packed(PACKED_TEXT)).hexdigest() == PACKED_SUM else [f"zlib {zlib.ZLIB_RUNTIME_VERSION} packs otherwise"]
+    return [*other_esbuild, *other_zlib]
 
 
 def editor_licence():
-    """Whose CodeMirror is and its licence; both have to stand in the page."""
+    """The authors and licences of CodeMirror and pako, which the page must contain."""
     told = (EDITOR / "LICENCE").read_text().strip()
-    return f"CodeMirror 6, of which the editors of this page are made.\n\n{told}"
+    return f"CodeMirror 6, of which the editors of this page are made, and pako, which unpacks its module.\n\n{told}"

@@ -32,7 +32,7 @@ const webview = {
 listeners.view.resolveWebviewView({ webview, onDidDispose: listening("closed") });
 say({ html: webview.html });
 
-const client = new Client(`${TOP}tools/dap`);
+const client = new Client(`${TOP}mcs4`);
 const session = { customRequest: (command, args) => client.ask(command, args) };
 const tracker = listeners.tracker.createDebugAdapterTracker(session);
 client.check = (message) => {

@@ -1,8 +1,19 @@
-"""The program that a check looks at."""
+"""The programs that a check looks at."""
 
+import os
 import pathlib
 import subprocess
 import sys
+
+TOP = pathlib.Path(__file__).resolve().parent.parent.parent
+FIND_PROVER = 'top=$0; . "$top/tools/lib/start.sh"; find_prover; printf "%s\\n%s" "$program" "$fault"'
+
+
+def built_prover():
+    """The program that searches for `mcs4 prove`, which MCS4_PROVE names, or as tools/lib/start.sh finds it; without one, why there is none."""
+    if named := os.environ.get("MCS4_PROVE"):
+        return named, ""
+    return subprocess.run(["/bin/sh", "-c", FIND_PROVER, TOP], stdout=subprocess.PIPE, text=True, check=True).stdout.split("\n")
 
 
 def built_program():

@@ -64,7 +64,7 @@ function line() {
     () => `press ${below(10)} ${below(5)}`, () => `release ${below(10)} ${below(5)}`,
     () => `test ${below(3)}`, () => "reset", () => `break ${below(400)}`, () => `unbreak ${below(400)}`,
     () => `watch ${below(9)} ${below(3) ? below(64) : below(260)}`, () => `unwatch ${below(8)} ${below(64)}`,
-    () => pick(["lamps", "regs", "breaks", "watches", "ports", "board", "seq", "state"]), () => pick(["ports", "watches", "regs"]),
+    () => pick(["lamps", "regs", "breaks", "watches", "board", "seq", "state"]), () => pick(["state", "watches", "regs"]),
     () => `count ${1 + below(2000)}`,
     () => `trace ${1 + below(300)} ${Array.from({ length: below(5) }, () => either(PROBES)).join(" ")}`,
     () => `ram ${below(9)}`, () => `list ${below(4200)} ${below(260)}`, () => `wire\n${pick(BOARDS)}.`, () => program().trimEnd(),
@@ -115,7 +115,7 @@ function settle(engine, file) {
 
 // How the answer to an input may begin.
 const BEGINNINGS = {
-  regs: /^acc /, list: /^[0-9A-F]{3} /, lamps: /^lamps /, ram: /^ram /, board: /^board$/, ports: /^ports$/,
+  regs: /^acc /, list: /^[0-9A-F]{3} /, lamps: /^lamps /, ram: /^ram /, board: /^board$/,
   map: /^map lines /, breaks: /^breaks /, watches: /^watches /, seq: /^seq /, state: /^state seq /,
   count: /^count ran /, trace: /^trace ran /,
 };

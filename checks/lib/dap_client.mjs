@@ -1,10 +1,10 @@
-// A client of debug adapters, as the text of the protocol has them: it starts `tools/dap`, asks, and waits for events.
+// A client of debug adapters, as the text of the protocol has them: it starts `mcs4 dap`, asks, and waits for events.
 import { MessageClient } from "./message_client.mjs";
 
 export class Client extends MessageClient {
-  /** @param {string} command that starts the adapter */
-  constructor(command, folder = ".") {
-    super(command, folder);
+  /** @param {string} command that is mcs4 */
+  constructor(command, folder = ".", words = []) {
+    super(command, folder, ["dap", ...words]);
     /** The faults of what it was sent, by the protocol. */
     this.faults = [];
     this.expected = 0;

@@ -4,7 +4,7 @@ import { copyFileSync, readFileSync, readdirSync, writeFileSync } from "node:fs"
 import { Client } from "./dap_client.mjs";
 
 const TOP = new URL("../..", import.meta.url).pathname;
-const DAP = `${TOP}tools/dap`;
+const MCS4 = `${TOP}mcs4`;
 const [folder] = process.argv.slice(2);
 const STEPS = 200;
 /** So many cycles does the program do that the speed is measured by. */
@@ -64,7 +64,7 @@ const same = ({ acc, cy, pc, dcl, test, r }) => ({ acc, cy, pc, dcl, test, r });
 async function trySteps(name) {
   const { lineAt, file } = fileOf(name);
   const wanted = mcs4("open", file, "state\nstep\n".repeat(STEPS)).filter((each) => each.startsWith("state ")).map(valuesOf);
-  const client = new Client(DAP);
+  const client = new Client(MCS4);
   await client.begin({ project: example(name).project });
   const told = [await client.event("stopped")];
   const states = [];
@@ -91,7 +91,7 @@ async function tryBreakpoints(name) {
   const { file, lineAt, names } = fileOf(name);
   const text = readFileSync(example(name).program, "utf8");
   const labels = [...names].filter(([label, value]) => lineAt.has(value) && new RegExp(`^${label}:`, "m").test(text)).slice(0, 8);
-  const client = new Client(DAP);
+  const client = new Client(MCS4);
   await client.begin(example(name));
   await client.event("stopped");
   const begun = await client.ask("evaluate", { expression: "state", context: "repl" });
@@ -115,7 +115,7 @@ async function tryArrivals(name, label, register) {
   const { file, names } = fileOf(name);
   const stops = "run 20000\nstate\n".repeat(40);
   const wanted = mcs4("open", file, `state\nbreak ${names.get(label)}\n${stops}`).filter((each) => each.startsWith("state ")).map(valuesOf);
-  const client = new Client(DAP);
+  const client = new Client(MCS4);
   await client.begin(example(name));
   await client.event("stopped");
   const { breakpoints: [{ id }] } = await client.ask("setFunctionBreakpoints", { breakpoints: [{ name: label }] });
@@ -150,7 +150,7 @@ async function tryArrivals(name, label, register) {
 async function trySetting() {
   const { file } = fileOf("lock");
   const wanted = valuesOf(mcs4("open", file, "poke r4 7\npoke acc 9\npoke pc 0x2E\npoke ram.0.0x13 5\npress 1 1\ntest 0\nstate\n").pop());
-  const client = new Client(DAP);
+  const client = new Client(MCS4);
   await client.begin(example("lock"));
   await client.event("stopped");
   const { variablesReference } = await client.scope("Registers");
@@ -169,7 +169,7 @@ async function trySetting() {
 /** A session file has at each stop what was told; its breakpoints stay. */
 async function trySession() {
   const { file } = fileOf("lock", "break 0x031\n");
-  const client = new Client(DAP);
+  const client = new Client(MCS4);
   await client.begin({ ...example("lock"), session: file });
   await client.event("stopped");
   const differing = [];
@@ -186,21 +186,21 @@ async function trySession() {
   await client.ask("evaluate", { expression: "press 5", context: "repl" });
   await compare("press 5");
   verdict(differing, [], "a session file has at each stop what was told");
-  const other = new Client(DAP);
+  const other = new Client(MCS4);
   await other.ask("initialize", {});
   fits((await other.answer("launch", { session: file })).message, /was refused.*in use/s, "a session in use is refused");
   await other.end();
   client.child.kill("SIGKILL");
   await client.ended;
   const left = stateIn(file);
-  const third = new Client(DAP);
+  const third = new Client(MCS4);
   await third.begin({ session: file, stopOnEntry: false });
   await third.ask("setFunctionBreakpoints", { breakpoints: [] });
   fits(left, / keys 1.1 /, "what was told is kept where the adapter is killed");
   third.child.stdin.end();
   verdict(await third.ended, 1, "where the client goes away, the adapter ends");
   verdict(mcs4("open", file, "breaks\n"), ["breaks 031"], "the breakpoints of a session stay");
-  verdict(readdirSync(folder).filter((name) => name.startsWith("lock.mcs.")), [], "no other file is left");
+  verdict(readdirSync(folder).filter((name) => name.startsWith("lock.mcs.") || name.startsWith(".")), [], "no other file is left");
 }
 
 /** Files that are no sessions are refused, and stay as they are. */
@@ -210,7 +210,7 @@ async function tryFiles() {
   damaged.fill(0x55, 16, 40000);
   writeFileSync(`${folder}/damaged.mcs`, damaged);
   writeFileSync(`${folder}/none.mcs`, "no session\n");
-  const client = new Client(DAP);
+  const client = new Client(MCS4);
   await client.ask("initialize", {});
   for (const [name, words] of [["damaged.mcs", /no 5[01]|damaged/], ["none.mcs", /no 50/], ["nothing/x.mcs", /not there/]]) {
     fits((await client.answer("launch", { session: `${folder}/${name}` })).message, words, `${name} is refused`);
@@ -227,7 +227,7 @@ async function tryFiles() {
 
 /** What is wrong with messages. */
 async function tryMessages() {
-  const client = new Client(DAP);
+  const client = new Client(MCS4);
   fits((await client.answer("threads")).message, /initialize comes first/, "out of order");
   await client.ask("initialize", {});
   fits((await client.answer("next", { threadId: 1 })).message, /configurationDone comes first|nothing is launched/, "a move before launch");
@@ -242,10 +242,18 @@ async function tryMessages() {
   fits(long.message, /65536 characters/, "16 MB in the console");
   verdict(client.faults, [], "each answer is as the protocol has it");
   verdict(await client.end(), 0, "it ends after all of that");
-  const other = new Client(DAP);
+  const other = new Client(MCS4);
   other.raw("GET / HTTP/1.1\r\n\r\n");
   verdict([await other.ended, other.told.split(",")[0]], [1, "dap: a message begins with one line Content-Length: N"], "another protocol");
-  const child = spawn(DAP, ["--port", "1"], { stdio: "ignore" });
+  const large = new Client(MCS4);
+  large.raw("Content-Length: 99999999999\r\n\r\n");
+  const { message } = await large.next(({ request_seq }) => request_seq === 0);
+  verdict([await large.ended, large.told], [1, `dap: ${message}\n`], "a size that no message has");
+  fits(message, /99999999999 is more than a message can have/, "is told");
+  const talking = new Client(MCS4, TOP, ["--stdio"]);
+  await talking.ask("initialize", {});
+  verdict(await talking.end(), 0, "--stdio is what it does");
+  const child = spawn(MCS4, ["dap", "--port", "1"], { stdio: "ignore" });
   verdict(await new Promise((resume) => child.on("close", resume)), 2, "wrong arguments");
 }
 
@@ -268,7 +276,7 @@ async function trySpeed() {
   // R0 counts 12 * 16 ** 5 times, with NOP and ISZ of 3 cycles; each of R1 to R5 after 16 turns of the one before it, by 2.
   const count = [0, 1, 2, 3, 4, 5].map((each) => `count${each}: ISZ R${each}, turn\n`).join("");
   writeFileSync(program, `        FIM P0, 0\n        FIM P1, 0\n        FIM P2, 0x04\nturn:   NOP\n${count}far:    JUN far\n`);
-  const client = new Client(DAP);
+  const client = new Client(MCS4);
   await client.begin({ program, board: example("three_lamps").board });
   await client.event("stopped");
   console.log(`speed: a step is told in ${spoken(await timed(200, () => client.move("stepIn")))}`);

@@ -73,6 +73,39 @@ local function main()
     say("renamed %s, %s", find("begin_anew:") and "its definition" or "not its definition", find("anew:") == 30 and "alone" or "more")
     diagnostics(lock, 0)
 
+    -- Layout, routines, lenses, the form of a statement.
+    local text = vim.api.nvim_buf_get_lines(lock, 0, -1, false)
+    local line = find("FIM P5, 0")
+    vim.api.nvim_buf_set_lines(lock, line - 1, line, false, { "begin_anew:FIM P5,0;no digit yet" })
+    if vim.lsp.buf.format then vim.lsp.buf.format({ timeout_ms = patience }) else vim.lsp.buf.formatting_sync(nil, patience) end
+    say("layout %s", vim.api.nvim_buf_get_lines(lock, line - 1, line, false)[1])
+    say("layout %s", vim.api.nvim_buf_get_lines(lock, 18, 19, false)[1])
+    vim.api.nvim_buf_set_lines(lock, 0, -1, false, text)
+    put("JMS show", 5)
+    local item = request("textDocument/prepareCallHierarchy")[1]
+    for _, each in ipairs(request("callHierarchy/incomingCalls", { item = item })) do say("called by %s, %d times", each.from.name, #each.fromRanges) end
+    for _, each in ipairs(request("textDocument/codeLens")) do
+        if each.range.start.line + 1 == find("show:") then say("lens %s", each.command.title) end
+    end
+    put("JCN zero, begin_anew", 10)
+    local help = request("textDocument/signatureHelp")
+    say("signature %s, operand %d", help.signatures[1].label, help.activeParameter)
+    local folds = request("textDocument/foldingRange")
+    say("folds %d, the first from %d to %d", #folds, folds[1].startLine, folds[1].endLine)
+    local hints = request("textDocument/inlayHint", { range = { start = { line = 29, character = 0 }, ["end"] = { line = 29, character = 0 } } })
+    for _, each in ipairs(hints) do say("hint %s", each.label) end
+    for _, each in ipairs(request("workspace/symbol", { query = "begin_a" })) do say("in the workspace %s %s", each.containerName, each.name) end
+
+    -- Tests and properties.
+    local tests = edit("lock.test")
+    diagnostics(tests, 0)
+    vim.api.nvim_buf_set_lines(tests, -1, -1, false, { "test a fault", "  press Q" })
+    diagnostics(tests, 1)
+    put("press Q", 6)
+    for _, each in ipairs(request("textDocument/completion")) do if each.label == "#" then say("completion %s", each.label) end end
+    local properties = edit("lock.props")
+    diagnostics(properties, 0)
+
     -- Faults, of which one is cured.
     local wrong = edit("wrong.asm")
     diagnostics(wrong, 3)

@@ -4,7 +4,7 @@ import { readFileSync, readdirSync } from "node:fs";
 import { Client } from "./lsp_client.mjs";
 
 const TOP = new URL("../..", import.meta.url).pathname;
-const LSP = `${TOP}tools/lsp`;
+const MCS4 = `${TOP}mcs4`;
 const [folder] = process.argv.slice(2);
 const read = (name) => readFileSync(`${TOP}${name}`, "utf8");
 const at = (uri, line, character) => ({ textDocument: { uri }, position: { line, character } });
@@ -87,7 +87,7 @@ async function trySpeed(client) {
 
 /** What is wrong is told, and the next request is answered. */
 async function tryWrong() {
-  const client = new Client(LSP);
+  const client = new Client(MCS4);
   verdict((await client.answer("textDocument/hover", {})).error.code, -32002, "a request before initialize");
   client.notify("textDocument/didOpen", { textDocument: {} });
   await client.begin();
@@ -113,22 +113,63 @@ async function tryWrong() {
 }
 
 async function tryEnds() {
-  const gone = new Client(LSP);
+  const gone = new Client(MCS4);
   await gone.begin();
   gone.child.stdin.end();
   verdict(await gone.ended, 1, "a client that goes away");
-  const hasty = new Client(LSP);
+  const hasty = new Client(MCS4);
   hasty.notify("exit");
   verdict(await hasty.ended, 1, "exit without shutdown");
-  const other = new Client(LSP);
+  const other = new Client(MCS4);
   other.raw("GET / HTTP/1.1\r\n\r\n");
   verdict([await other.ended, other.told.split(",")[0]], [1, "lsp: a message begins with one line Content-Length: N"], "another protocol");
 }
 
-const client = new Client(LSP);
+/** What a client writes before it has read anything is served in its order. */
+async function tryAtOnce() {
+  const hasty = new Client(MCS4);
+  const uri = "file:///hasty.asm";
+  const begun = hasty.answer("initialize", { processId: null, rootUri: null, capabilities: {} });
+  hasty.notify("initialized", {});
+  const faults = await hasty.open(uri, "JMP there\n");
+  verdict([(await begun).error, faults.length], [undefined, 1], "a text that is opened with initialize in one chunk has its faults");
+  const shut = hasty.answer("shutdown");
+  hasty.notify("exit");
+  verdict([(await shut).error, await hasty.ended], [undefined, 0], "shutdown and exit in one chunk");
+  const large = new Client(MCS4);
+  large.raw("Content-Length: 99999999999\r\n\r\n");
+  const { error } = await large.next(({ id }) => id === null);
+  verdict([error.code, await large.ended, large.told], [-32600, 1, `lsp: ${error.message}\n`], "a size that no message has");
+}
+
+/** A size that is not that of the message: an error and an end, where the rest does not come, where it is of the next message, and at the end. */
+async function tryLies() {
+  const body = JSON.stringify({ jsonrpc: "2.0", id: 1, method: "initialize", params: {} });
+  const lie = (size) => {
+    const liar = new Client(MCS4);
+    liar.raw(`Content-Length: ${size}\r\n\r\n${body}`);
+    return liar;
+  };
+  const [silent, gone, short] = [lie(body.length + 10), lie(body.length + 10), lie(body.length - 10)];
+  gone.child.stdin.end();
+  short.raw(`Content-Length: ${body.length}\r\n\r\n${body}`);
+  const words = `only ${body.length} of the ${body.length + 10} bytes that Content-Length announces have arrived`;
+  for (const [liar, what] of [[gone, "as the client goes"], [silent, "as the rest does not come"]]) {
+    const { error } = await liar.next(({ id }) => id === null);
+    verdict([error.code, error.message, await liar.ended, liar.told], [-32600, words, 1, `lsp: ${words}\n`], `too large a size, ${what}`);
+  }
+  const { error } = await short.next(({ id }) => id === null);
+  verdict([error.code, await short.ended, short.told.split(",")[0]], [-32700, 1, "lsp: a message begins with one line Content-Length: N"],
+    "too small a size");
+}
+
+const lies = tryLies();
+const client = new Client(MCS4);
 await client.begin();
 for (const name of examples()) await compare(client, name);
 await trySpeed(client);
 verdict(await client.end(), 0, "the end");
 await tryWrong();
+await tryAtOnce();
 await tryEnds();
+await lies;

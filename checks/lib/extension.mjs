@@ -1,7 +1,9 @@
 // Starts the extension of editors/vscode with a stand-in for the editor's module, on the real `mcs4 lsp`: a text with a fault is opened, and
 // what the providers give is told, `ok WORDS` or `fault: WORDS` for each thing.
 import { createRequire } from "node:module";
-import { readFileSync } from "node:fs";
+import { mkdirSync, mkdtempSync, readFileSync, rmSync, writeFileSync } from "node:fs";
+import { tmpdir } from "node:os";
+import { join } from "node:path";
 import Module from "node:module";
 
 const TOP = new URL("../..", import.meta.url).pathname;
@@ -21,23 +23,33 @@ class Plain {
     this.given = given;
   }
 }
-const languages = new Proxy({}, {
-  get: (_, name) => (name === "createDiagnosticCollection" ? () => ({ set: (uri, list) => shown.set(uri.text, list), dispose: () => {} })
-    : (_selector, provider) => {
-      providers[name] = provider;
+const changed = [];
+const setTextDocumentLanguage = async (document, language) => {
+  changed.push([document.fileName, language]);
+};
+const languages = new Proxy({ setTextDocumentLanguage }, {
+  get: (own, name) => own[name] || (name === "createDiagnosticCollection" ? () => ({ set: (uri, list) => shown.set(uri.text, list), dispose: () => {} })
+    : (...given) => {
+      providers[name] = given[Math.min(1, given.length - 1)];
       return disposable;
     }),
 });
 const text = "start:  JMP start\n        LDM 3\n";
-const uri = { text: "file:///tmp/a.asm", toString: () => "file:///tmp/a.asm" };
+const uri = { scheme: "file", text: "file:///tmp/a.asm", toString: () => "file:///tmp/a.asm" };
 const document = { languageId: "mcs4", fileName: "/tmp/a.asm", uri, version: 1, getText: () => text };
 const factories = {};
+const told = [];
+const opened = [];
 const vscode = {
   languages,
   workspace: {
     textDocuments: [document],
     getConfiguration: () => ({ get: () => `${TOP}mcs4` }),
-    onDidOpenTextDocument: () => disposable, onDidCloseTextDocument: () => disposable,
+    onDidOpenTextDocument: (act) => {
+      opened.push(act);
+      return disposable;
+    },
+    onDidCloseTextDocument: () => disposable,
     onDidChangeTextDocument: (act) => {
       listeners.change = act;
       return disposable;
@@ -58,24 +70,68 @@ const vscode = {
     },
     onDidReceiveDebugSessionCustomEvent: () => disposable, onDidTerminateDebugSession: () => disposable,
   },
-  commands: { registerCommand: () => disposable },
+  commands: {
+    registerCommand: (name, act) => {
+      factories[name] = act;
+      return disposable;
+    },
+  },
   window: {
     registerWebviewViewProvider: (id) => {
       factories.view = id;
       return disposable;
     },
     activeTextEditor: { document }, showErrorMessage: (words) => console.log(`fault: ${words}`),
+    showInformationMessage: (words) => told.push(words),
   },
   Uri: { parse: (words) => ({ text: words, toString: () => words }) },
   DiagnosticSeverity: { Error: 0, Warning: 1, Information: 2 }, CodeActionKind: { QuickFix: "quickfix" },
-  MarkdownString: class { appendText(words) { this.words = words; } },
+  MarkdownString: class { constructor(words) { this.words = words; } },
+  FoldingRangeKind: { Comment: 1 },
   WorkspaceEdit: class {
     edits = [];
     replace(where, range, words) { this.edits.push([where.text, ...range.given, words]); }
   },
   ...Object.fromEntries(["Range", "Location", "Diagnostic", "Hover", "CompletionItem", "SnippetString", "DocumentSymbol", "CodeAction",
-    "SemanticTokensLegend", "SemanticTokens", "DebugAdapterExecutable"].map((name) => [name, class extends Plain {}])),
+    "SemanticTokensLegend", "SemanticTokens", "SemanticTokensEdits", "SemanticTokensEdit", "DebugAdapterExecutable", "Position", "TextEdit",
+    "InlayHint", "FoldingRange", "SelectionRange", "SignatureInformation", "ParameterInformation", "SignatureHelp", "CodeLens",
+    "DocumentLink", "SymbolInformation", "CallHierarchyItem", "CallHierarchyIncomingCall", "CallHierarchyOutgoingCall"].map((name) => [name, class extends Plain {}])),
 };
+
+/** What is asked beside help, names and errors: the text is `start:  JUN start` and a line below. */
+async function tryFeatures() {
+  const [formatted] = await providers.registerDocumentRangeFormattingEditProvider
+    .provideDocumentRangeFormattingEdits(document, { start: { line: 1, character: 0 }, end: { line: 1, character: 3 } }, { tabSize: 4, insertSpaces: true })
+    .then((edits) => [edits.length]);
+  verdict(formatted, 0, "a line in its columns stays");
+  const range = { start: { line: 0, character: 0 }, end: { line: 9, character: 0 } };
+  const hints = await providers.registerInlayHintsProvider.provideInlayHints(document, range);
+  verdict(hints.map(({ given: [{ given: at }, label], paddingLeft }) => [...at, label, paddingLeft]),
+    [[0, 17, "= 0x000", true], [0, 17, "0x000, 2 cycles", true], [1, 13, "0x002, 1 cycle", true]], "hints");
+  const [fold] = await providers.registerFoldingRangeProvider.provideFoldingRanges(document);
+  verdict(fold.given.slice(0, 2), [0, 1], "a fold");
+  const [selection] = await providers.registerSelectionRangeProvider.provideSelectionRanges(document, [{ line: 1, character: 13 }]);
+  verdict([selection.given[0].given, selection.given[1].given[0].given], [[1, 12, 1, 13], [1, 8, 1, 13]], "a selection and a larger one");
+  const help = await providers.registerSignatureHelpProvider.provideSignatureHelp(document, { line: 1, character: 12 });
+  verdict([help.signatures[0].given[0], help.signatures[0].parameters.length, help.activeParameter], ["LDM d", 1, 0], "the form of a statement");
+  const [lens] = await providers.registerCodeLensProvider.provideCodeLenses(document);
+  const { title, command, arguments: [at, , [place]] } = lens.given[1];
+  verdict([title, command, at.text, place.given[1].given], ["1 reference", "editor.action.showReferences", "file:///tmp/a.asm", [0, 12, 0, 17]], "a lens");
+  const [symbol] = await providers.registerWorkspaceSymbolProvider.provideWorkspaceSymbols("sta");
+  verdict([symbol.given[0], symbol.given[1], symbol.given[2]], ["start", 11, "a.asm"], "a name of the workspace");
+  const [item] = await providers.registerCallHierarchyProvider.prepareCallHierarchy(document, { line: 0, character: 13 });
+  verdict(item.given.slice(0, 2), [11, "start"], "a routine");
+  const [kind, name, detail, where, whole, own] = item.given;
+  const plain = (given) => ({ start: { line: given[0], character: given[1] }, end: { line: given[2], character: given[3] } });
+  const asked = { kind, name, detail, uri: where, range: plain(whole.given), selectionRange: plain(own.given) };
+  verdict(await providers.registerCallHierarchyProvider.provideCallHierarchyOutgoingCalls(asked), [], "what it calls");
+  verdict(await providers.registerDocumentLinkProvider.provideDocumentLinks(document), [], "a program has no links");
+  const tokens = providers.registerDocumentSemanticTokensProvider;
+  const { given: [, id] } = await tokens.provideDocumentSemanticTokens(document);
+  verdict((await tokens.provideDocumentSemanticTokensEdits(document, id)).given[0], [], "no colour has changed");
+  await factories["mcs4.runTest"]("file:///tmp/none.test", "a").catch((fault) => told.push(fault.message));
+  verdict(told, ["file:///tmp/none.test is not open"], "a test that is not open");
+}
 const load = Module._load;
 Module._load = (name, ...more) => (name === "vscode" ? vscode : load(name, ...more));
 
@@ -98,10 +154,35 @@ verdict((await providers.registerDocumentSymbolProvider.provideDocumentSymbols(d
 verdict((await providers.registerCompletionItemProvider.provideCompletionItems(document, { line: 1, character: 10 })).length > 0, true, "completion");
 const { given: [data] } = await providers.registerDocumentSemanticTokensProvider.provideDocumentSemanticTokens(document);
 verdict(data.length % 5 === 0 && data.length > 0, true, "colours by what a word is");
+await tryFeatures();
 verdict(factories.mcs4.createDebugAdapterDescriptor().given, [`${TOP}mcs4`, ["dap"]], "the debug adapter");
 verdict(factories.provider.resolveDebugConfiguration(undefined, {}).program, "/tmp/a.asm", "F5 debugs the program that is shown");
+// An .asm is claimed beside board.toml and below mcs4.toml alone, once each; a program of another kind is not.
+const folder = mkdtempSync(join(tmpdir(), "extension."));
+for (const name of ["board", "project/deep/er", "other"]) mkdirSync(join(folder, name), { recursive: true });
+for (const name of ["board/board.toml", "project/mcs4.toml"]) writeFileSync(join(folder, name), "");
+const show = (name, languageId = "asm", scheme = "file") => {
+  const fileName = join(folder, name);
+  for (const act of opened) act({ languageId, fileName, uri: { scheme, toString: () => `${scheme}://${fileName}` }, version: 1, getText: () => "" });
+};
+for (const name of ["board/a.asm", "project/deep/er/A.ASM", "project/b.asm", "other/x86.asm", "board/a.s", "board/a.asm"]) show(name);
+for (const name of ["board/a.test", "project/a.props", "other/a.test", "other/a.props"]) show(name, "plaintext");
+show("board/mine.asm", "mcs4");
+show("board/old.asm", "asm", "git");
+verdict(changed.slice(0, 3), ["board/a.asm", "project/deep/er/A.ASM", "project/b.asm"].map((name) => [join(folder, name), "mcs4"]),
+  "which .asm are claimed");
+verdict(changed.slice(3), [[join(folder, "board/a.test"), "mcs4-test"], [join(folder, "project/a.props"), "mcs4-props"]],
+  "which tests and properties are claimed");
+rmSync(folder, { recursive: true });
 const own = JSON.parse(readFileSync(`${TOP}editors/vscode/package.json`, "utf8"));
 verdict([factories.view, factories.tracker], [own.contributes.views.debug[0].id, "mcs4"], "the view of lamps and keys");
+verdict(own.contributes.languages.map(({ extensions, filenames }) => [extensions, filenames]), [
+  [undefined, undefined], [undefined, ["board.toml"]], [undefined, undefined], [undefined, undefined]],
+  "no text is claimed by its extension");
+verdict(own.activationEvents.filter((event) => event.startsWith("workspace")), ["workspaceContains:**/mcs4.toml", "workspaceContains:**/board.toml"],
+  "it starts where a project or a board is");
+verdict(own.contributes.configuration.properties["mcs4.command"].scope, "machine", "no workspace names the command");
+verdict(own.license, "UNLICENSED", "the licence");
 const named = [...own.contributes.grammars, ...own.contributes.languages.map(({ configuration }) => ({ path: configuration })), { path: own.main }];
 for (const { path } of named) verdict(readFileSync(`${TOP}editors/vscode/${path}`, "utf8").length > 0, true, `${path} is there`);
 await extension.deactivate();

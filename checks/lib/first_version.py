@@ -74,8 +74,8 @@ FILES = [
                 (88_908, b"\1\2", 1), (98_320, POKE + bytes.fromhex("01000407030604"), 1)], [16_404, 81_944]),
      worked_state(KEYS_PROGRAM + b"\xE0\x41\x23", **READ_KEYS, seq=9_271, accumulator=15, counter=0x123, owed=1, test=0,
                      registers=zeros_but(16, {0: 1, 5: 9, 6: 4}), ram=zeros_but(2_048, {0x10: 15}), breakpoints=[0x200]),
-     [], "lamps\nbreaks\nports\nrun 1\npoke pc 9\nrun 1\nregs\n",
-     "lamps **.\nbreaks 200\nports\nsrc 10 0.10 1.00\nrom 0 out 3 in 0\nrom 1 out 0 in 6\nrom 2 out 0 in 0\nchain 0 1100000000\n"
-     "keys 0.1 1.2\nok 9272 ran 1 end\nok 9273\nok 9274 ran 1 end\n"
+     [], "state\nrun 1\npoke pc 9\nrun 1\nregs\n",
+     "state seq 9271 acc F cy 0 pc 123 owed 1 dcl 0 test 0 r 1000094000000000 ret 000,000,000 src 10 banks 0.10,1.00 roms 0.3.0,1.0.6,2.0.0 "
+     "rams 0.0.0,1.0.0 chains 1100000000 keys 0.1,1.2 lamps **. breaks 200 watches -\nok 9272 ran 1 end\nok 9273\nok 9274 ran 1 end\n"
      "acc 6 cy 0 pc 00A owed 0 dcl 0 test 0 r 1000094000000000 ret 000 000 000\n"),
 ]

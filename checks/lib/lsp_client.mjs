@@ -1,7 +1,12 @@
-// A client of language servers, for what editors lack: it starts `tools/lsp`, asks, and waits for what is told.
+// A client of language servers, for what editors lack: it starts `mcs4 lsp`, asks, and waits for what is told.
 import { MessageClient } from "./message_client.mjs";
 
 export class Client extends MessageClient {
+  /** @param {string} command that is mcs4 */
+  constructor(command, folder = ".", words = []) {
+    super(command, folder, ["lsp", ...words]);
+  }
+
   send(message) {
     super.send({ jsonrpc: "2.0", ...message });
   }

@@ -6,7 +6,9 @@
 as_shown() {
     mkdir -p "$folder/manual"
     ln -s "$top/tools" "$top/examples" "$folder/manual"
-    ln -s "$mcs4" "$folder/manual/mcs4"
+    # The program itself serves sessions; other commands are those at the top.
+    printf '#!/bin/sh\ncase ${1-} in new | open) exec "%s" "$@" ;; esac\nexec "%s/mcs4" "$@"\n' "$mcs4" "$top" > "$folder/manual/mcs4"
+    chmod +x "$folder/manual/mcs4"
     awk -v title="## $1" '
         /^## / { chapter = $0 == title }
         !chapter { next }

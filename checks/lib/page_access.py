@@ -39,10 +39,12 @@ def check_answers_told(browser):
 # What the Tab key stops at, from the session's name on, as the panel that it is in; a text is left by Escape and then Tab.
 PLACE = """
 const at = document.activeElement;
-const place = at.closest("#session-bar, #clock, #history, #front, #texts, #processor, #listing, #breakpoints, #watched, #memory, #ports, #talk, #notice");
+const place = at.closest("#session-bar, #clock, #tools, #front, #texts, #dock, #side > section, #statusbar, #notice, .splitter");
 return place ? place.id : ''"""
 IN_EDITOR = "return document.activeElement.closest('.cm-editor') !== null"
-ORDER = ["session-bar", "clock", "history", "front", "texts", "processor", "listing", "breakpoints", "watched", "memory", "ports", "talk"]
+SIDE = ["processor", "calls", "watched", "breakpoints", "memory", "ports"]
+ORDER = ["session-bar", "clock", "tools", "front", "front-splitter", "texts", "dock-splitter", "dock", "side-splitter",
+         *[place for name in SIDE for place in (name, f"{name}-splitter")], "history", "statusbar"]
 
 
 def check_tab_key(browser):
@@ -55,7 +57,7 @@ def check_tab_key(browser):
         place = browser.script(PLACE)
         if place not in seen[-1:]:
             seen.append(place)
-        if place == "talk" and browser.script("return document.activeElement.id === 'send'"):
+        if place == "statusbar":
             break
         browser.keys([ESCAPE, TAB] if browser.script(IN_EDITOR) else [TAB], 1, 1)
         stops += 1
@@ -135,9 +137,9 @@ def check_board(browser):
     verdict("there is one main part, one banner and one foot", [roles.count(each) for each in ("main", "banner", "contentinfo")], [1, 1, 1])
     levels = [told.get("level") for role, _, told in nodes if role == "heading"]
     verdict("one heading is the page's, all others are of its parts", (levels[0], set(levels[1:])), (1, {2}))
-    folds = [told for role, name, told in nodes if role == "button" and name in ("Processor", "RAM")]
+    folds = [told for role, name, told in nodes if role == "button" and name in ("Registers", "RAM")]
     verdict("what folds says so", [told.get("expanded") for told in folds], [True, True])
-    verdict("tabs say which one is in front", [told.get("selected") for role, _, told in nodes if role == "tab"].count(True), 1)
+    verdict("tabs of texts and dock say which one is in front", [told.get("selected") for role, _, told in nodes if role == "tab"].count(True), 2)
     lamps = [name for role, name, _ in nodes if role == "image" and re.search(", (lit|dark)$", name)]
     verdict("each lamp says whether it is lit", len(lamps), browser.script("return document.querySelectorAll('.bulb').length"))
 

@@ -6,8 +6,9 @@ The program is the one by which breakpoints were once seen to drift; where each 
 import re
 import time
 
-from page_in_browser import ENTER, STATUS, WHOLE_STATUS, choose_example, lines_answered, until_ready
+from page_in_browser import ENTER, ESCAPE, NOTICE, TAB, STATUS, WHOLE_STATUS, choose_example, lines_answered, until_ready
 from page_names import CLICK_MARGIN, MARGIN
+from page_texts import UNDO
 from verdicts import comes, verdict
 
 PROGRAM = """        LDM 3
@@ -41,18 +42,46 @@ return [...document.querySelectorAll("#breakpoint-list li")].map((row) =>
 HITS = "return [...document.querySelectorAll('#breakpoint-list .hits')].map((each) => each.textContent).join('; ')"
 FAULTS = "return [...document.querySelectorAll('#breakpoint-list .fault')].map((each) => each.textContent).join('')"
 NOTES = "return [...document.querySelectorAll('#breakpoint-notes p')].map((each) => each.textContent).slice(0, 3).join('; ')"
-# A field of the first breakpoint of the list: its condition, the hit it stops from, its note.
+WORDS = 'return [...document.querySelectorAll("#breakpoint-list .words")].map((each) => each.textContent).join("; ")'
+# The lines of the source that have a breakpoint in the margin, those that are out of view, too.
+LINES_IN_MARGIN = """
+return document.querySelector("#program-editor .cm-editor").lineEditor.marksIn("breakpoints").map((line) => line + 1).join(" ")"""
+UNDO_EDIT = "document.querySelector('#program-editor .cm-editor').lineEditor.undo()"
+# The row of a breakpoint's words below its line: what it says of an error, and what stands in it.
+ROW_TOLD = "const told = document.querySelector('.breakpoint-row .fault'); return told ? told.textContent : 'no row'"
+ROW_VALUES = "return [...document.querySelectorAll('.breakpoint-row input')].map((each) => each.value).join('; ')"
+# A field of the first breakpoint of the list, by its row: its condition, the hit it stops from, its note.
 FILL = """
-const field = document.querySelectorAll("#breakpoint-list .words input")[arguments[0]];
-field.value = arguments[1];
-field.dispatchEvent(new Event("change", { bubbles: true }))"""
+document.querySelector("#breakpoint-list .edit").click();
+const row = document.querySelector(".breakpoint-row");
+row.querySelectorAll("input")[arguments[0]].value = arguments[1];
+row.requestSubmit()"""
 CONDITION, FROM, NOTE = range(3)
+# The condition of the first breakpoint is changed three times, and time begins to run, within one task of the page.
+CHANGE_AND_RUN = """
+for (const words of arguments) {
+  document.querySelector("#breakpoint-list .edit").click();
+  document.querySelector(".breakpoint-row input").value = words;
+  document.querySelector(".breakpoint-row").requestSubmit();
+}
+document.getElementById("run").click()"""
 # Shift and F9 at a line of the source; and where the caret is then.
 ASK_FOR_WORDS = """
 const editor = document.querySelector("#program-editor .cm-editor").lineEditor;
 editor.setCursor({ line: arguments[0], ch: 0 });
 editor.getInputField().dispatchEvent(new KeyboardEvent("keydown", { key: "F9", keyCode: 120, shiftKey: true, bubbles: true }))"""
-ASKED = "const list = document.activeElement.closest('#breakpoint-list'); return list ? list.id : ''"
+ASKED = "const row = document.activeElement.closest('.breakpoint-row'); return row ? row.previousElementSibling.textContent : ''"
+ROW_LINE = re.compile("INC R9")
+# The line that the row is below.
+ROW_AFTER = "const row = document.querySelector('.breakpoint-row'); return row ? row.previousElementSibling.textContent : ''"
+IN_SOURCE = "return document.activeElement.closest('#program-editor .cm-content') !== null"
+FOCUSED = "return document.activeElement.textContent"
+# The second button at the margin of a line.
+MARGIN_MENU = """
+const number = [...document.querySelectorAll("#program-editor .cm-lineNumbers .cm-gutterElement")].find((each) => each.textContent === String(arguments[0]));
+const { x, y } = number.getBoundingClientRect();
+number.dispatchEvent(new MouseEvent("contextmenu", { bubbles: true, cancelable: true, clientX: x + 4, clientY: y + 4 }))"""
+BACKSPACE, UP, DOWN, SHIFT, F9, F10 = "\ue003", "\ue013", "\ue015", "\ue008", "\ue039", "\ue03a"
 RUN_WORD = "return document.getElementById('run').textContent"
 TOLD_AT = "return document.querySelector('.told-at').textContent"
 SEND = "#program-editor .send"
@@ -65,9 +94,9 @@ def begin(browser):
     browser.until("return document.querySelectorAll('#keys button').length", 2)
     browser.script(SHOW_PROGRAM, PROGRAM)
     browser.click(SEND)
-    browser.until(STATUS, re.compile("runs"))
+    browser.until(STATUS, re.compile("^Running"))
     browser.click("#run")
-    browser.until(RUN_WORD, "Run")
+    browser.until(RUN_WORD, "Continue")
 
 
 def check_holds(browser):
@@ -78,18 +107,18 @@ def check_holds(browser):
     comes(browser, "it moves with its line", MARGIN, str(JUN + 1))
     browser.click(SEND)
     comes(browser, "assembled anew it stops there, told by name and line", WHOLE_STATUS,
-          f"Stopped at 010 (loop + 7, line {JUN + 1}), at a breakpoint.")
+          f"Paused at 010 (loop + 7, line {JUN + 1}), at a breakpoint.")
     verdict("and is no other one", lines_answered(browser, "breaks"), re.compile("breaks 010$"))
     browser.script(CLICK_MARGIN, WMP + 1)
     browser.script(CLICK_MARGIN, JUN + 1)
     comes(browser, "another one in its place", MARGIN, str(WMP + 1))
     browser.script(INSERT, 3, "FIM P2, 0")
     browser.click(SEND)
-    comes(browser, "two bytes more before it: it stays at WMP", WHOLE_STATUS, f"Stopped at 00F (loop + 4, line {WMP + 2}), at a breakpoint.")
+    comes(browser, "two bytes more before it: it stays at WMP", WHOLE_STATUS, f"Paused at 00F (loop + 4, line {WMP + 2}), at a breakpoint.")
     verdict("the list has it by name and line", browser.script(LISTED), f"\u25cf 00F (loop + 4, line {WMP + 2})")
     browser.script(INSERT, 1, "")
     comes(browser, "while the source differs from ROM its mark stays", MARGIN, str(WMP + 3))
-    browser.script("document.querySelector('#program-editor .cm-editor').lineEditor.undo()")
+    browser.script(UNDO_EDIT)
     comes(browser, "undone it is where it was", MARGIN, str(WMP + 2))
 
 
@@ -98,12 +127,12 @@ def check_no_instruction(browser):
     begin(browser)
     browser.script(INSERT, JUN, "; what comes next")
     browser.click(SEND)
-    browser.until(STATUS, re.compile("runs"))
+    browser.until(STATUS, re.compile("^Running"))
     browser.script(CLICK_MARGIN, JUN)
     comes(browser, "a line without bytes", TOLD_AT,
           f"Line {JUN} puts no bytes into ROM: its breakpoint is at the next instruction, line {JUN + 1}.")
     comes(browser, "it is at the next instruction", MARGIN, str(JUN + 1))
-    comes(browser, "which stops the time that runs", STATUS, "Stopped at 00F, at a breakpoint.")
+    comes(browser, "which stops the time that runs", STATUS, "Paused at 00F, at a breakpoint.")
     browser.click("#breakpoint-list .bar button[title='removes it']")
     comes(browser, "it is taken away in the list", MARGIN, "")
     lines_answered(browser, "break 0x010")
@@ -118,20 +147,29 @@ def check_condition(browser):
     """A condition, a count of hits, a note; what cannot be read; one that is switched off."""
     begin(browser)
     browser.script(ASK_FOR_WORDS, INC - 1)
-    comes(browser, "Shift and F9 sets one, and the caret is in its condition", ASKED, "breakpoint-list")
+    comes(browser, "Shift and F9 sets one, and the caret is in its condition, below the line", ASKED, ROW_LINE)
     verdict("at its line", browser.script(MARGIN), str(INC))
     browser.keys([*"r9 = 9", ENTER])
     comes(browser, "one with a condition has a mark of its own", LISTED, re.compile("^\u25c6 "))
     browser.click("#run")
-    comes(browser, "it stops where its condition holds", STATUS, "Stopped at 011, at a breakpoint, where r9 = 9.")
+    comes(browser, "it stops where its condition holds", STATUS, "Paused at 011, at a breakpoint, where r9 = 9.")
     verdict("as the bench says", lines_answered(browser, "regs"), re.compile(" r .{9}9.{6} "))
     check_back(browser)
     verdict("it is none of the session's file", lines_answered(browser, "breaks"), re.compile("breaks -$"))
     check_typed(browser)
     browser.script(FILL, CONDITION, "r44 = 9")
-    comes(browser, "a condition that cannot be read says why, in its place", FAULTS, "It stops nothing: the registers are r0 to r15, not r44.")
+    comes(browser, "a condition that cannot be read says why, in its place", FAULTS,
+          "It stops at each arrival, because of an error: r44: no such place; the registers are r0 to r15 (column 1).")
+    browser.click("#run")
+    comes(browser, "and stops at each arrival", STATUS,
+          "Paused at 011, at a breakpoint that has an error, r44: no such place; the registers are r0 to r15 (column 1).")
+    browser.script(FILL, CONDITION, "R9 == 3 || (r9 >= 0xF && lamp 1 on)")
+    comes(browser, "once it is mended it is as any other", FAULTS, "")
     browser.script(FILL, CONDITION, "rom3 in 1")
-    comes(browser, "one that names what the board lacks", FAULTS, "It stops nothing: the board has no ROM 3.")
+    comes(browser, "one that names what the board lacks", FAULTS,
+          "It stops at each arrival, because of an error: the board has no ROM 3 (column 1).")
+    browser.script(CHANGE_AND_RUN, "r9 = 7", "", "r9 = 5")
+    comes(browser, "a run right after a change goes by the new condition", STATUS, "Paused at 011, at a breakpoint, where r9 = 5.")
     browser.script(FILL, CONDITION, "")
     comes(browser, "none: it is a plain one again", LISTED, re.compile("^\u25cf "))
     browser.click("#breakpoints-hits")
@@ -140,7 +178,7 @@ def check_condition(browser):
     browser.until(STATUS, re.compile("^The board was reset"))
     browser.click("#run")
     comes(browser, "from the fiftieth hit on", HITS, "50 hits")
-    comes(browser, "it stops", STATUS, "Stopped at 011, at a breakpoint, at hit 50.")
+    comes(browser, "it stops", STATUS, "Paused at 011, at a breakpoint, at hit 50.")
     verdict("R9 was counted on 49 times", lines_answered(browser, "regs"), re.compile(" r .{9}1.{6} "))
     browser.script(FILL, FROM, "")
     browser.script(FILL, NOTE, "R9 is {r9}, {lamps}")
@@ -149,11 +187,11 @@ def check_condition(browser):
     browser.until(STATUS, re.compile("^The board was reset"))
     browser.click("#run")
     comes(browser, "the note is logged in place of a stop", NOTES, re.compile(r"^011 \(wait, line \d+\) R9 is [0-9A-F], [*.]{4}; "))
-    verdict("time runs", browser.script(RUN_WORD), "Stop")
+    verdict("time runs", browser.script(RUN_WORD), "Pause")
     browser.click("#breakpoints-off")
     comes(browser, "switched off it is kept", LISTED, re.compile("^\u25cb "))
     browser.click("#run")
-    browser.until(RUN_WORD, "Run")
+    browser.until(RUN_WORD, "Continue")
 
 
 def check_typed(browser):
@@ -162,7 +200,7 @@ def check_typed(browser):
     lines_answered(browser, "reset")
     verdict("a line's run ends where the condition holds", lines_answered(browser, "run 100000"), re.compile(r"run (\d+)ok \d+ ran \1 end$"))
     comes(browser, "and the status says so", WHOLE_STATUS,
-          "Stopped at 011 (wait, line 14), at a breakpoint, where r9 = 9. The line run 100000 ended there.")
+          "Paused at 011 (wait, line 14), at a breakpoint, where r9 = 9. The line run 100000 ended there.")
     verdict("the bench stands there", lines_answered(browser, "regs"), re.compile(" r .{9}9.{6} "))
 
 
@@ -197,13 +235,121 @@ def check_kept(browser):
     browser.reload()
     until_ready(browser)
     comes(browser, "a reload keeps the list", LISTED, listed)
-    verdict("and their words", browser.script("""
-return [...document.querySelectorAll("#breakpoint-list .words input")].map((each) => each.value).join("; ")"""), "at wait; 1; R9 is {r9}, {lamps}")
+    verdict("and their words", browser.script(WORDS), 'where at wait: logs "R9 is {r9}, {lamps}" and continues')
+    browser.click("#breakpoint-list .edit")
+    browser.keys([*"r9 ="])
+    browser.until(ROW_VALUES, "r9 =; ; R9 is {r9}, {lamps}")
+    browser.reload()
+    until_ready(browser)
+    comes(browser, "and a condition that is typed and not entered", WORDS, re.compile('^where r9 =: logs "R9 is'))
     browser.click("#breakpoints-remove")
     comes(browser, "all are taken away", MARGIN, "")
 
 
-def check(browser, page, *_):
+def check_replaced(browser, folder):
+    """A source that is replaced has its breakpoints and their words again once it is back, by the notice and by Control and Z."""
+    begin(browser)
+    browser.script(ASK_FOR_WORDS, INC - 1)
+    browser.until(ASKED, ROW_LINE)
+    browser.keys([*"r9 = 9", ENTER])
+    browser.script(CLICK_MARGIN, WMP)
+    both = f"{WMP} {INC}"
+    browser.until(LINES_IN_MARGIN, both)
+    listed = browser.script(LISTED), browser.script(WORDS)
+    for length, text in (("short", "; a\n NOP\n"), ("long", "; a\n" + " NOP\n" * 40)):
+        other = folder / f"{length}.asm"
+        other.write_text(text)
+        for what, undo in (("Undo", lambda: browser.click(UNDO)), ("Control and Z", lambda: browser.script(UNDO_EDIT))):
+            browser.type_into("#file", str(other))
+            browser.until(NOTICE, re.compile(f"{length}.asm"))
+            comes(browser, f"a {length} source has none of the breakpoints of the one before it", LINES_IN_MARGIN, "")
+            undo()
+            comes(browser, f"{what} brings back the lines of the breakpoints", LINES_IN_MARGIN, both)
+            comes(browser, "and the list", LISTED, listed[0])
+            verdict("with its words", browser.script(WORDS), listed[1])
+    browser.script("for (const each of document.querySelectorAll('#notice .dismiss')) each.click()")
+    browser.script(CLICK_MARGIN, WMP)
+    browser.until(LINES_IN_MARGIN, str(INC))
+    browser.click("#reset")
+    browser.until(STATUS, re.compile("^The board was reset"))
+    browser.click("#run")
+    comes(browser, "it stops where its condition holds", STATUS, "Paused at 011, at a breakpoint, where r9 = 9.")
+    time.sleep(1)
+    browser.reload()
+    until_ready(browser)
+    comes(browser, "a reload keeps it", WORDS, "where r9 = 9")
+
+
+def check_row(browser):
+    """The words of a breakpoint are edited below its line: Enter applies them, Escape leaves them, an error stays with its words."""
+    begin(browser)
+    browser.script(ASK_FOR_WORDS, INC - 1)
+    browser.until(ASKED, ROW_LINE)
+    browser.keys([*"r44 = 9", ENTER])
+    comes(browser, "an error is said in the row, in the words of conditions", ROW_TOLD,
+          "It stops at each arrival, because of an error: r44: no such place; the registers are r0 to r15 (column 1).")
+    verdict("where the caret stays", browser.script(ASKED), ROW_LINE)
+    browser.keys([*[BACKSPACE] * 7, *"r9 = 9", TAB, *"0", ENTER])
+    comes(browser, "a count that is none is marked", "return document.activeElement.getAttribute('aria-invalid')", "true")
+    verdict("and nothing is applied", browser.script(WORDS), "where r44 = 9")
+    browser.keys([BACKSPACE, "2", ENTER])
+    comes(browser, "Enter applies all that is typed", WORDS, "where r9 = 9 from hit 2 on")
+    verdict("the row goes", browser.script(ROW_VALUES), "")
+    verdict("the keyboard is the text's again", browser.script(IN_SOURCE), True)
+    browser.chord(SHIFT, F9)
+    browser.until(ROW_VALUES, "r9 = 9; 2; ")
+    browser.keys([*"at loop", TAB, TAB, *"seen"])
+    verdict("a field that is left counts for itself not yet", browser.script(WORDS), "where r9 = 9 from hit 2 on")
+    browser.keys([F10, F10])
+    comes(browser, "steps leave the caret where it is", ROW_VALUES, "at loop; 2; seen")
+    verdict("in the row", browser.script(ASKED), ROW_LINE)
+    browser.keys([ESCAPE])
+    comes(browser, "Escape leaves it", ROW_VALUES, "")
+    verdict("with the words that it had", browser.script(WORDS), "where r9 = 9 from hit 2 on")
+    browser.script(ASK_FOR_WORDS, INC - 1)
+    browser.until(ASKED, ROW_LINE)
+    browser.keys([*"at wait"])
+    browser.click("#step")
+    comes(browser, "what is typed counts where the row is left otherwise", WORDS, "where at wait from hit 2 on")
+    browser.script("document.querySelector('#program-editor .cm-editor').lineEditor.replaceRange('\\n NOP', { line: arguments[0], ch: Infinity })", INC - 1)
+    comes(browser, "a line that begins at its end goes below the row", ROW_AFTER, ROW_LINE)
+    browser.script(INSERT, 1, "NOP")
+    comes(browser, "and it goes with its line", ROW_AFTER, ROW_LINE)
+    browser.script("document.querySelector('#program-editor .cm-editor').lineEditor.replaceRange('', { line: arguments[0], ch: 0 }, { line: arguments[0] + 1, ch: 0 })", INC)
+    comes(browser, "with its line it goes for good", ROW_AFTER, "")
+
+
+def check_menu(browser):
+    """The menu of a line's margin; a breakpoint that has no line is edited in the list."""
+    begin(browser)
+    browser.script(MARGIN_MENU, INC)
+    comes(browser, "the menu of the margin has the keyboard", FOCUSED, "Add breakpointF9")
+    browser.keys([DOWN, DOWN, DOWN, ENTER])
+    comes(browser, "Log message sets a breakpoint and edits it", ASKED, ROW_LINE)
+    browser.keys([*"R9 is {r9}", ENTER])
+    comes(browser, "it logs", WORDS, 'logs "R9 is {r9}" and continues')
+    browser.script(MARGIN_MENU, INC)
+    browser.until(FOCUSED, "Remove breakpointF9")
+    browser.keys([UP, UP, ENTER])
+    comes(browser, "Disable breakpoint keeps it", LISTED, re.compile("^\u25cb "))
+    verdict("the menu is closed", browser.script("return document.getElementById('margin-menu').hidden"), True)
+    browser.script(MARGIN_MENU, INC)
+    browser.until(FOCUSED, "Remove breakpointF9")
+    browser.keys([ESCAPE])
+    comes(browser, "Escape leaves the menu, and the keyboard is the text's", IN_SOURCE, True)
+    browser.click("#breakpoints-remove")
+    lines_answered(browser, "break 0x200")
+    browser.until(LISTED, re.compile("200"))
+    browser.click("#breakpoint-list .edit")
+    comes(browser, "one without a line is edited in the list", "return document.activeElement.closest('#breakpoint-list .breakpoint-row') !== null", True)
+    browser.keys([*"r9 = 1", ENTER])
+    comes(browser, "and applied", WORDS, "where r9 = 1")
+    comes(browser, "the keyboard is at its button", FOCUSED, "Edit")
+    choose_example(browser, "three lamps")
+    comes(browser, "another session has no row", ROW_VALUES, "")
+
+
+def check(browser, page, folder, *_):
     browser.go(page.as_uri())
     until_ready(browser)
     begin(browser)
@@ -211,3 +357,6 @@ def check(browser, page, *_):
     check_no_instruction(browser)
     check_condition(browser)
     check_kept(browser)
+    check_row(browser)
+    check_menu(browser)
+    check_replaced(browser, folder)

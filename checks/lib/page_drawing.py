@@ -19,6 +19,9 @@ SOUND = "return document.getElementById('sound').hidden ? '' : document.getEleme
 FOCUS = "return document.activeElement.getAttribute('aria-label')"
 TITLE = "return document.querySelector('#chosen > b').textContent"
 OFFERED = "return [...document.querySelectorAll('#wiring-picture .can-end')].map((each) => each.getAttribute('aria-label'))"
+INSERT = "Insert code that scans these keys"
+NUMBERS = "return [...document.querySelectorAll('#wiring-picture [aria-label^=\"ROM 0\"] .number')].map((each) => each.textContent).join(' ')"
+SOURCE = "return document.querySelector('#program-editor .cm-editor').lineEditor.getValue()"
 DISABLED = "return [...document.querySelectorAll('#shelf button:disabled')].map((each) => `${each.textContent}: ${each.title}`)"
 PLACE_OF_KEYS = """
 const box = document.querySelector("#wiring-picture .of-keys rect");
@@ -115,21 +118,21 @@ def check_by_mouse(browser):
     verdict("the text is as one writes it", text_of(browser), DRAWN)
     verdict("a second matrix is not offered, and says why", browser.script(DISABLED),
             ["Keys: A board has one key matrix: give it more rows and columns."])
-    verdict("it is not wired yet, and says so", browser.script(STATE), re.compile("^Not wired yet"))
+    verdict("it is not wired yet, and says so", browser.script(STATE), re.compile("^Not applied yet"))
     browser.type_into("#chosen [aria-label=name]", "fourth one" + ENTER)
     comes(browser, "a lamp is named", SAID, "Lamp 3 is called fourth one.")
     browser.type_into("#chosen [aria-label=colour]", "green")
     comes(browser, "and coloured", SAID, "Lamp 3 is green.")
     verdict("as the face has it", text_of(browser).split("\n")[:3], ["# lamp 3: fourth_one", "# colour 3: green", ""])
     browser.click("#drawing-wire")
-    comes(browser, "it is wired", SAID, "The board is wired.")
+    comes(browser, "it is wired", SAID, "Board applied.")
     comes(browser, "four keys", KEYS, 4)
     comes(browser, "and four lamps", BULBS, "....")
     verdict("which is said no more", browser.script(STATE), "")
     show_text(browser, "program")
     browser.script(PUT_INTO_EDITOR, "#program-editor", PROGRAM)
     browser.click("#program-editor .send")
-    comes(browser, "the program runs", STATUS, re.compile("^Time runs"))
+    comes(browser, "the program runs", STATUS, re.compile("^Running"))
     time.sleep(0.3)
     browser.script("window.seen = new Set(); new MutationObserver(() => window.seen.add([...document.querySelectorAll('#front .bulb')]"
                    ".map((bulb) => (bulb.classList.contains('lit') ? '*' : '.')).join(''))).observe(document.getElementById('lamps'),"
@@ -189,6 +192,7 @@ def check_buzzer(browser):
     verdict("in the same line", text_of(browser).split("\n")[0], "# buzzer rom0.3: the horn")
     browser.click("#drawing-wire")
     comes(browser, "it is wired, and can be heard", SOUND, "Sound of the horn")
+    browser.until(SAID, "Board applied.")
     browser.script("document.querySelector('#wiring-picture .of-buzzer').focus()")
     browser.keys([DELETE])
     comes(browser, "the Delete key deletes it", SAID, "The buzzer was deleted.")
@@ -356,6 +360,30 @@ def check_by_fingers(browser):
     comes(browser, "a button undoes it", SAID, "Undone.")
 
 
+def check_scan(browser):
+    """A key matrix that was just drawn: its routine comes into the source, which assembles and finds the key."""
+    choose_example(browser, "empty bench")
+    show_text(browser, "wiring")
+    browser.click("#shelf-keys")
+    comes(browser, "the keys are chosen", TITLE, re.compile("^Keys"))
+    verdict("chips have the numbers of their pins", browser.script(NUMBERS), "16 15 14 13")
+    browser.click("#drawing-wire")
+    comes(browser, "wired, there is a front with a key", KEYS, 4)
+    browser.click(f"#chosen [aria-label='{INSERT}']")
+    comes(browser, "the routine is in the source", "return document.querySelector('#program-editor .told').textContent",
+          "A routine that scans the keys is at the end of the source.")
+    source = browser.script(TEXT_OF_EDITOR, "#program-editor")
+    verdict("with a program that calls it", source.startswith("start:      JMS keys_scan"), True)
+    browser.click("#program-editor .send")
+    comes(browser, "it assembles and runs", STATUS, re.compile("^Running"))
+    press(browser, "#keys .key:nth-child(3)")
+    show_text(browser, "wiring")
+    browser.click("#wiring-picture .of-keys text")
+    browser.click(f"#chosen [aria-label='{INSERT}']")
+    comes(browser, "a second routine has labels of its own", SOURCE, re.compile("^keys1_scan:", re.M))
+    verdict("behind the first one", browser.script(SOURCE).startswith(source.rstrip()), True)
+
+
 def check_faults(browser):
     """A text with faults is not drawn in; the picture stays, and goes on once they are gone."""
     text = text_of(browser)
@@ -390,3 +418,4 @@ def check(browser, page, _folder, _mcs4):
         check_by_fingers(browser)
     check_faults(browser)
     check_other_boards(browser)
+    check_scan(browser)

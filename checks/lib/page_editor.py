@@ -3,7 +3,7 @@
 import re
 import time
 
-from page_in_browser import NOTICE, PUT_INTO_EDITOR, STATUS, TEXT_OF_EDITOR, choose_example, open_anew, show_text, stop_time
+from page_in_browser import ALL_NOTICES, PUT_INTO_EDITOR, STATUS, TEXT_OF_EDITOR, choose_example, open_anew, show_text, stop_time
 from verdicts import comes, verdict
 
 CONTROL, SHIFT, ALT, ENTER, ESCAPE, TAB = "\ue009", "\ue008", "\ue00a", "\ue007", "\ue00c", "\ue004"
@@ -194,7 +194,7 @@ def check_folding(browser):
     browser.script(SET_CARET, PROGRAM, 7, 2)
     comes(browser, "all of it folds", FOLDED, "\u2026 1 line,\u2026 2 lines,\u2026 1 line")
     browser.click(f"{PROGRAM} .send")
-    comes(browser, "it is assembled as it is", STATUS, re.compile("^Time runs"))
+    comes(browser, "it is assembled as it is", STATUS, re.compile("^Running"))
     stop_time(browser)
     # It stands at the loop's label, below which a line stays folded away, or at the line after it.
     comes(browser, "and the line at which time stands still is unfolded", FOLDED, re.compile("^\u2026 1 line(,\u2026 1 line){1,2}$"))
@@ -264,7 +264,7 @@ def check_sessions(browser):
 def check_running(browser):
     """One button assembles and runs; the other one says what it leaves."""
     choose_example(browser, "traffic light")
-    browser.until(STATUS, re.compile("^Time runs"))
+    browser.until(STATUS, re.compile("^Running"))
     put(browser, PROGRAM, "\tLDM 7\nstop:\tJUN stop\n")
     browser.click("#assemble-only")
     comes(browser, "assembling alone says what it leaves", TOLD.format(PROGRAM), re.compile(
@@ -272,11 +272,12 @@ def check_running(browser):
     browser.script(SET_CARET, PROGRAM, 0, 0)
     browser.chord(CONTROL, ENTER)
     comes(browser, "Control and Enter assemble and run", TOLD.format(PROGRAM), "3 bytes assembled, the rest of ROM is 0. It runs from 000 on.")
-    comes(browser, "time runs", STATUS, re.compile("^Time runs"))
+    comes(browser, "time runs", STATUS, re.compile("^Running"))
     browser.until("return document.querySelector('#registers').textContent", re.compile("^acc7"))
     stop_time(browser)
     comes(browser, "the machine is at the program's end", "return document.querySelector('#registers').textContent", re.compile("^acc7.*pc00[12]"))
     browser.script("document.getElementById('lines').value = 'list 3 40'")
+    show_text(browser, "console")
     browser.click("#send")
     comes(browser, "ROM has nothing else", "return document.querySelector('#log').textContent.split('list 3 40').pop().replace(/... 00 +NOP/g, '')", "")
     lines = browser.script("return document.querySelector('#log').textContent")
@@ -290,7 +291,7 @@ def check_empty(browser):
     comes(browser, "a ROM that is lacking is told at its line", FAULTS.format(PROGRAM), re.compile(r"^line 2: the board has no ROM 0, .*wire a \[\[rom\]\]"))
     show_text(browser, "board")
     browser.click("#first-board")
-    comes(browser, "an empty bench gets a board", TOLD.format(BOARD), "The board is wired.")
+    comes(browser, "an empty bench gets a board", TOLD.format(BOARD), "Board applied.")
     verdict("with lamps", browser.script("return document.querySelectorAll('#lamps li').length"), 4)
     verdict("and it is not offered again", browser.script("return document.getElementById('board-offer').hidden"), True)
     show_text(browser, "program")
@@ -368,6 +369,7 @@ def check_editor(browser, page, _folder, _mcs4):
     check_opened(browser, page)
     open_anew(browser, page)
     browser.script("for (const each of document.querySelectorAll('#notice .dismiss')) each.click()")
+    before = len(browser.script(ALL_NOTICES))
     choose_example(browser, "calculator")
     show_text(browser, "program")
     check_faults(browser)
@@ -381,4 +383,6 @@ def check_editor(browser, page, _folder, _mcs4):
     check_running(browser)
     check_board(browser)
     check_empty(browser)
-    verdict("no notice but what was done", browser.script(NOTICE), "The source was taken from ROM.")
+    told = browser.script(ALL_NOTICES)
+    done = [words for words in told[:len(told) - before] if not words.endswith("is kept, as you left it.")]
+    verdict("no notice but what was done", done, ["The source was taken from ROM."])

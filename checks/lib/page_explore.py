@@ -1,4 +1,4 @@
-"""What checks/page looks at of properties: those of an example are there; a fault that is put into its program is found, as tools/explore finds
+"""What checks/page looks at of properties: those of an example are there; a fault that is put into its program is found, as mcs4 explore finds
 it with the same seed, while the session's time goes on; the find is opened as a session, which shows what it says, and added to the tests,
 where it fails; a search that is stopped; what is wrong with properties, seconds and boards; all states of a small program; a search from a state of tests; the keyboard; a
 phone's width; that the text is kept, and goes with a project."""
@@ -8,7 +8,7 @@ import re
 import subprocess
 import time
 
-from page_in_browser import NOTICE, PUT_INTO_EDITOR, READY, TEXT_OF_EDITOR, TOP, choose_example, lines_answered, show_text
+from page_in_browser import NOTICE, PUT_INTO_EDITOR, READY, TEXT_OF_EDITOR, TOP, choose_example, lines_answered, of_file_menu, show_text
 from page_layout import SIDEWAYS, at_size
 from page_tests import FAULTS as TESTS_FAULTS
 from page_tests import TOLD as TESTS_TOLD
@@ -62,10 +62,10 @@ def planted():
 
 
 def found_by_tool(folder, program, mcs4):
-    """tools/explore at work on the same texts."""
+    """mcs4 explore at work on the same texts."""
     path = folder / "planted.asm"
     path.write_text(program)
-    asked = ["tools/explore", LOCK / "board.toml", path, LOCK / "lock.props", "--seconds", str(SECONDS), "--out", folder / "finds.test"]
+    asked = ["./mcs4", "explore", LOCK / "board.toml", path, LOCK / "lock.props", "--seconds", str(SECONDS), "--out", folder / "finds.test"]
     return subprocess.Popen(asked, cwd=TOP, env=dict(os.environ, MCS4=str(mcs4)), stdout=subprocess.PIPE, stderr=subprocess.DEVNULL, text=True)
 
 
@@ -111,7 +111,7 @@ def check_added(browser):
     before = text_of(browser, "tests")
     test = browser.script(TEST_OF_FIND)
     browser.click(add)
-    verdict("the test is added", browser.script(TOLD), "It is at the end of Tests, where Run the tests runs it.")
+    verdict("the test is added", browser.script(TOLD), "It is at the end of Tests, where Run tests runs it.")
     verdict("behind those of before", text_of(browser, "tests"), f"{before.rstrip()}\n\n{test}\n")
     browser.click(add)
     verdict("once", (browser.script(TOLD), text_of(browser, "tests").count(test)), ("Tests has it already.", 1))
@@ -164,7 +164,7 @@ def check_faults(browser):
     show_text(browser, "properties")
     comes(browser, "faults are told while one types", FAULTS,
           ["line 1: it is written as `wait TIME to TIME`, from 1 cycle to 100,000 (1.08 s), as in: wait 1 ms to 20 ms",
-           "line 2: the board has no lamp purple; it has: locked open alarm",
+           "line 2: the board has no lamp purple; it has: locked open alarm (column 7)",
            "line 3: the board has no key A; it has: 1 2 3 4 5 6 7 8 9 * 0 #"])
     verdict("the tab tells how many", browser.script(MARK), "3 faults")
     browser.click("#explore")
@@ -238,7 +238,7 @@ def check_kept(browser, folder):
     show_text(browser, "properties")
     comes(browser, "the text is there after a reload", TEXT_OF_EDITOR.replace("arguments[0]", f"'{EDITOR}'"), "never lamp 1 on")
     rename(browser, "with properties")
-    browser.click("#save-button")
+    of_file_menu(browser, "#save-button")
     saved = kept_download(folder, "with properties.mcsp")
     text = saved.read_text()
     verdict("a project has it", "\nunended properties\n" in text and "\nproperties\nnever lamp 1 on\n.\n" in text, True)

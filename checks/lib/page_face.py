@@ -9,7 +9,9 @@ from picture import write_picture
 from verdicts import comes, verdict
 
 TAB = "\ue004"
-TITLE = "return document.getElementById('front-title').textContent"
+# The heading also has the buttons of its panel.
+TITLE = """const heading = document.getElementById('front-title');
+return (heading.querySelector('.fold') || heading).textContent"""
 NAMES = "return [...document.querySelectorAll('#front .bulb')].map((bulb) => bulb.getAttribute('aria-label')).join('; ')"
 PRESSED = "return document.querySelector(arguments[0]).getAttribute('aria-pressed')"
 TEST_KEY = "#keys .at-test"
@@ -103,7 +105,7 @@ def check_spring_button(browser):
     browser.keys([" "], 100)
     comes(browser, "by the space bar", "return window.presses.join(' ')", "true false true false true false")
     browser.click("#run")
-    comes(browser, "time stands still", STATUS, re.compile("^Stopped"))
+    comes(browser, "time stands still", STATUS, re.compile("^Paused"))
     browser.click(TEST_KEY)
     comes(browser, "while time stands still it stays as a click puts it", TEST_PRESSED, "true")
     browser.click(TEST_KEY)
@@ -176,7 +178,7 @@ def check_no_face(browser):
 def check_bad_faces(browser):
     bad = "# title: Odd <b>one</b>\n# colour 0: pink\n# lamp 16: nobody\n# lamp 0: here <i>x</i>\n# display 15: 1 digit\n# grid 0: ghost\n"
     verdict("a board with a face that is none is wired", told_of(browser, "#board-editor", bad + board_of_lamps(16)),
-            "The board is wired.")
+            "Board applied.")
     comes(browser, "what is wrong with it is told with its lines", FAULTS, "; ".join(f"line {line} of the board's text: {words}" for line, words in (
         (2, "pink is no colour; there are red, amber, yellow, green, blue and white"),
         (3, "the lamp nobody is number 16, and the board has 16"),
@@ -190,6 +192,16 @@ def check_bad_faces(browser):
     browser.script(PUT_INTO_EDITOR, "#board-editor", "# title: Another\n" + board_of_lamps(16))
     comes(browser, "a face that is written is shown without wiring", TITLE, "Another")
     comes(browser, "and no fault is left", FAULTS, "")
+    # Texts are read 600 ms after the last edit.
+    for what, text in (("of another board", board_of_lamps(15)), ("with a fault", board_of_lamps(16) + "[[lamp\n")):
+        browser.script(PUT_INTO_EDITOR, "#board-editor", "# title: Third\n# lamp 16: nobody\n" + text)
+        time.sleep(1.5)
+        verdict(f"the face of a text {what} waits until that is wired", [browser.script(TITLE), browser.script(FAULTS)], ["Another", ""])
+    browser.reload()
+    until_ready(browser)
+    comes(browser, "after a reload, too", TITLE, "Another")
+    told_of(browser, "#board-editor", "# title: Third\n" + board_of_lamps(15))
+    comes(browser, "it is shown then", TITLE, "Third")
 
 
 def check_forced_colours(browser):
@@ -199,7 +211,7 @@ def check_forced_colours(browser):
     verdict("in forced colours all lamps have one colour", len(set(browser.script(RINGS))), 1)
     verdict("what is lit is full there, too", browser.script(FILLED), True)
     letters = "return [...document.querySelectorAll('#front .bulb')].map((bulb) => getComputedStyle(bulb, '::before').content).join(' ')"
-    verdict("and letters tell the colours", browser.script(letters), 'none "A" none "G" "G"')
+    verdict("and letters tell the colours", browser.script(letters), '"" "A" "" "G" "G"')
     browser.command("Emulation.setEmulatedMedia", features=[])
 
 
@@ -237,7 +249,9 @@ def take_pictures(browser, page, folder):
         time.sleep(0.5)
         # The hints below the keys are no part of the board.
         browser.script("for (const id of ['typing-label', 'keys-hint']) document.getElementById(id).hidden = true")
-        front = browser.find("#front")
-        picture = base64.b64decode(browser.do("GET", f"/element/{front}/screenshot"))
-        write_picture(picture, folder / f"{name.replace(' ', '_')}.png")
+        box = browser.script("""
+            const front = document.getElementById("front").getBoundingClientRect();
+            return [front.x, front.y, front.width, document.getElementById("keys").getBoundingClientRect().bottom - front.y + 8]""")
+        taken = browser.command("Page.captureScreenshot", clip=dict(zip(("x", "y", "width", "height", "scale"), [*box, 1])))
+        write_picture(base64.b64decode(taken["data"]), folder / f"{name.replace(' ', '_')}.png")
     browser.command("Emulation.clearDeviceMetricsOverride")

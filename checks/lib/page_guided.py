@@ -15,17 +15,14 @@ TITLE = "return document.getElementById('tour').hidden ? '-' : document.getEleme
 TOLD = "return document.getElementById('tour-told').textContent"
 SESSION = "return document.getElementById('name').value"
 TAB = "return document.querySelector('#text-tabs [aria-selected=true]').textContent"
+DOCK_TAB = TAB.replace("text-tabs", "dock-tabs")
 DOWN = "return [...document.querySelectorAll(\"#keys [aria-pressed='true'] b\")].map((each) => each.textContent).join(' ')"
 PLACES = "return [...document.querySelectorAll('#tour-words .place')].map((each) => each.textContent)"
 CLICK = "document.querySelectorAll('#tour-words .place')[arguments[0]].click()"
 FOCUS = "document.querySelectorAll('#tour-words .place')[arguments[0]].focus()"
 IN_VIEW = "const { top, bottom } = document.getElementById('memory').getBoundingClientRect(); return bottom > 0 && top < innerHeight"
-RETURN = "const back = document.getElementById('tour-return'); return isShown(back) ? back.textContent : ''"
 STORY_IN_VIEW = "const { top, bottom } = document.getElementById('tour').getBoundingClientRect(); return top >= 0 && bottom < innerHeight"
-# How much of what a tab shows is above the bar of time.
-SHOWN_OF_TAB = """
-const shown = [...document.querySelectorAll("#texts [role=tabpanel]")].find(isShown).getBoundingClientRect();
-return document.getElementById("clock").getBoundingClientRect().top - shown.top"""
+SHOWN_OF_TAB = "return [...document.querySelectorAll('#texts [role=tabpanel]')].find(isShown).getBoundingClientRect().height"
 REGISTER = "return document.getElementById(`value-${arguments[0]}`).textContent"
 
 
@@ -57,43 +54,30 @@ def check_sum(browser):
 def check_turn(browser):
     next_step(browser, "One digit at a time")
     place(browser, "Stop time")
-    comes(browser, "time stands still", STATUS, re.compile("^Stopped"))
+    comes(browser, "time stands still", STATUS, re.compile("^Paused"))
     place(browser, "Let it run")
-    comes(browser, "time runs", STATUS, re.compile("^Time runs"))
+    comes(browser, "time runs", STATUS, re.compile("^Running"))
     place(browser, "wiring")
     comes(browser, "the wiring is in front", TAB, re.compile("^Wiring"))
     place(browser, "a turn")
     comes(browser, "the source is in front", TAB, re.compile("^Source"))
 
 
-def check_way_back(browser):
-    """From what stands below the story a button leads back to it, to the place where one was."""
-    browser.script("scrollTo(0, document.documentElement.scrollHeight)")
-    comes(browser, "a way back is offered", RETURN, "Back to the story")
-    browser.script("document.getElementById('tour-return').focus()")
-    browser.keys([ENTER])
-    comes(browser, "Enter on it leads back", STORY_IN_VIEW, True)
-    verdict("to the place that was used last", browser.script("return document.activeElement.textContent"), "a turn")
-    comes(browser, "and it is gone", RETURN, "")
-
-
 def check_phone(browser):
-    """On a phone the story is left for what it shows: that is in view, and a button leads back."""
+    """On a phone the story stays in view above what it shows."""
     at_size(browser, 390, 844, True)
     for words in ("wiring", "a turn"):
         place(browser, words)
-        comes(browser, f"on a phone {words} leaves the story", RETURN, "Back to the story")
-        verdict(f"for {words}", browser.script(SHOWN_OF_TAB) > 150, True)
+        comes(browser, f"on a phone the story stays beside {words}", STORY_IN_VIEW, True)
+        verdict(f"and {words} has room", browser.script(SHOWN_OF_TAB) > 150, True)
         verdict("nothing scrolls sideways", browser.script(SIDEWAYS), 0)
-        browser.script("document.getElementById('tour-return').click()")
-        comes(browser, f"and the way back from {words} leads to it", STORY_IN_VIEW, True)
     browser.command("Emulation.clearDeviceMetricsOverride")
 
 
 def check_key(browser):
     next_step(browser, "A key goes down")
     place(browser, "Stop time")
-    comes(browser, "time stands still", STATUS, re.compile("^Stopped"))
+    comes(browser, "time stands still", STATUS, re.compile("^Paused"))
     place(browser, "press 5")
     comes(browser, "the key stays down", DOWN, "5")
     place(browser, "press 5")
@@ -131,18 +115,18 @@ def check_number(browser):
     place(browser, "time run")
     comes(browser, "the digit is seen", DIGITS, "5")
     place(browser, "Run to where the digit is entered")
-    comes(browser, "without a key time runs up to there", WHOLE_STATUS, re.compile("^Time runs, up to"))
+    comes(browser, "without a key time runs up to there", WHOLE_STATUS, re.compile("^Running to"))
     place(browser, "time run")
-    comes(browser, "until it is to run on without a goal", WHOLE_STATUS, re.compile(r"^Time runs\."))
+    comes(browser, "until it is to run on without a goal", WHOLE_STATUS, re.compile('^Running ".*F5'))
     browser.keys(["5"])
     comes(browser, "a digit that is entered then is seen", DIGITS, "55")
-    verdict("and stops nothing", browser.script(WHOLE_STATUS), re.compile(r"^Time runs\."))
+    verdict("and stops nothing", browser.script(WHOLE_STATUS), re.compile('^Running ".*F5'))
 
 
 def check_paper(browser):
     next_step(browser, "A line of paper")
     place(browser, "Stop time")
-    comes(browser, "time stands still", STATUS, re.compile("^Stopped"))
+    comes(browser, "time stands still", STATUS, re.compile("^Paused"))
     place(browser, "press =")
     place(browser, "run to where a character is sent")
     comes(browser, "time has come to where a character is sent", WHOLE_STATUS, re.compile(r"send, line"))
@@ -158,14 +142,14 @@ def check_end(browser):
     browser.script("document.getElementById('tour-next').focus()")
     browser.keys([ENTER])
     comes(browser, "Enter goes to the last step", TITLE, "6 of 6: Further")
-    for words, what in (("=", DOWN), ("tests", TAB), ("Waves", TAB), ("Source", TAB)):
+    for words, what in (("=", DOWN), ("tests", TAB), ("Waves", DOCK_TAB), ("Source", TAB)):
         browser.script(FOCUS, browser.script(PLACES).index(words))
         browser.keys([ENTER])
         wanted = "" if what == DOWN else re.compile(f"^{words.capitalize()}")
         comes(browser, f"Enter on {words}", what, wanted)
     browser.script(FOCUS, browser.script(PLACES).index("time run"))
     browser.keys([ENTER])
-    comes(browser, "time runs", STATUS, re.compile("^Time runs"))
+    comes(browser, "time runs", STATUS, re.compile("^Running"))
     told_of(browser, "#program-editor", "NOP\n")
     browser.click("#tour-back")
     place(browser, "run to where a character is sent")
@@ -202,7 +186,6 @@ def check(browser, page, _folder, _mcs4):
     browser.script(SPEED, "real")
     check_sum(browser)
     check_turn(browser)
-    check_way_back(browser)
     if isinstance(browser, Chromium):
         check_phone(browser)
     check_key(browser)

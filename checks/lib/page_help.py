@@ -3,7 +3,7 @@
 import re
 import time
 
-from page_in_browser import ENTER, ESCAPE, STATUS, choose_example, key, until_ready
+from page_in_browser import ENTER, ESCAPE, STATUS, choose_example, key, lines_answered, show_text, until_ready
 from verdicts import comes, verdict
 
 F1, UP, DOWN, CONTROL = "\ue031", "\ue013", "\ue015", "\ue009"
@@ -31,6 +31,7 @@ def check_help(browser):
 
 
 def check_lines(browser):
+    show_text(browser, "console")
     browser.script("document.activeElement.blur()")
     browser.type_into("#lines", "re")
     comes(browser, "what begins so is shown below the box", HINT, re.compile(r"^release r c: .*\nreset: .*\nregs: "))
@@ -83,7 +84,7 @@ def run_program(browser):
     browser.script("document.querySelector('#program-editor .told').firstChild.data = ''")
     browser.click("#program-editor .send")
     browser.until("return document.querySelector('#program-editor .told').textContent", re.compile("It runs from 000 on"))
-    browser.until(STATUS, re.compile("^Time runs"))
+    browser.until(STATUS, re.compile("^Running"))
 
 
 def check_tour(browser):
@@ -103,11 +104,9 @@ def check_tour(browser):
     browser.fingers([key("right")], 400)
     comes(browser, "the key is seen", DONE, "Done.")
     browser.click("#tour-next")
-    browser.script("document.getElementById('lines').value = 'break 0x006'")
-    browser.click("#send")
+    lines_answered(browser, "break 0x006")
     comes(browser, "the breakpoint is seen", DONE, "Done.")
-    browser.script("document.getElementById('lines').value = 'unbreak 0x006'")
-    browser.click("#send")
+    lines_answered(browser, "unbreak 0x006")
     browser.click("#tour-next")
     run_program(browser)
     browser.click(".ram button")
@@ -119,7 +118,7 @@ def check_tour(browser):
 
 
 def check_hints(browser):
-    titles = "return [...document.querySelectorAll('#processor [title], #ports [title]')].map((each) => each.title).join('; ')"
+    titles = "return [...document.querySelectorAll('#processor [title], #calls [title], #ports [title]')].map((each) => each.title).join('; ')"
     for words in ("the accumulator", "in the middle of an instruction of two cycles", "the return addresses, the newest first", "what WRR has written"):
         comes(browser, f"a cell says what it shows: {words}", titles, re.compile(words))
 

@@ -17,6 +17,14 @@ STATUS = "return document.getElementById('status').textContent.replace(/ \\([^()
 WHOLE_STATUS = "return document.getElementById('status').textContent"
 STEPPED = re.compile("^At [0-9A-F]{3}, after [12] cycles?, ")
 NOTICE = "return [...document.querySelectorAll('#notice p')].map((told) => told.textContent).join(' ')"
+# All notices so far, the newest first, as the list has them.
+ALL_NOTICES = """
+document.getElementById("notices-button").click();
+const all = [...document.querySelectorAll("#notices li .grow")].map((told) => told.textContent);
+document.querySelector("#notices .bar button").click();
+return all"""
+# The cards of a first visit stand before all else.
+CLOSE_CARDS = "const cards = document.getElementById('welcome'); if (cards && cards.open) cards.close()"
 READY = "return Boolean(document.body.dataset.ready)"
 KEYS_DOWN = "return document.querySelectorAll(\"#keys [aria-pressed='true']\").length"
 SPEED = """
@@ -78,6 +86,7 @@ VIOLATIONS = "return [...window.violations].sort().join(' ') + (window.injected 
 def until_ready(browser):
     """Waits for the page, which other work on the machine may make slow by far."""
     comes(browser, "the page is ready", READY, True, 90)
+    browser.script(CLOSE_CARDS)
 
 
 def open_anew(browser, page):
@@ -90,7 +99,13 @@ def open_anew(browser, page):
 def stop_time(browser):
     """Stops time, which runs."""
     browser.click("#run")
-    browser.until(STATUS, re.compile("^Stopped"))
+    browser.until(STATUS, re.compile("^Paused"))
+
+
+def of_file_menu(browser, selector):
+    """Chooses something in the menu of files."""
+    browser.click("#menu-button")
+    browser.click(selector)
 
 
 def key(legend):
@@ -146,9 +161,9 @@ def lamps_of(mcs4, file, keys):
     """What the program shows of a session's file, after some keys."""
     board = TOP / "examples/calculator/board.toml"
     told = dict(os.environ, MCS4=str(mcs4))
-    lines = subprocess.run([TOP / "tools/keys", board, keys], stdout=subprocess.PIPE, check=True, env=told).stdout
+    lines = subprocess.run([TOP / "mcs4", "keys", board, keys], stdout=subprocess.PIPE, check=True, env=told).stdout
     answers = subprocess.run([mcs4, "open", file], input=lines, stdout=subprocess.PIPE, check=True).stdout
-    return subprocess.run([TOP / "tools/display", board], input=answers, stdout=subprocess.PIPE, check=True).stdout.decode().strip()
+    return subprocess.run([TOP / "mcs4", "display", board], input=answers, stdout=subprocess.PIPE, check=True).stdout.decode().strip()
 
 
 def as_version_1(file):
@@ -166,7 +181,7 @@ def check_files(browser, folder, mcs4):
     # A key that was typed stays down for a moment; one that is down as time stops is down in the file.
     browser.until(KEYS_DOWN, 0)
     stop_time(browser)
-    browser.click("#save-session-button")
+    of_file_menu(browser, "#save-session-button")
     saved = folder / "downloads/calculator.mcs"
     end = time.monotonic() + 20
     # Some browsers make an empty file first.
@@ -207,7 +222,7 @@ def check_stops(browser):
     browser.click_at_rest(line)
     comes(browser, "a breakpoint by a click", f"return document.querySelector('{line}').getAttribute('aria-pressed')", "true")
     browser.click("#run")
-    comes(browser, "the run stops there", STATUS, f"Stopped at {address}, at a breakpoint.")
+    comes(browser, "the run stops there", STATUS, f"Paused at {address}, at a breakpoint.")
     comes(browser, "the listing shows it", f"return document.querySelector('{line} span').textContent.slice(0, 3)", address)
     browser.click_at_rest(line)
     comes(browser, "the breakpoint is gone", f"return document.querySelector('{line}').getAttribute('aria-pressed')", "false")
@@ -217,7 +232,7 @@ def check_stops(browser):
     browser.click("#run")
     browser.fingers([key("C")], 60)
     comes(browser, "a run at full speed stops where the character changes", STATUS,
-          re.compile("^Stopped at ..., after a watched character changed.$"))
+          re.compile("^Paused at ..., after a watched character changed.$"))
     browser.script(SPEED, "real")
     verdict("and it is marked", "changed" in browser.script("return document.querySelector('.ram button').className"), True)
     browser.click(".ram button")
@@ -264,12 +279,12 @@ def check_hidden(browser):
     time.sleep(2.5)
     browser.close_tab(shown)
     comes(browser, "a page that was hidden says for how long it stood still", STATUS,
-          re.compile(r"^Time runs\. It was stopped for \d+ seconds while the page was hidden\.$"))
+          re.compile(r"^Running\. Paused for \d+ seconds while the page was hidden\.$"))
     comes(browser, "what is kept did not change meanwhile", KEPT_WHEN_HIDDEN, [2, 1])
     comes(browser, "and it runs on as fast as it should", RATE, re.compile("^9[0-4]...$"))
     browser.script(BLOCK, 1500)
     comes(browser, "the same where the browser did not run the page", STATUS,
-          re.compile(r"was stopped for \d+ seconds while the page could not work\.$"))
+          re.compile(r"Paused for \d+ seconds while the tab was busy\.$"))
     check_hidden_at_full_speed(browser)
 
 
@@ -283,7 +298,7 @@ def check_hidden_at_full_speed(browser):
     time.sleep(6)
     browser.close_tab(shown)
     comes(browser, "at full speed what is kept goes on while hidden", KEPT_WHEN_HIDDEN, [2, 2])
-    verdict("and nothing stood still", browser.script(STATUS), re.compile("^Time runs"))
+    verdict("and nothing stood still", browser.script(STATUS), re.compile("^Running"))
     browser.script(SPEED, "real")
     comes(browser, "and real time is held again", RATE, re.compile("^9[0-4]...$"))
 
@@ -304,8 +319,16 @@ def check_speed_field(browser):
 
 
 def show_text(browser, name):
-    """Brings a tab of the texts to the front: `program`, `board` or `wiring`."""
-    browser.click(f"#{name}-tab")
+    """Brings a tab of the texts to the front (`program`, `board`, `wiring`), or one of the dock (`console`, `disassembly`). What is drawn anew beside the tabs may move them from under the
+    pointer on a slow machine; a user clicks again then."""
+    selected = f"return document.getElementById('{name}-tab').getAttribute('aria-selected')"
+    end = time.monotonic() + 30
+    while time.monotonic() < end:
+        browser.click(f"#{name}-tab")
+        if browser.script(selected) == "true":
+            return
+        time.sleep(0.2)
+    raise Fault(f"the tab {name} does not come to the front")
 
 
 def told_of(browser, editor, text):
@@ -329,7 +352,7 @@ def check_texts(browser):
     verdict("lines and their answers", lines_answered(browser, "poke r5 9\nfoo\nseq"),
             re.compile(r"poke r5 9ok \d+foono 10: not a command.*seqseq \d+$"))
     three = (TOP / "examples/three_lamps/board.toml").read_text()
-    verdict("a board that is wired", told_of(browser, "#board-editor", three), "The board is wired.")
+    verdict("a board that is wired", told_of(browser, "#board-editor", three), "Board applied.")
     verdict("has three lamps", browser.script("return document.querySelectorAll('#lamps li').length"), 3)
 
 
@@ -350,6 +373,10 @@ def check_two_tabs(browser):
     until_ready(browser)
     verdict("a second tab on the session is told so", browser.script(NOTICE), re.compile("open in another tab"))
     verdict("and shows another session", browser.script("return location.href") != address, True)
+    name = browser.script("return document.getElementById('name').value")
+    browser.click("#notice button[aria-label^='Open a copy']")
+    comes(browser, "a copy of the first one can be opened there", "return document.getElementById('name').value", re.compile(", a copy$"))
+    verdict("which is none of the session that was shown", browser.script("return document.getElementById('name').value") != f"{name}, a copy", True)
     browser.close_tab(first)
 
 

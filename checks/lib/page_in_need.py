@@ -1,9 +1,11 @@
 """What checks/page looks at where something fails or the browser lacks something: it is told in words, and nothing is lost."""
 
 import re
+import time
 
 from page_altered import FAULT, FAULTS, SHOW_WORKER, altered
-from page_in_browser import DIGITS, ENTER, ESCAPE, NOTICE, READY, STATUS, choose_example, lines_answered, open_anew, stop_time, until_ready
+from page_in_browser import (DIGITS, ENTER, ESCAPE, NOTICE, PUT_INTO_EDITOR, READY, STATUS, TEXT_OF_EDITOR, choose_example, lines_answered,
+                             open_anew, stop_time, until_ready)
 from verdicts import comes, verdict
 from web_driver import Chromium
 
@@ -74,7 +76,7 @@ def check_full_store(browser):
 def check_worker(browser):
     """A worker that dies while time runs, and one that hangs when its work is cancelled."""
     browser.click("#run")
-    browser.until(STATUS, "Time runs.")
+    browser.until(STATUS, re.compile("^Running \""))
     fail(browser, "die")
     comes(browser, "a worker that died is told", NOTICE, re.compile("worker has stopped and was started again.*as it was before"), 40)
     comes(browser, "and the session is as it was", DIGITS, "123")
@@ -86,7 +88,7 @@ def check_worker(browser):
     before = lines_answered(browser, "seq")
     fail(browser, "hang")
     browser.script("document.getElementById('lines').value = 'poke r5 9'")
-    browser.click("#send")
+    browser.script("document.getElementById('send').click()")
     comes(browser, "work that hangs can be cancelled", "return document.getElementById('work').hidden", False)
     browser.click("#cancel")
     comes(browser, "then its worker is ended", NOTICE, re.compile("worker has stopped and was started again"), 20)
@@ -106,15 +108,19 @@ window.ticking = setInterval(() => {
   window.longest = Math.max(window.longest, performance.now() - before);
   before = performance.now();
 }, 20)"""
-# Opened with `?hang`, the page never comes to the end of opening a session, nor to what it does when it is left.
+# Opened with `?hang`, the page never comes to the end of opening a session, nor to what it does when it is left. Opened with `?deaf=EVENT`,
+# it is not told of that event.
 HANG = """
+const deaf = (name) => addEventListener(name, (event) => event.stopImmediatePropagation(), true);
+if (location.search.startsWith("?deaf=")) deaf(location.search.slice(6));
 if (location.search === "?hang") {
   const post = Worker.prototype.postMessage;
   Worker.prototype.postMessage = function (message, ...rest) {
     if (message.call === "open") window.hung = true;
     else post.call(this, message, ...rest);
   };
-  addEventListener("pagehide", (event) => event.stopImmediatePropagation(), true);
+  deaf("beforeunload");
+  deaf("pagehide");
 }"""
 FLAGS = "return Object.keys(localStorage).filter((key) => key.startsWith('fethsaim.opening')).length"
 LONG_AGO = "for (const key of Object.keys(localStorage)) if (key.startsWith('fethsaim.opening')) localStorage.setItem(key, '1')"
@@ -144,15 +150,21 @@ def check_long_work(browser, page):
     verdict("and nothing of it is done", lines_answered(browser, "seq"), before)
     dismiss(browser)
     browser.script("document.getElementById('lines').value = 'step\\n'.repeat(20000)")
-    browser.click("#send")
+    browser.script("document.getElementById('send').click()")
     comes(browser, "work in pieces is done whole", "return document.getElementById('lines').value", "", 60)
     lines_answered(browser, "seq")
     verdict("each line of it once", browser.script(LAST_ENTRY), f"seqseq {int(before.rsplit(' ', 1)[1]) + 20000}")
 
 
+SHORT_WAIT = """
+const wait = setTimeout;
+window.setTimeout = (act, time, ...rest) => wait(act, time === 10000 ? 300 : time, ...rest);
+"""
+
+
 def poor(page, folder, code):
-    """A page like this one, in a browser that lacks something; it waits for a store for a short time alone."""
-    return altered(page, folder, code, replaced=[("TIME_OF_STORE = 1e4;", "TIME_OF_STORE = 300;")])
+    """A page like this one, in a browser that lacks something; it waits for a store, which it does for ten seconds, for a short time alone."""
+    return altered(page, folder, f"{SHORT_WAIT}{code}")
 
 
 def told_at_start(browser, page, code=NOTICE, wanted=re.compile(".")):
@@ -221,7 +233,7 @@ def check_little_memory(page, folder):
         # What ran may come into the log meanwhile.
         before = lines_answered(browser, "seq").split()[-1]
         browser.script("document.getElementById('lines').value = 'poke r5 9\\nasm\\n' + '; a comment of so many letters\\n'.repeat(150000)")
-        browser.click("#send")
+        browser.script("document.getElementById('send').click()")
         comes(browser, "lack of memory in the module is told", NOTICE, re.compile("no 90: there was no memory.*The session is as it was"), 30)
         browser.script("document.getElementById('lines').value = ''")
         verdict("and the session is as it was", lines_answered(browser, "seq").split()[-1], before)
@@ -245,6 +257,22 @@ def hang(browser, address):
     browser.script(LONG_AGO)
 
 
+def check_left_soon(browser, address, session):
+    """A page that is left within a second was not hung by its session, whichever event of its end it is told of."""
+    for query in ("", "?deaf=beforeunload", "?deaf=pagehide"):
+        browser.go("about:blank")
+        browser.go(address.replace(".html", f".html{query}") + session)
+        until_ready(browser)
+        text = f"; left {query}\n"
+        browser.script(PUT_INTO_EDITOR, "#program-editor", text)
+        browser.go("about:blank")
+        # Not so soon that another tab could be just opening it.
+        time.sleep(2.1)
+        verdict(f"a session of a page that is left at once is opened by itself again ({query})",
+                [reopen(browser, address), browser.script("return location.hash")], ["", session])
+        verdict("with what was typed last", browser.script(TEXT_OF_EDITOR, "#program-editor"), text)
+
+
 def check_unended(browser, page, folder):
     """A session whose opening hung the page is not opened by itself again; it is told, and can be opened or deleted."""
     hanging = altered(page, folder, HANG).as_uri()
@@ -264,6 +292,8 @@ def check_unended(browser, page, folder):
     comes(browser, "it can be opened", "return location.hash", session)
     comes(browser, "and is well again then", FLAGS, 0)
     verdict("at the next start, too", [reopen(browser, hanging), browser.script("return location.hash")], ["", session])
+    browser.until(FLAGS, 0)
+    check_left_soon(browser, hanging, session)
     browser.until(FLAGS, 0)
     hang(browser, hanging + session)
     reopen(browser, hanging)

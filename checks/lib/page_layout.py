@@ -5,6 +5,7 @@ import time
 
 from page_in_browser import (AT_COUNTER, ENTER, ESCAPE, STATUS, STEPPED, choose_example, key, lines_answered, open_anew, show_text,
                              step_with_marks, stop_time, until_ready)
+from page_workbench import check_arrangement, check_by_finger, check_first_glance, check_shifts
 from verdicts import comes, verdict
 from web_driver import Chromium
 
@@ -18,6 +19,7 @@ def check(browser, page, _folder, _mcs4):
     check_pressed(browser)
     check_tabs(browser)
     check_folds(browser)
+    check_arrangement(browser)
     check_listing(browser)
     check_follow(browser)
     check_marks(browser)
@@ -27,6 +29,9 @@ def check(browser, page, _folder, _mcs4):
     check_swipe(browser)
     check_letters(browser)
     if isinstance(browser, Chromium):
+        check_first_glance(browser, page, at_size)
+        check_by_finger(browser, at_size)
+        check_shifts(browser, page, at_size)
         check_sizes(browser)
         check_phone(browser)
         check_forced_colours(browser)
@@ -35,8 +40,8 @@ def check(browser, page, _folder, _mcs4):
 
 # --- tabs and panels ---
 
-FRONT = "return document.querySelector('[role=tab][aria-selected=true]').id"
-SHOWN = "return [...document.querySelectorAll('[role=tabpanel]')].filter(isShown).map((each) => each.id).join(' ')"
+FRONT = "return document.querySelector('#text-tabs [aria-selected=true]').id"
+SHOWN = "return [...document.querySelectorAll('#texts [role=tabpanel]')].filter(isShown).map((each) => each.id).join(' ')"
 
 
 def check_tabs(browser):
@@ -48,23 +53,26 @@ def check_tabs(browser):
     verdict("Home goes to the first tab", browser.script(FRONT), "program-tab")
     browser.keys([RIGHT])
     verdict("an arrow shows the next one", (browser.script(FRONT), browser.script(SHOWN)), ("board-tab", "board-editor"))
-    verdict("one tab is a stop of the Tab key", browser.script("return document.querySelectorAll('[role=tab][tabindex=\"0\"]').length"), 1)
+    verdict("one tab is a stop of the Tab key", browser.script("return document.querySelectorAll('#text-tabs [tabindex=\"0\"]').length"), 1)
     browser.keys([LEFT])
     verdict("and back", browser.script(SHOWN), "program-editor")
 
 
 def check_folds(browser):
-    browser.click("#talk .fold")
-    folded = "return document.querySelector('#talk .fold').getAttribute('aria-expanded') + isShown(document.getElementById('log'))"
+    browser.click("#memory .fold")
+    folded = "return document.querySelector('#memory .fold').getAttribute('aria-expanded') + isShown(document.getElementById('banks'))"
     verdict("a panel folds", browser.script(folded), "falsefalse")
     show_text(browser, "board")
+    show_text(browser, "console")
     browser.reload()
     until_ready(browser)
     verdict("and is folded after a reload", browser.script(folded), "falsefalse")
     verdict("the tab is kept, too", browser.script(FRONT), "board-tab")
-    browser.click("#talk .fold")
+    verdict("and that of the dock", browser.script("return isShown(document.getElementById('talk'))"), True)
+    browser.click("#memory .fold")
     verdict("it unfolds", browser.script(folded), "truetrue")
     show_text(browser, "program")
+    show_text(browser, "disassembly")
 
 
 # --- the listing ---
@@ -95,7 +103,7 @@ def check_listing(browser):
     browser.keys([UP, UP])
     comes(browser, "and stays at the first one", FOCUSED, "000")
     seen = set(shown)
-    for _ in range(60):
+    for _ in range(200):
         before = addresses(browser)[-1]
         browser.keys([PAGE_DOWN], 1, 1)
         browser.until(FOCUSED, re.compile("."))
@@ -123,13 +131,13 @@ def lines_of_program(browser):
 
 
 def check_scroll_bar(browser):
-    browser.script("document.getElementById('lines-of-program').scrollTop = arguments[0] * 20", 0x100)
+    browser.script("document.getElementById('lines-of-program').scrollTop = arguments[0] * 24", 0x100)
     comes(browser, "the scroll bar goes to 100", ROWS, re.compile(r"^\['\W*10[0-3]"))
     browser.script("document.getElementById('lines-of-program').scrollTop = 1e9")
     comes(browser, "and to the end", ROWS, re.compile(r"FF[EF][^,]*\]$"))
     browser.type_into("#go-to", f"0x010{ENTER}")
     comes(browser, "go to brings an address to the top", ROWS, re.compile(r"^\['\W*010"))
-    comes(browser, "and the box is scrolled there", TOP, 16 * 20)
+    comes(browser, "and the box is scrolled there", TOP, 16 * 24)
 
 
 NEXT = "const next = document.querySelector('#lines-of-program .next'); return next ? next.textContent : ''"
@@ -175,7 +183,7 @@ def check_marks(browser):
     comes(browser, "after a reset the status is true", STATUS, "The board was reset; it is at 000.")
     browser.script(COUNT_MARKS)
     browser.click("#run")
-    comes(browser, "a long run ends at its breakpoint", STATUS, "Stopped at 00C, at a breakpoint.", 40)
+    comes(browser, "a long run ends at its breakpoint", STATUS, "Paused at 00C, at a breakpoint.", 40)
     verdict("while it ran nothing was marked but at the stop", browser.script("return window.marks") < 12, True)
     verdict("what changed at its start is marked", "R5" in browser.script(MARKED).split(), True)
     verdict("what came back to what it was is not", "R0" in browser.script(MARKED).split(), False)
@@ -234,7 +242,7 @@ def check_cells(browser):
 
 def check_pressed(browser):
     """What changes while it is pressed is pressed all the same: WebKit forgets it where its text node is put in anew."""
-    browser.until(STATUS, re.compile("^Time runs"))
+    browser.until(STATUS, re.compile("^Running"))
     browser.script("window.pressed = 0; document.getElementById('value-acc').addEventListener('click', () => { window.pressed++; })")
     browser.hold("#value-acc", 400)
     comes(browser, "a value that changes is pressed while time runs", "return window.pressed", 1)
@@ -295,7 +303,7 @@ DOWN_KEYS = "return document.querySelectorAll(\"#keys [aria-pressed='true']\").l
 def check_swipe(browser):
     """A swipe that begins on a key leaves no key down, quick or slow, while time runs and while it stands still."""
     choose_example(browser, "calculator")
-    browser.until(STATUS, re.compile("runs"))
+    browser.until(STATUS, re.compile("^Running"))
     before = lines_answered(browser, "seq")
     verdict("keys let a finger scroll", browser.script("return getComputedStyle(document.querySelector('.key')).touchAction"), "pan-y")
     for what, wait in (("quick", 20), ("slow", 200)):
@@ -338,34 +346,66 @@ def at_size(browser, width, height, mobile=False):
 
 
 BOXES = """
-return Object.fromEntries(["clock", "front", "groups", "keys", "texts", "program-editor", "listing", "memory"].map((id) => {
-  const box = document.getElementById(id).getBoundingClientRect();
-  return [id, { left: box.left, right: box.right, top: box.top, bottom: box.bottom }];
+const ids = ["toolbar", "front", "keys", "texts", "program-editor", "dock", "side", "processor", "calls", "watched", "breakpoints", "memory",
+  "statusbar", "regions"];
+return Object.fromEntries(ids.map((id) => {
+  const element = document.getElementById(id);
+  const box = element.getBoundingClientRect();
+  return [id, isShown(element) ? { left: box.left, right: box.right, top: box.top, bottom: box.bottom } : null];
 }))"""
+# Controls of the toolbar that cover one another.
+COVERED = """
+const shown = [...document.querySelectorAll("#toolbar :is(button, input, select, h1):not([role=menu] *)")].filter(isShown);
+const boxes = shown.map((each) => [each.id, each.getBoundingClientRect()]);
+return boxes.flatMap(([id, a], k) => boxes.slice(k + 1)
+  .filter(([, b]) => Math.min(a.right, b.right) - Math.max(a.left, b.left) > 1 && Math.min(a.bottom, b.bottom) - Math.max(a.top, b.top) > 1)
+  .map(([other]) => `${id} ${other}`))"""
 SIDEWAYS = "return document.documentElement.scrollWidth - document.documentElement.clientWidth"
+# How far the page itself can be scrolled, down and sideways.
+SCROLLS = """
+const { scrollHeight, clientHeight, scrollWidth, clientWidth } = document.documentElement;
+scrollTo(1000, 1000);
+const moved = [scrollX, scrollY];
+scrollTo(0, 0);
+return [scrollWidth - clientWidth, scrollHeight - clientHeight, ...moved]"""
 
 
 def check_sizes(browser):
-    """From 1,280 pixels on source and lamps are side by side above the fold, and the width is used."""
+    """The page itself never scrolls; from 1,000 pixels on front panel, texts and the debugger's panels are side by side."""
     choose_example(browser, "traffic light")
-    for width, height in ((1280, 800), (1366, 768), (1440, 900), (1920, 1080)):
+    for width, height in ((1024, 640), (1200, 720), (1280, 720), (1440, 900), (1920, 1080)):
         at_size(browser, width, height)
         told = browser.script(BOXES)
-        beside = told["front"]["right"] <= told["texts"]["left"] and abs(told["front"]["top"] - told["texts"]["top"]) < 3
-        verdict(f"lamps and source are side by side at {width}", beside, True)
-        verdict(f"the bars above take little room at {width}", told["front"]["top"] < 150, True)
-        verdict(f"lamps are above the fold at {width}", told["groups"]["bottom"] < height, True)
-        verdict(f"so are the keys at {width}", told["keys"]["bottom"] < height, True)
-        source = told["program-editor"]
-        verdict(f"the source is above the fold at {width}", min(source["bottom"], height) - source["top"] > 0.6 * height, True)
-        verdict(f"so is the listing at {width}", told["listing"]["top"] < 0.65 * height, True)
-        right = max(each["right"] for each in told.values())
-        verdict(f"the width is used at {width}", right > width - 40 and told["front"]["left"] < 40, True)
-        verdict(f"nothing scrolls sideways at {width}", browser.script(SIDEWAYS), 0)
-    for width in (1000, 768, 700, 699, 320):
+        verdict(f"the page does not scroll at {width}", browser.script(SCROLLS), [0, 0, 0, 0])
+        verdict(f"the toolbar is one row at {width}", told["toolbar"]["bottom"] - told["toolbar"]["top"], 44)
+        verdict(f"no control of the toolbar covers another one at {width}", browser.script(COVERED), [])
+        verdict(f"three columns are side by side at {width}",
+                told["front"]["right"] <= told["texts"]["left"] and told["texts"]["right"] <= told["side"]["left"], True)
+        verdict(f"the dock is below the texts at {width}", told["texts"]["bottom"] <= told["dock"]["top"], True)
+        verdict(f"the status bar ends the window at {width}", told["statusbar"]["bottom"], height)
+        verdict(f"so do the panels above it at {width}", {told[name]["bottom"] for name in ("front", "dock", "side")}, {told["statusbar"]["top"]})
+        verdict(f"keys are in view at {width}", told["keys"]["bottom"] < height, True)
+        verdict(f"the width is used at {width}", (told["front"]["left"], told["side"]["right"]), (0, width))
+    for width in (999, 820, 700, 699, 320):
         at_size(browser, width, 800)
-        verdict(f"nothing scrolls sideways at {width}", browser.script(SIDEWAYS), 0)
+        verdict(f"the page does not scroll at {width}", browser.script(SCROLLS), [0, 0, 0, 0])
+        verdict(f"no control of the toolbar covers another one at {width}", browser.script(COVERED), [])
+    check_drawer(browser)
     browser.command("Emulation.clearDeviceMetricsOverride")
+
+
+DRAWER = "return isShown(document.getElementById('processor'))"
+
+
+def check_drawer(browser):
+    """In a narrower window the debugger's panels are a drawer."""
+    at_size(browser, 820, 1180)
+    verdict("the drawer is shut", browser.script(DRAWER), False)
+    browser.click("#drawer-button")
+    verdict("its button opens it", browser.script(DRAWER), True)
+    browser.script("document.getElementById('value-acc').focus()")
+    browser.keys([ESCAPE])
+    verdict("Escape shuts it", browser.script(DRAWER), False)
 
 
 SEEN = """
@@ -393,19 +433,23 @@ def check_menu(browser):
     browser.keys([ESCAPE])
     verdict("Escape shuts it", browser.script(MENU), "false false")
     browser.click("#menu-button")
-    browser.click("#help-button")
+    browser.click("#help-narrow")
     verdict("what is chosen is done", browser.script("return isShown(document.getElementById('help'))"), True)
     verdict("and the menu is shut", browser.script(MENU), "false false")
     browser.click("#help-close")
     browser.click("#menu-button")
-    browser.click("#sessions-button")
+    browser.click("#examples-narrow")
     wide = "const box = document.getElementById('sessions'); return box.open && box.scrollWidth - box.clientWidth"
     comes(browser, "the dialog of sessions does not scroll sideways", wide, 0)
     browser.click("#close-sessions")
 
 
+PHONE_PANELS = "return ['front', 'texts', 'side', 'dock'].filter((id) => isShown(document.getElementById(id))).join(' ')"
+
+
 def check_phone(browser):
-    """On a phone lamps and keys stay in view, and a swipe that begins on a key scrolls."""
+    """On a phone one region is shown at a time, chosen by the tabs at the bottom; a swipe that begins on a key scrolls."""
+    choose_example(browser, "calculator")
     at_size(browser, 375, 667, True)
     browser.command("Emulation.setTouchEmulationEnabled", enabled=True)
     browser.reload()
@@ -414,21 +458,22 @@ def check_phone(browser):
     for width, height in ((390, 844), (360, 640), (320, 640), (375, 667)):
         at_size(browser, width, height, True)
         told = browser.script(BOXES)
-        verdict(f"at {width} a phone does not scroll sideways", browser.script(SIDEWAYS), 0)
-        verdict(f"nor does RAM at {width}", browser.script("const box = document.getElementById('banks'); return box.scrollWidth - box.clientWidth"), 0)
-        verdict(f"going back stands below the keys at {width}", browser.script(
-            "return document.getElementById('front').nextElementSibling.id"), "history")
-        verdict(f"lamps and keys are above the bar of time at {width}", told["keys"]["bottom"] < told["clock"]["top"], True)
-        verdict(f"which is small at {width}", told["clock"]["bottom"] - told["clock"]["top"] < 116, True)
-    browser.script("document.getElementById('program-editor').scrollIntoView({ block: 'end' })")
+        verdict(f"at {width} a phone's page does not scroll", browser.script(SCROLLS), [0, 0, 0, 0])
+        verdict(f"the tabs are at the bottom at {width}", told["regions"]["bottom"], height)
+        verdict(f"and are large enough at {width}", told["regions"]["bottom"] - told["regions"]["top"] >= 44, True)
+    for region, panel in (("source", "texts"), ("debug", "side"), ("more", "dock"), ("board", "front")):
+        browser.click(f"#region-{region}")
+        verdict(f"{region} shows its panel alone", browser.script(PHONE_PANELS), panel)
+    browser.click("#region-debug")
+    verdict("RAM does not scroll sideways", browser.script("const box = document.getElementById('banks'); return box.scrollWidth - box.clientWidth"), 0)
+    browser.click("#region-board")
     for what in (".bulb", ".key", "#run"):
-        verdict(f"{what} is in view beside the text on a phone", browser.script(SEEN, what), True)
-    browser.script("scrollTo(0, 0)")
+        verdict(f"{what} is in view on a phone", browser.script(SEEN, what), True)
     stop_time(browser)
-    browser.script("scrollTo(0, 0)")
+    at_size(browser, 375, 420, True)
     box = browser.script("const box = document.querySelector('.key').getBoundingClientRect(); return [box.x + 20, box.y + 15]")
     swipe_up(browser, *box)
-    comes(browser, "a swipe that begins on a key scrolls the page", "return scrollY > 100", True)
+    comes(browser, "a swipe that begins on a key scrolls the front panel", "return document.getElementById('front').scrollTop > 50", True)
     comes(browser, "and presses nothing that stays down", DOWN_KEYS, 0)
     browser.command("Emulation.setTouchEmulationEnabled", enabled=False)
     browser.command("Emulation.clearDeviceMetricsOverride")

@@ -91,16 +91,25 @@ onmessage = async ({ data: { module, board, runs, cycles } }) => {
   serve(runs);
   postMessage((cycles / (performance.now() - begun)) * 1000);
 }`;
-const { board, program } = JSON.parse(document.getElementById("data").textContent).examples.find(({ name }) => name === "calculator");
-const module = Uint8Array.from(atob(document.getElementById("module").textContent), (letter) => letter.charCodeAt(0));
+const unpacked = (id) => {
+  const packed = Uint8Array.from(atob(document.getElementById(id).textContent), (letter) => letter.charCodeAt(0));
+  return new Response(new Blob([packed]).stream().pipeThrough(new DecompressionStream("deflate-raw")));
+};
+let module = null;
+let calculator = null;
 const worker = new Worker(URL.createObjectURL(new Blob([work], { type: "text/javascript" })));
 worker.onmessage = ({ data }) => { window.alone = data; };
 window.serveAlone = (begins) => {
+  const { board, program } = calculator;
   window.alone = 0;
   worker.postMessage({ ...(begins ? { module, board: `wire\\n${board}.\\nasm\\n${program}.\\n` } : {}),
     runs: "run 100000\\n".repeat(1000), cycles: 1e8 });
 };
-window.serveAlone(true);"""
+Promise.all([unpacked("module").arrayBuffer(), unpacked("data").json()]).then(([bytes, { examples }]) => {
+  module = bytes;
+  calculator = examples.find(({ name }) => name === "calculator");
+  window.serveAlone(true);
+});"""
 # Cycles a second of one long call of that module, which are in `alone` when it is done.
 MODULE_ALONE = "window.serveAlone(false)"
 

@@ -2,6 +2,7 @@
 
 import base64
 import re
+import zlib
 
 
 def part_of_page(text, name):
@@ -11,4 +12,6 @@ def part_of_page(text, name):
 
 def module_of_page(page):
     """The WebAssembly module."""
-    return base64.b64decode(part_of_page(page.read_text(), "module"))
+    kept = base64.b64decode(part_of_page(page.read_text(), "module"))
+    # In older pages it is not packed.
+    return kept if kept.startswith(b"\0asm") else zlib.decompress(kept, -15)

@@ -1,4 +1,4 @@
-"""What checks/page looks at where the source and the machine meet: lines, names and addresses, beside what tools/listing prints."""
+"""What checks/page looks at where the source and the machine meet: lines, names and addresses, beside what mcs4 listing prints."""
 
 import os
 import pathlib
@@ -88,11 +88,11 @@ MEANING = "return document.querySelector('#program-editor .meaning').textContent
 
 def listing_of(mcs4, *words):
     told = dict(os.environ, MCS4=str(mcs4))
-    return subprocess.run([TOP / "tools/listing", *words, PROGRAM], stdout=subprocess.PIPE, text=True, check=True, env=told).stdout
+    return subprocess.run([TOP / "mcs4", "listing", *words, PROGRAM], stdout=subprocess.PIPE, text=True, check=True, env=told).stdout
 
 
 def listed(mcs4):
-    """What tools/listing prints: by the addresses that they begin at, the numbers and texts of the source lines; and the names' values."""
+    """What mcs4 listing prints: by the addresses that they begin at, the numbers and texts of the source lines; and the names' values."""
     told = listing_of(mcs4).splitlines()
     # Further rows of a line have no text.
     rows = [row for row in told if row[17:] or not re.match("[0-9A-F]{3} ", row)]
@@ -130,11 +130,11 @@ def check_breakpoint_at_name(browser, source, values, lines):
     line = source[values["scan"]][0]
     comes(browser, "a breakpoint at a name stands in the source's margin", MARGIN, str(line))
     browser.click("#run")
-    comes(browser, "a run stops there", STATUS, f"Stopped at {values['scan']}, at a breakpoint.")
+    comes(browser, "a run stops there", STATUS, f"Paused at {values['scan']}, at a breakpoint.")
     call = next(number for number, text in enumerate(lines, 1) if "JMS scan" in text.expandtabs(1))
     comes(browser, "the counter and the return addresses by name", STACK, re.compile(
         rf"^\['pc {values['scan']} scan, line {line}', 'ret 1 {int(values['await'], 16) + 2:03X} await \+ 2, call in line {call}', "
-        r"'ret 2 ... left over', 'ret 3 ... left over'\]$"))
+        r"'ret 2 ... stale', 'ret 3 ... stale'\]$"))
     browser.click("#break-there")
     comes(browser, "the same button clears it", MARGIN, "")
 
@@ -145,7 +145,7 @@ def check_margin(browser, source, values):
     comes(browser, "a breakpoint by a click in the margin", MARGIN, str(show))
     browser.click("#reset")
     browser.click("#run")
-    comes(browser, "a run stops at that line", STATUS, f"Stopped at {values['show']}, at a breakpoint.")
+    comes(browser, "a run stops at that line", STATUS, f"Paused at {values['show']}, at a breakpoint.")
     browser.script(CLICK_MARGIN, show)
     comes(browser, "another click clears it", MARGIN, "")
     browser.script(CLICK_MARGIN, 1)
@@ -211,11 +211,13 @@ def check_go_to(browser):
 
 def check_names_in_lines(browser, values):
     verdict("a name in a line", lines_answered(browser, "list @scan 1"), re.compile(rf"^list 0x{values['scan']} 1{values['scan']} "))
+    show_text(browser, "console")
     browser.type_into("#lines", "break @nosuch" + ENTER)
     comes(browser, "one that the program lacks, in words", NOTICE, "@nosuch: the program has no such name.")
     verdict("and the line can be mended", browser.script("return document.getElementById('lines').value"), "break @nosuch")
     browser.script("document.getElementById('lines').value = ''")
     browser.click("#notice button")
+    show_text(browser, "disassembly")
 
 
 def put(browser, text):

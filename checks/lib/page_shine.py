@@ -56,7 +56,7 @@ def parts_seen(browser):
 
 def check_pulses(browser, speed):
     browser.script(SPEED, speed)
-    comes(browser, f"at {speed} speed lamps are as an eye sees them", TOLD, re.compile("as an eye sees it: over 30 ms"))
+    comes(browser, f"at {speed} speed lamps are as an eye sees them", TOLD, re.compile("averaged over 30 ms"))
     watched(browser, 500)
     watched(browser, 1500)
     seen = parts_seen(browser)
@@ -67,10 +67,10 @@ def check_pulses(browser, speed):
 
 def check_instant(browser):
     browser.click("#run")
-    comes(browser, "time stands still", STATUS, re.compile("^Stopped"))
+    comes(browser, "time stands still", STATUS, re.compile("^Paused"))
     marks = re.search(r"lamps ([.*]+)", lines_answered(browser, "lamps")).group(1)
     verdict("then lamps are as they are at this instant", browser.script(SHINES), [1 if mark == "*" else 0 for mark in marks])
-    verdict("and that is told", browser.script(TOLD), "Time is stopped: this is what is lit now.")
+    verdict("and that is told", browser.script(TOLD), "Paused: lamps show this instant.")
     browser.click("#run")
 
 
@@ -104,7 +104,7 @@ def check_clock(browser):
     comes(browser, "at full speed, too", DIGITS, re.compile(r"^(1[2-9]|[02][0-9])\.?[0-5][0-9]$"))
     browser.script(SPEED, "real")
     browser.click("#run")
-    comes(browser, "time stands still", STATUS, re.compile("^Stopped"))
+    comes(browser, "time stands still", STATUS, re.compile("^Paused"))
     digits = "return [...document.querySelectorAll('#glass svg')].filter((digit) => digit.querySelector('.lit')).length"
     verdict("at an instant at most one digit is lit", browser.script(digits) <= 1, True)
 
@@ -120,7 +120,7 @@ def check_pictures(browser):
     browser.keys(["n"], 100)
     comes(browser, "NEXT brings another picture", rows, "..****.. .*....*. *.*..*.* *......* *.*..*.* *..**..* .*....*. ..****..")
     browser.click("#run")
-    comes(browser, "time stands still", STATUS, re.compile("^Stopped"))
+    comes(browser, "time stands still", STATUS, re.compile("^Paused"))
     verdict("at an instant at most one row is lit", sum("*" in row for row in browser.script(rows).split()) <= 1, True)
 
 

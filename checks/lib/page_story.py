@@ -6,7 +6,7 @@ import re
 import time
 
 from page_editor import CARET, FAULTS, PROGRAM, SET_CARET, TOLD
-from page_in_browser import ENTER, ESCAPE, NOTICE, STATUS, STEPPED, TAB, TEXT_OF_EDITOR, focused, lines_answered, until_ready
+from page_in_browser import DOWN, ENTER, ESCAPE, NOTICE, STATUS, STEPPED, TAB, TEXT_OF_EDITOR, focused, lines_answered, until_ready
 from page_names import MARGIN, SOURCE_TOLD
 from page_texts import ASKED, NAME, PROGRAM_TEXT, TEXTS, kept_download
 from verdicts import comes, verdict
@@ -80,7 +80,7 @@ def check_program(browser):
     comes(browser, "mended, it has no fault", FAULTS.format(PROGRAM), "")
     browser.chord(CONTROL, ENTER)
     comes(browser, "and is assembled and run", TOLD.format(PROGRAM), "6 bytes assembled, the rest of ROM is 0. It runs from 000 on.")
-    comes(browser, "time runs", STATUS, re.compile("^Time runs"))
+    comes(browser, "time runs", STATUS, re.compile("^Running"))
     comes(browser, "the source is what is in ROM", SOURCE_TOLD, "")
 
 
@@ -102,13 +102,13 @@ def check_keys(browser):
 def check_stop(browser):
     """Stopped, with a breakpoint in the source, and stepped."""
     browser.keys([F8])
-    browser.until(STATUS, re.compile("^Stopped"))
+    browser.until(STATUS, re.compile("^Paused"))
     go_to_source(browser)
     browser.script(SET_CARET, PROGRAM, 3, 0)
     browser.keys([F9])
     comes(browser, "F9 sets a breakpoint", MARGIN, "4")
     browser.keys([F8])
-    comes(browser, "a run stops there", STATUS, re.compile("^Stopped at 002, at a breakpoint"))
+    comes(browser, "a run stops there", STATUS, re.compile("^Paused at 002, at a breakpoint"))
     browser.keys([F11])
     comes(browser, "F11 does one instruction", STATUS, STEPPED)
     verdict("the next one is WMP", browser.script(REGISTERS), re.compile("pc003"))
@@ -131,11 +131,18 @@ def check_loss(browser):
     comes(browser, "Control and Z bring the text back", PROGRAM_TEXT, mine)
 
 
+def save_by_keyboard(browser):
+    """By the menu of files: Enter opens it, the arrow goes on to Save, Enter saves."""
+    browser.script("document.getElementById('menu-button').focus()")
+    browser.keys([ENTER, DOWN])
+    verdict("the arrow comes to Save", browser.script("return document.activeElement.id"), "save-button")
+    browser.keys([ENTER])
+
+
 def check_file(browser, folder):
     """Saved, a wrong file refused, and opened again to the byte."""
     texts = browser.script(TEXTS)
-    browser.script("document.getElementById('save-button').focus()")
-    browser.keys([ENTER])
+    save_by_keyboard(browser)
     saved = kept_download(folder, "My first board.mcsp")
     whole = saved.read_bytes()
     saved.unlink()
@@ -151,8 +158,7 @@ def check_file(browser, folder):
     browser.script(DROP, "mine.mcsp", whole.decode())
     comes(browser, "the project is opened again", TEXTS, texts)
     comes(browser, "what was left for it can be come back to", NOTICE, re.compile('The session "My first board" is kept, as you left it'))
-    browser.script("document.getElementById('save-button').focus()")
-    browser.keys([ENTER])
+    save_by_keyboard(browser)
     verdict("and saved again it is the same, to the byte", kept_download(folder, "My first board.mcsp").read_bytes() == whole, True)
     browser.script("document.querySelector(\"#notice button[aria-label^='Back to it']\").focus()")
     browser.keys([ENTER])
@@ -168,7 +174,7 @@ def check_example(browser):
     comes(browser, "its breakpoint is there", MARGIN, re.compile(r"^\d+$"))
     comes(browser, "it shows a 9", LAMPS, "*..*")
     verdict("and its count has just become ten", browser.script(REGISTERS), re.compile("R5A"))
-    verdict("time stands still", browser.script("return document.getElementById('run').textContent"), "Run")
+    verdict("time stands still", browser.script("return document.getElementById('run').textContent"), "Continue")
     comes(browser, "no session is made before something is done", "return location.hash", "#example=a%20fault%20to%20find")
     source = browser.script(PROGRAM_TEXT)
     at = source.split("\n").index("        SUB R4")

@@ -49,7 +49,7 @@ def check_calculator(browser):
     height = browser.script(HEIGHT)
     press(browser, "12+30=")
     comes(browser, "what is keyed and what comes is printed", STRIP, "12+ 30= 42")
-    verdict("and shown", browser.script(DIGITS), "42")
+    comes(browser, "and shown", DIGITS, "42")
     browser.keys(["-", "5", "8", ENTER], 60, 120)
     comes(browser, "by the keyboard, too", STRIP, "12+ 30= 42 42- 58= -16")
     browser.reload()
@@ -75,12 +75,12 @@ def check_editing(browser):
 
 def check_back(browser):
     browser.click("#run")
-    comes(browser, "time stands still", STATUS, re.compile("^Stopped"))
+    comes(browser, "time stands still", STATUS, re.compile("^Paused"))
     browser.click("#run")
     press(browser, "C7=")
     comes(browser, "more is printed", STRIP, re.compile("-48 C 7= 7$"))
     browser.click("#run")
-    comes(browser, "time stands still again", STATUS, re.compile("^Stopped"))
+    comes(browser, "time stands still again", STATUS, re.compile("^Paused"))
     browser.click("#back-stop")
     comes(browser, "going back takes it back", STRIP, re.compile("-48$"))
     browser.click("#forward")

@@ -5,7 +5,8 @@ kept, and goes with a project."""
 import re
 import time
 
-from page_in_browser import PUT_INTO_EDITOR, STATUS, TEXT_OF_EDITOR, choose_example, lines_answered, open_anew, show_text, until_ready
+from page_in_browser import (PUT_INTO_EDITOR, STATUS, TEXT_OF_EDITOR, choose_example, lines_answered, of_file_menu, open_anew,
+                             show_text, until_ready)
 from page_texts import NAME, kept_download, rename
 from verdicts import comes, verdict
 
@@ -33,7 +34,7 @@ def check_passing(browser):
     comes(browser, "the tests of an example pass", TOLD, "All 2 tests passed.")
     verdict("each has its row", browser.script(RESULTS), ["ok the light goes", "ok each lamp is"])
     verdict("the tab says so", browser.script(MARK), "passed")
-    verdict("time stands still", browser.script(STATUS), re.compile("^Stopped"))
+    verdict("time stands still", browser.script(STATUS), re.compile("^Paused"))
     verdict("what was run is told", browser.text("#coverage-told"),
             "20 of 20 instructions were run (100.0 %), 6 of 6 ways of conditional jumps (100.0 %). The counts stand beside the source.")
     browser.click("#profile summary")
@@ -68,11 +69,12 @@ def check_faults(browser):
     browser.script(PUT_INTO_EDITOR, EDITOR, "test a\n  until lamps green within 10 ms\n  press x\n")
     show_text(browser, "tests")
     comes(browser, "faults are told while one types", FAULTS,
-          ["line 2: the board has no lamp green; it has: left middle right",
+          ["line 2: the board has no lamp green; it has: left middle right (column 9)",
            "line 3: the board has no key x; its text names no keys (`# row 0: NAME ..`)"])
     verdict("the tab tells how many", browser.script(MARK), "2 faults")
     browser.click(f"{EDITOR} .send")
-    comes(browser, "nothing is run then", TOLD, "Nothing was run: Tests, line 2: the board has no lamp green; it has: left middle right, and 1 more.")
+    comes(browser, "nothing is run then", TOLD,
+          "Nothing was run: Tests, line 2: the board has no lamp green; it has: left middle right (column 9), and 1 more.")
     browser.script(PUT_INTO_EDITOR, EDITOR, "")
     comes(browser, "a text to begin with is offered", "return isShown(document.getElementById('first-test'))", True)
     browser.click("#first-test")
@@ -97,7 +99,7 @@ def check_kept(browser, folder):
     show_text(browser, "tests")
     comes(browser, "the text is there after a reload", TEXT_OF_EDITOR.replace("arguments[0]", f"'{EDITOR}'"), "test mine\n  run 5")
     rename(browser, "with tests")
-    browser.click("#save-button")
+    of_file_menu(browser, "#save-button")
     saved = kept_download(folder, "with tests.mcsp").read_text()
     verdict("a project has it", "\nunended test\n" in saved and "\ntest\ntest mine\n  run 5\n.\n" in saved, True)
 

@@ -7,11 +7,19 @@ import subprocess
 import time
 import zlib
 
-from page_in_browser import NOTICE, STATUS, choose_example, lines_answered, open_anew, show_text, stop_time, told_of, until_ready
+from page_in_browser import (ALL_NOTICES, NOTICE, STATUS, choose_example, lines_answered, of_file_menu, open_anew, show_text,
+                             stop_time, told_of, until_ready)
 from verdicts import comes, verdict
 
 TOP = pathlib.Path(__file__).resolve().parent.parent.parent
 NAME = "return document.getElementById('name').value"
+WATCHED = "return [...document.querySelectorAll('#watched-list li')].map((row) => row.title)"
+ENTER = "\ue007"
+# Whether the page has taken Control and S from the browser.
+CONTROL_S = """
+const event = new KeyboardEvent("keydown", { key: "s", ctrlKey: true, bubbles: true, cancelable: true });
+document.body.dispatchEvent(event);
+return event.defaultPrevented"""
 TEXTS = "return ['board', 'program'].map((name) => document.querySelector(`#${name}-editor .cm-editor`).lineEditor.getValue())"
 PROGRAM_TEXT = "return document.querySelector('#program-editor .cm-editor').lineEditor.getValue()"
 LINES = "return document.getElementById('lines').value"
@@ -43,8 +51,9 @@ def check_project(browser, folder):
     """A project is saved and opened again, to the byte."""
     told_of(browser, "#board-editor", BOARD)
     told_of(browser, "#program-editor", PROGRAM)
+    browser.type_into("#watched-field", "count = R5" + ENTER)
     rename(browser, "my light")
-    browser.click("#save-button")
+    of_file_menu(browser, "#save-button")
     saved = kept_download(folder, "my light.mcsp")
     before = saved.read_bytes()
     verdict("a project is a text with both texts in it", BOARD in before.decode() and PROGRAM in before.decode(), True)
@@ -56,7 +65,8 @@ def check_project(browser, folder):
     browser.type_into("#file", str(project))
     comes(browser, "a project is opened", NAME, "my light")
     verdict("with its texts", browser.script(TEXTS), [BOARD, PROGRAM])
-    browser.click("#save-button")
+    verdict("and its values", browser.script(WATCHED), ["count = R5"])
+    verdict("Control and S are the page's", browser.script(CONTROL_S), True)
     verdict("and saved again it is the same, to the byte", kept_download(folder, "my light.mcsp").read_bytes() == before, True)
     return project
 
@@ -99,6 +109,10 @@ def check_undo(browser):
     browser.click(UNDO)
     comes(browser, "the undoing can be undone, too", PROGRAM_TEXT, of_rom)
     browser.click(UNDO)
+    browser.until(PROGRAM_TEXT, mine)
+    browser.script("document.querySelector('#program-editor .cm-editor').lineEditor.undo()")
+    verdict("after Undo, as after Ctrl Z, another Ctrl Z undoes what was before", browser.script(PROGRAM_TEXT) in (mine, of_rom), False)
+    browser.script("document.querySelector('#program-editor .cm-editor').lineEditor.undoOrRedo('redo')")
     browser.until(PROGRAM_TEXT, mine)
     browser.click("#notice .dismiss")
     time.sleep(1)
@@ -178,6 +192,24 @@ def check_notices(browser, folder):
     browser.until(STATUS, re.compile("at a breakpoint"))
     browser.click("#reset")
     comes(browser, "the status after a reset", STATUS, "The board was reset; it is at 000.")
+    check_many_notices(browser, folder)
+
+
+def check_many_notices(browser, folder):
+    """Each file makes one notice, of which the newest three are seen; they leave by themselves, and can be read and undone in the list."""
+    words = [f"{number}.asm is in Source. Assemble and run puts it into ROM." for number in range(4)]
+    for number in range(4):
+        text = folder / f"{number}.asm"
+        text.write_text(f" LDM {number}\n")
+        browser.type_into("#file", str(text))
+        browser.until(PROGRAM_TEXT, f" LDM {number}\n")
+    comes(browser, "the newest three notices are seen", NOTICE, " ".join(reversed(words[1:])))
+    comes(browser, "what went well leaves by itself", NOTICE, "", 30)
+    verdict("each notice can be read again", browser.script(ALL_NOTICES)[:4], words[::-1])
+    browser.click("#notices-button")
+    browser.click("#notices li:nth-child(2) button")
+    comes(browser, "and undone in the list", PROGRAM_TEXT, " LDM 1\n")
+    comes(browser, "which has a notice, too", NOTICE, "The source is back as it was.")
 
 
 def open_link(browser, page, link):
@@ -220,6 +252,11 @@ def check_link(browser, page):
     until_ready(browser)
     verdict("which is kept", count_kept(browser), kept + 1)
     browser.click("#close-sessions")
+    open_link(browser, page, f"{link}%20")
+    comes(browser, "a blank behind a link is passed over", ASKED, re.compile("my light"))
+    browser.click("#ask .bar button:last-child")
+    open_link(browser, page, "lnk=1")
+    comes(browser, "an address that names nothing says so", NOTICE, re.compile("^The address ends with #lnk=1, which names nothing here"))
     for what, made in (("a cut link", link[:-9]), ("a link that is made by hand", "link=1.aGVsbG8"), ("another one", "link=hello")):
         before = browser.script(TEXTS)
         open_link(browser, page, made)
@@ -285,7 +322,7 @@ document.body.dispatchEvent(new DragEvent("drop", { dataTransfer: data, bubbles:
 
 def saved_as(browser, folder, ending):
     """A file of the dialog Export."""
-    browser.click("#export-button")
+    of_file_menu(browser, "#export-button")
     number = [".asm", ".toml", ".hex", ".bin"].index(ending) + 1
     browser.click(f"#export li:nth-child({number}) button")
     saved = kept_download(folder, f"my light{ending}")
@@ -302,15 +339,20 @@ def asked_of_bench(mcs4, session, lines):
 
 
 def check_files(browser, folder, mcs4):
-    """Programs, boards, lines and images of ROM are opened and saved, as tools/rom reads and writes them."""
+    """Programs, boards, lines and images of ROM are opened and saved, as `mcs4 rom` reads and writes them."""
     example = TOP / "examples/three_lamps"
     for name in ("board.toml", "three_lamps.asm"):
         browser.type_into("#file", str(example / name))
         comes(browser, f"{name} is opened", NOTICE, re.compile(f"^{name} is in (Board|Source)"))
+    prose = folder / "notes"
+    prose.write_text("hello there\nthis is no program\n")
+    browser.type_into("#file", str(prose))
+    comes(browser, "a text with an error in each line is asked for", ASKED, "Replace the source by notes?")
+    browser.click("#ask .bar button:last-child")
     comes(browser, "their texts are in the editors", TEXTS, [(example / "board.toml").read_text(), (example / "three_lamps.asm").read_text()])
     browser.click("#board-tab")
     browser.click("#board-editor .send")
-    browser.until("return document.querySelector('#board-editor .told').textContent", "The board is wired.")
+    browser.until("return document.querySelector('#board-editor .told').textContent", "Board applied.")
     browser.click("#program-tab")
     browser.click("#assemble-only")
     browser.until("return document.querySelector('#program-editor .told').textContent", re.compile("assembled"))
@@ -318,14 +360,14 @@ def check_files(browser, folder, mcs4):
     verdict("the source is exported", saved_as(browser, folder, ".asm"), (example / "three_lamps.asm").read_bytes())
     verdict("and the board", saved_as(browser, folder, ".toml"), (example / "board.toml").read_bytes())
     image = saved_as(browser, folder, ".bin")
-    browser.click("#save-session-button")
+    of_file_menu(browser, "#save-session-button")
     session = kept_download(folder, "my light.mcs")
-    rom, size = TOP / "tools/rom", str(len(image))
-    questions = subprocess.run([rom, "ask", "0", size], stdout=subprocess.PIPE, check=True, text=True).stdout
+    rom, size = [TOP / "mcs4", "rom"], str(len(image))
+    questions = subprocess.run([*rom, "ask", "0", size], stdout=subprocess.PIPE, check=True, text=True).stdout
     answers = asked_of_bench(mcs4, session, questions)
     for words, ending, expected in ((["save"], ".bin", image), (["save", "--hex"], ".hex", None)):
-        told = subprocess.run([rom, *words, "0", size], input=answers.encode(), stdout=subprocess.PIPE, check=True).stdout
-        verdict(f"ROM is exported as {ending} as tools/rom has it", expected or saved_as(browser, folder, ending), told)
+        told = subprocess.run([*rom, *words, "0", size], input=answers.encode(), stdout=subprocess.PIPE, check=True).stdout
+        verdict(f"ROM is exported as {ending} as mcs4 rom has it", expected or saved_as(browser, folder, ending), told)
     check_image(browser, folder, image)
 
 
@@ -344,13 +386,13 @@ def check_image(browser, folder, image):
 
 
 def check_tool(folder, project):
-    """tools/project takes a project of the page apart, and puts it together to the byte."""
-    tool = TOP / "tools/project"
+    """`mcs4 project` takes a project of the page apart, and puts it together to the byte."""
+    tool = [TOP / "mcs4", "project"]
     parts, again = folder / "parts", folder / "again.mcsp"
-    subprocess.run([tool, "split", project, parts], check=True)
+    subprocess.run([*tool, "split", project, parts], check=True)
     verdict("the tool finds the board's text", (parts / "board.toml").read_text(), BOARD)
     verdict("and the source", (parts / "program.asm").read_text(), PROGRAM)
-    subprocess.run([tool, "join", parts, again], check=True)
+    subprocess.run([*tool, "join", parts, again], check=True)
     verdict("and puts the project together to the byte", again.read_bytes() == project.read_bytes(), True)
 
 

@@ -1,5 +1,5 @@
 """What checks/page looks at in the browser of time: cycles, steps over and out and to goals, back and forward, slow motion. What the page
-says is compared with what the program, tools/trace and tools/cycles say of the same session."""
+says is compared with what the program, mcs4 trace and mcs4 cycles say of the same session."""
 
 import os
 import pathlib
@@ -40,7 +40,7 @@ class Program:
         self.env = dict(os.environ, MCS4=str(mcs4))
 
     def tool(self, name, *words, lines=""):
-        tool = [TOP / "tools" / name, *map(str, words)]
+        tool = [TOP / "mcs4", name, *map(str, words)]
         return subprocess.run(tool, input=lines, stdout=subprocess.PIPE, text=True, check=True, env=self.env).stdout
 
     def session(self, name, lines):
@@ -50,7 +50,7 @@ class Program:
         return file, subprocess.run([self.mcs4, "new", file], input=lines, stdout=subprocess.PIPE, text=True, check=True).stdout
 
     def cycles(self, answers):
-        """The cycles of the last run among answers, by tools/cycles."""
+        """The cycles of the last run among answers, by mcs4 cycles."""
         line = len(answers.splitlines())
         return int(self.tool("cycles", line, line, lines=answers).split(" ")[0])
 
@@ -80,14 +80,14 @@ def counted(cycles):
 
 def stand(browser):
     """Stops the time that runs."""
-    if browser.script("return document.getElementById('run').textContent") == "Stop":
+    if browser.script("return document.getElementById('run').textContent") == "Pause":
         stop_time(browser)
 
 
 def at_rest(browser, name):
     """A new session of an example that stands still, after a reset."""
     choose_example(browser, name)
-    browser.until("return document.getElementById('run').textContent", "Stop", 3)
+    browser.until("return document.getElementById('run').textContent", "Pause", 3)
     stand(browser)
     lines_answered(browser, "reset")
     browser.until(SINCE_RESET, "0 cycles, 0.000 ms")
@@ -133,7 +133,7 @@ const next = document.querySelector("#lines-of-program .next");
 const row = next.nextElementSibling;
 row.dispatchEvent(new MouseEvent("click", { ctrlKey: true, bubbles: true, cancelable: true }));
 return row.textContent.match(/[0-9A-F]{3}/)[0]""")
-    comes(browser, "Control and a click run to a line", STATUS, re.compile(f"^Stopped at {address}, as wanted, after [0-9,]+ cycles?, "))
+    comes(browser, "Control and a click run to a line", STATUS, re.compile(f"^Paused at {address}, as wanted, after [0-9,]+ cycles?, "))
     verdict("it has no breakpoint", browser.script("return document.querySelectorAll('#lines-of-program [aria-pressed=true]').length"), 0)
 
 
@@ -144,11 +144,11 @@ def check_run_to_source(browser):
 const editor = document.querySelector("#program-editor .cm-editor").lineEditor;
 editor.setCursor({ line: editor.getValue().split("\\n").findIndex((line) => line.startsWith("turn:")), ch: 0 });
 editor.getInputField().dispatchEvent(new KeyboardEvent("keydown", { key: "F10", ctrlKey: true, bubbles: true, cancelable: true }))""")
-    comes(browser, "Control and F10 in the source run to the label turn", STATUS, re.compile("^Stopped at 016, as wanted, after 11 cycles, "))
+    comes(browser, "Control and F10 in the source run to the label turn", STATUS, re.compile("^Paused at 016, as wanted, after 11 cycles, "))
     lines_answered(browser, "reset")
     browser.script(CHANGE, "#change-place", "right")
     browser.click("#until-change")
-    comes(browser, "to a change of a lamp by its name", STATUS, "Stopped at 007, after lamp 2 changed, after 7 cycles, 0.076 ms.")
+    comes(browser, "to a change of a lamp by its name", STATUS, "Paused at 007, after lamp 2 changed, after 7 cycles, 0.076 ms.")
 
 
 def check_many(browser, program):
@@ -181,6 +181,9 @@ def check_far(browser):
     browser.script(CHANGE, "#change-place", "r2")
     browser.click("#back-change")
     comes(browser, "back to the last change in it", STATUS, re.compile("^Back at .*: this instruction changes r2 from F to 0"), 60)
+    browser.script(CHANGE, "#change-place", "R2 == 0xF")
+    browser.click("#back-change")
+    comes(browser, "back to where a condition became true", STATUS, re.compile("^Back at .*: this instruction makes R2 == 0xF true"), 60)
     browser.script(CHANGE, "#change-place", "ram0.0")
     browser.click("#until-change")
     comes(browser, "what the board lacks", STATUS, "Nothing was done: this board has no ram0.0.")
@@ -209,7 +212,7 @@ def check_stopwatch(browser):
     comes(browser, "a line that the board lacks", STATUS, "Nothing was done: this board has no chain2.0.")
     browser.script(CHANGE, "#change-place", "r99")
     browser.click("#back-change")
-    comes(browser, "a name that is none", STATUS, re.compile("^Nothing was done: give a place whose change is wanted: acc, cy"))
+    comes(browser, "a name that is none", STATUS, "Nothing was done: r99: no such place; the registers are r0 to r15 (column 1).")
 
 
 def check_back(browser):
@@ -256,23 +259,23 @@ def check_back(browser):
 def check_never(browser):
     """A goal that never comes is time that runs: Stop and F8 end it, a reload too, and no more than runs is left of it."""
     choose_example(browser, "empty bench")
-    lines_answered(browser, 'wire\n[[rom]]\nchip = 0\nport = "0000"\n.\nasm\nround: JUN round\n.')
+    lines_answered(browser, 'wire\n[[rom]]\nchip = 0\nport = "0000"\n.\nasm\nJMS round\nround: JUN round\n.\nstep')
     for what, stop in {"F8": lambda: browser.script(PRESS, "F8", False), "Stop": lambda: browser.click("#run")}.items():
         browser.click("#out")
-        comes(browser, f"what never comes is time that runs, before {what}", STATUS, "Time runs, up to the return from the subroutine.")
+        comes(browser, f"what never comes is time that runs, before {what}", STATUS, "Running to the return from the subroutine.")
         browser.until(RATE, re.compile("^[0-9,]+ cycles"))
         stop()
         comes(browser, f"{what} ends it", STATUS,
-              re.compile("^Stopped at 000, after [0-9,]+ cycles, .*; the return from the subroutine was not reached.$"))
+              re.compile("^Paused at 002, after [0-9,]+ cycles, .*; the return from the subroutine was not reached.$"))
     browser.click("#out")
-    browser.until(STATUS, re.compile("^Time runs, up to"))
+    browser.until(STATUS, re.compile("^Running to"))
     browser.reload()
     until_ready(browser)
-    comes(browser, "a reload ends it, which is told", STATUS, re.compile("^Stopped at 000: the return from the subroutine was not reached, as "
+    comes(browser, "a reload ends it, which is told", STATUS, re.compile("^Paused at 002: the return from the subroutine was not reached, as "
                                                                          "the page was loaded again"))
     browser.click("#back-stop")
     # How many cycles passed before the session was kept for the last time depends on the browser.
-    comes(browser, "and nothing is lost", STATUS, re.compile("^Back at the stop at 000"))
+    comes(browser, "and nothing is lost", STATUS, re.compile("^Back at the stop at 002"))
     verdict("no breakpoint and no watch is left", state(browser)[-len("breaksbreaks -watcheswatches -"):], "breaksbreaks -watcheswatches -")
 
 
@@ -302,7 +305,7 @@ def check_waiting(browser):
     browser.until("return document.querySelectorAll('#keys button').length", 2)
     lines_answered(browser, f"{WAITS}\nrun 8")
     browser.script(PRESS, "F10", False)
-    comes(browser, "Over a subroutine that waits for a key is time that runs", STATUS, "Time runs, up to the return from the subroutine.")
+    comes(browser, "Over a subroutine that waits for a key is time that runs", STATUS, "Running to the return from the subroutine.")
     browser.until(RATE, re.compile("^9[0-4],"))
     browser.fingers([key("right")], 60)
     comes(browser, "it returns once the key is pressed", STATUS, re.compile("^Returned to 00A, after [0-9,]+ cycles, "))

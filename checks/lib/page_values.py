@@ -55,10 +55,13 @@ def pointed(browser, line, word, told, wanted):
 
 def begin(browser):
     """The program ran; it stands behind RDM: R5 is 1, the character that it writes is 7."""
+    browser.script("document.getElementById('change-place').value = 'nonsense'")
     choose_example(browser, "empty bench")
+    verdict("what was typed in another session is gone", browser.script("return document.getElementById('change-place').value"), "lamps")
     told_of(browser, "#board-editor", BOARD)
+    comes(browser, "a board without a title is called so", "return document.getElementById('name').value", "my board")
     told_of(browser, "#program-editor", PROGRAM)
-    browser.until(STATUS, re.compile("^Time runs"))
+    comes(browser, "the status says what runs, and what stops it", STATUS, 'Running "my board". F5 pauses it.')
     pointed(browser, line_of("INC R5"), "R5", MEANING, "R5: the lower half of P2.")
     comes(browser, "while time runs a register has no value", MEANING, "R5: the lower half of P2.")
     stop_time(browser)
@@ -112,12 +115,17 @@ def check_lines(browser):
 def check_watched(browser):
     """Values with names of one's own: what cannot be read is told, the others are shown, and kept with the session."""
     browser.type_into("#watched-field", "count = R16" + ENTER)
-    comes(browser, "what is nothing to watch is told", "return document.querySelector('#watched-told').textContent", re.compile("^R16 is nothing"))
+    comes(browser, "what is nothing to watch is told", "return document.querySelector('#watched-told').textContent",
+          "R16: no such place; the registers are r0 to r15 (column 9)")
     browser.script("document.querySelector('#watched-field').value = ''")
     browser.type_into("#watched-field", "digit = ram 0 0x12" + ENTER)
     comes(browser, "a value with a name", WATCHED, ["digit 7"])
     lines_answered(browser, "poke ram.0.0x12 9")
     comes(browser, "it is what the bench has", WATCHED, ["digit 9"])
+    browser.type_into("#watched-field", "next = digit + 1" + ENTER)
+    comes(browser, "an expression with the name of another one", WATCHED, ["digit 9", "next 10 (0xA)"])
+    browser.type_into("#watched-field", "digit >= 9 and not digit = 8" + ENTER)
+    comes(browser, "a condition", WATCHED, ["digit 9", "next 10 (0xA)", "digit >= 9 and not digit = 8 true"])
     lines_answered(browser, "poke ram.0.0x12 7")
 
 
@@ -127,7 +135,7 @@ FOCUS = "document.activeElement.blur(); document.querySelector(arguments[0]).foc
 
 def check_last_change(browser):
     """A cell tells when it changed last, and by what: where going back to its change leads."""
-    if browser.script("return document.getElementById('run').textContent") == "Stop":
+    if browser.script("return document.getElementById('run').textContent") == "Pause":
         stop_time(browser)
     lines_answered(browser, "run 100\npoke ram.0.0x13 5\nrun 7")
     browser.script(FOCUS, ".ram button[title$='SRC byte 13']")

@@ -1,4 +1,4 @@
-"""Waves, in the browser: what is recorded and saved is what tools/wave writes of the same session, and what the cursors measure is what the
+"""Waves, in the browser: what is recorded and saved is what mcs4 wave writes of the same session, and what the cursors measure is what the
 examples say of themselves."""
 
 import base64
@@ -8,7 +8,7 @@ import re
 import subprocess
 import time
 
-from page_in_browser import NOTICE, STATUS, choose_example, lines_answered, show_text, stop_time, until_ready
+from page_in_browser import NOTICE, STATUS, choose_example, lines_answered, of_file_menu, show_text, stop_time, until_ready
 from picture import write_picture
 from verdicts import comes, verdict
 
@@ -25,7 +25,8 @@ CHOOSE = """
 document.getElementById("wave-choice").open = true;
 document.getElementById("wave-choice").dispatchEvent(new Event("toggle"));
 document.getElementById("waves-none").click();
-for (const box of document.querySelectorAll("#wave-boxes input")) if (arguments[0].includes(box.name)) box.click();"""
+for (const box of document.querySelectorAll("#wave-boxes input")) if (arguments[0].includes(box.name)) box.click();
+document.getElementById("wave-choice").open = false;"""
 FOCUS = "document.getElementById('wave-canvas').focus({ preventScroll: true })"
 # The colours that the canvas has, apart from what is clear.
 PAINTED = """
@@ -47,6 +48,7 @@ def record(browser, cycles, where="after"):
 
 def look_for(browser, words):
     """Looks for lines by words."""
+    browser.script("document.getElementById('wave-choice').open = true")
     browser.script("const f = document.getElementById('signal-search'); f.value = arguments[0]; f.dispatchEvent(new Event('input'))", words)
 
 
@@ -54,7 +56,13 @@ def saved(browser, folder, selector, name):
     """The bytes of a file that a button saves."""
     file = folder / "downloads" / name
     file.unlink(missing_ok=True)
-    browser.click(selector)
+    if selector == "#save-session-button":
+        of_file_menu(browser, selector)
+    elif selector.startswith("#save-"):
+        browser.click("#wave-files summary")
+        browser.click(selector)
+    else:
+        browser.click(selector)
     end = time.monotonic() + 20
     # Some browsers make an empty file first.
     while not (file.exists() and file.stat().st_size > 0) and time.monotonic() < end:
@@ -65,7 +73,7 @@ def saved(browser, folder, selector, name):
 
 def wave(mcs4, *words):
     told = dict(os.environ, MCS4=str(mcs4))
-    return subprocess.run([TOP / "tools/wave", *words], stdout=subprocess.PIPE, check=True, env=told).stdout
+    return subprocess.run([TOP / "mcs4", "wave", *words], stdout=subprocess.PIPE, check=True, env=told).stdout
 
 
 def check_stopwatch(browser):
@@ -73,7 +81,7 @@ def check_stopwatch(browser):
     choose_example(browser, "stopwatch")
     lines_answered(browser, "test 0")
     verdict("a recording", record(browser, 30000), "30,000 cycles recorded, 324,000.0 microseconds.")
-    verdict("time stands still then", browser.text("#run"), "Run")
+    verdict("time stands still then", browser.text("#run"), "Continue")
     browser.script(CHOOSE, ["lamp15"])
     comes(browser, "the lamp of the last digit", NAMES, "lamp15")
     browser.script(FOCUS)
@@ -124,7 +132,7 @@ def check_click(browser):
 
 
 def check_file(browser, folder, mcs4):
-    """The saved recording is, to the byte, what tools/wave writes of the saved session."""
+    """The saved recording is, to the byte, what mcs4 wave writes of the saved session."""
     choose_example(browser, "calculator")
     stop_time(browser)
     session = folder / "waves.mcs"
@@ -146,7 +154,7 @@ def check_file(browser, folder, mcs4):
     verdict("values can be chosen", values <= set(names), True)
     verdict("all lines can be chosen", {"rom1.3", "ram0.0.3", "chain1.39", "lamp.minus", "lamp42", "key.CE", "key3.3", "test"} <= set(names), True)
     written = saved(browser, folder, "#save-waves", "calculator.vcd")
-    verdict("the file has what tools/wave writes", written == wave(mcs4, "--board", board, "--names", program, session, "3000", *names), True)
+    verdict("the file has what mcs4 wave writes", written == wave(mcs4, "--board", board, "--names", program, session, "3000", *names), True)
     chosen = ["rom0.0", "chain0.4", "key.CE", "rom0[3:0]", "p2", "pc"]
     browser.script(CHOOSE, chosen)
     written = saved(browser, folder, "#save-waves", "calculator.vcd")
@@ -175,7 +183,7 @@ COUNT = "return document.getElementById('scope-count').textContent"
 
 
 def check_live(browser, folder, mcs4):
-    """While time runs it is recorded, keys work, and what was recorded is what tools/wave writes of the session from where it began."""
+    """While time runs it is recorded, keys work, and what was recorded is what mcs4 wave writes of the session from where it began."""
     choose_example(browser, "calculator")
     stop_time(browser)
     session = folder / "live.mcs"
@@ -185,12 +193,12 @@ def check_live(browser, folder, mcs4):
     browser.click("#run")
     comes(browser, "it records", TOLD, "It records.")
     comes(browser, "and counts what it has", COUNT, re.compile(r"^[0-9,]{4,} cycles, [0-9,.]+ microseconds$"))
-    comes(browser, "time runs on", STATUS, "Time runs.")
+    comes(browser, "time runs on", STATUS, re.compile("^Running \""))
     comes(browser, "the tab says so", "return document.getElementById('waves-tab').textContent", "Wavesrecords")
     browser.click("#keys button")
     comes(browser, "keys work", "return document.getElementById('digits').textContent", re.compile("7"))
     browser.click("#run")
-    comes(browser, "so does Stop", STATUS, re.compile("^Stopped"))
+    comes(browser, "so does Stop", STATUS, re.compile("^Paused"))
     browser.click("#record")
     told = browser.until(TOLD, re.compile(r"^Recorded: ([0-9,]+) cycles, .*\. It was stopped\.$"))
     count = re.match(r"Recorded: ([0-9,]+) ", told)[1].replace(",", "")
@@ -206,7 +214,7 @@ def check_live(browser, folder, mcs4):
     written = saved(browser, folder, "#save-waves", "calculator.vcd")
     board = TOP / "examples/calculator/board.toml"
     begun = wave(mcs4, "--board", board, session, count, *names)
-    verdict("the file of what was recorded live is that of tools/wave, up to the key",
+    verdict("the file of what was recorded live is that of mcs4 wave, up to the key",
             difference([each for each in changes_after(written, 0) if each[0] <= down],
                        [each for each in changes_after(begun, 0) if each[0] <= down]), "")
     lines = f"run {down}\npress 0 0\nrun {up - down}\nrelease 0 0\n" if down <= 100000 else ""
@@ -250,7 +258,7 @@ def check_triggers(browser):
     verdict("it waits for its trigger", record(browser, 3000, "live"), "It records as soon as time runs. It waits for lamp15 rises.")
     browser.click("#run")
     told = browser.until(TOLD, re.compile(r"^Recorded: [0-9,]+ cycles, .*\. The trigger came at cycle [0-9,]+\.$"))
-    comes(browser, "time stops with it", STATUS, re.compile(r"^Stopped at .*, where the waves after the trigger are recorded\.$"))
+    comes(browser, "time stops with it", STATUS, re.compile(r"^Paused at .*, where the waves after the trigger are recorded\.$"))
     browser.script(CHOOSE, ["lamp15"])
     at = re.search(r"at cycle ([0-9,]+)", told)[1]
     comes(browser, "the cursor stands at the trigger", FIRST, re.compile(f"^A: cycle {at}, "))
@@ -302,10 +310,104 @@ def check_search(browser):
     comes(browser, "what does not come is told", found, "lamp0 = 1: not after cycle 30,000 of this recording.")
 
 
+# The middle of the first row, so many pixels from its left.
+PLACE = """
+const { left, top } = document.getElementById("wave-canvas").getBoundingClientRect();
+return [Math.round(left + arguments[0]), Math.round(top + 26 * (1.5 + arguments[1]))]"""
+MEASURED = "const told = document.getElementById('wave-measure'); return told.hidden ? '' : told.textContent"
+
+
+def at(browser, x, row, *more, kind="mouse"):
+    """The pointer comes to a row, and does something there."""
+    place = dict(zip(("x", "y"), browser.script(PLACE, x, row)))
+    browser.actions({"type": "pointer", "id": f"waves-{kind}", "parameters": {"pointerType": kind},
+                     "actions": [{"type": "pointerMove", "duration": 0, **place}, *more]})
+
+
+CLICK = ({"type": "pointerDown", "button": 0}, {"type": "pointerUp", "button": 0})
+
+
+def cycles_between(browser, one, other):
+    """The cycles between two places of the picture, by its cursors."""
+    browser.script(FOCUS)
+    for key, x in (("a", one), ("b", other)):
+        browser.keys([key], 1, 1)
+        at(browser, x, -1, *CLICK)
+    time.sleep(0.1)
+    return int(re.search("A to B: ([0-9,]+)", browser.script(BETWEEN))[1].replace(",", ""))
+
+
+def turn(browser, x, row, down, across=0):
+    x, y = browser.script(PLACE, x, row)
+    browser.actions({"type": "wheel", "id": "wheel", "actions": [
+        {"type": "scroll", "x": x, "y": y, "deltaX": across, "deltaY": down, "duration": 0, "origin": "viewport"}]})
+
+
+def check_pointer(browser):
+    """What is measured under the pointer; the wheel zooms there; rows are dragged, named, grouped and coloured, which is kept."""
+    choose_example(browser, "stopwatch")
+    lines_answered(browser, "test 0")
+    record(browser, 5000)
+    browser.script(CHOOSE, ["lamp13", "lamp14", "lamp15"])
+    comes(browser, "three rows", NAMES, "lamp13 lamp14 lamp15")
+    width = browser.script("return document.getElementById('wave-canvas').clientWidth")
+    at(browser, 150 + (width - 150) * 0.5, 2)
+    comes(browser, "what is under the pointer is measured", MEASURED,
+          re.compile(r"^[01] for 926 cycles, 10\.001 ms; period 1,852 cycles, 20\.002 ms, 50\.00 Hz$"))
+    at(browser, 40, 2)
+    comes(browser, "at the names nothing is", MEASURED, "")
+    before = cycles_between(browser, 250, 350)
+    turn(browser, 250, 2, -100)
+    now = cycles_between(browser, 250, 350)
+    verdict("the wheel zooms in", 1.2 < before / now < 1.3, True)
+    turn(browser, 250, 2, 100)
+    verdict("and out", abs(cycles_between(browser, 250, 350) - before) < 2, True)
+    turn(browser, 250, 2, -100)
+    browser.click("#zoom-all")
+    verdict("Fit shows all again", abs(cycles_between(browser, 250, 350) - before) < 2, True)
+    there = dict(zip(("x", "y"), browser.script(PLACE, 40, 0)))
+    at(browser, 40, 2, {"type": "pointerDown", "button": 0}, {"type": "pointerMove", "duration": 50, **there}, {"type": "pointerUp", "button": 0})
+    comes(browser, "a row is dragged by its name", NAMES, "lamp15 lamp13 lamp14")
+    at(browser, 40, 1, {"type": "pointerDown", "button": 2}, {"type": "pointerUp", "button": 2})
+    comes(browser, "a row has a menu", "return document.activeElement.textContent", "Rename")
+    browser.keys([ENTER])
+    browser.keys([*"tens", ENTER])
+    comes(browser, "by which it is named", NAMES, "lamp15 tens lamp14")
+    browser.chord("\ue00a", DOWN)
+    comes(browser, "Alt and an arrow move the row that is marked", NAMES, "lamp15 lamp14 tens")
+    at(browser, 40, 0, {"type": "pointerDown", "button": 2}, {"type": "pointerUp", "button": 2})
+    browser.until("return document.activeElement.textContent", "Rename")
+    browser.keys([DOWN, ENTER])
+    browser.keys([*"digit", ENTER])
+    comes(browser, "a group has a row of its own", SPOKEN, re.compile("^lamp15 is "))
+    browser.keys(["\ue013"])
+    comes(browser, "its heading", SPOKEN, re.compile("^group digit, cycle "))
+    browser.keys([ENTER])
+    comes(browser, "Enter folds it", NAMES, "lamp14 tens")
+    browser.keys([ENTER])
+    comes(browser, "and unfolds it", NAMES, "lamp15 lamp14 tens")
+    time.sleep(1)
+    browser.reload()
+    until_ready(browser)
+    record(browser, 5000)
+    browser.script(CHOOSE, ["lamp13", "lamp14", "lamp15"])
+    comes(browser, "a reload keeps how rows are arranged", NAMES, "lamp15 lamp14 tens")
+
+
+def check_pictures(browser, folder):
+    """The picture as a file, as pixels and as lines."""
+    text = saved(browser, folder, "#save-svg", "stopwatch.svg").decode()
+    verdict("a picture that can be scaled has the names", [name in text for name in ("digit", "lamp15", "tens")], [True] * 3)
+    data = saved(browser, folder, "#save-png", "stopwatch.png")
+    verdict("a picture of pixels is one", data[:8], b"\x89PNG\r\n\x1a\n")
+    verdict("all rows high, two pixels for one", int.from_bytes(data[20:24], "big"), 2 * 26 * 5)
+
+
 def check_refusals(browser):
     for words in ("0", "10000001", "many", ""):
         verdict(f"{words or 'nothing'} cycles are refused", record(browser, words), "How many cycles? A number from 1 to 10,000,000.")
     browser.script("document.getElementById('waves-none').click()")
+    browser.click("#wave-files summary")
     browser.click("#save-waves")
     comes(browser, "a file of no line is refused", TOLD, "No line is chosen: choose the lines for the file.")
     browser.script("document.getElementById('record-cycles').value = '10000000'; document.getElementById('scope-told').firstChild.data = ''")
@@ -332,13 +434,15 @@ def check(browser, page, folder, mcs4):
     check_live(browser, folder, mcs4)
     check_triggers(browser)
     check_search(browser)
+    check_pointer(browser)
+    check_pictures(browser, folder)
     check_refusals(browser)
     show_text(browser, "program")
 
 
 def take_picture(browser, page, path):
     """The stopwatch, with a hundredth of a second between the cursors."""
-    browser.command("Emulation.setDeviceMetricsOverride", width=1000, height=900, deviceScaleFactor=1, mobile=False)
+    browser.command("Emulation.setDeviceMetricsOverride", width=1440, height=900, deviceScaleFactor=1, mobile=False)
     browser.go(page.as_uri())
     until_ready(browser)
     choose_example(browser, "stopwatch")

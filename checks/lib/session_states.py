@@ -50,7 +50,7 @@ STATES = [
     ("a counter on the last page", State(counter=0xF00), "", ""),
     ("return addresses", State(returns=[0xFFF, 0x123, 0xFFE]), "", ""),
     ("bank 7", State(bank=7), "", ""),
-    ("an SRC byte of the ROMs", State(rom_source=0xFF), "ports\n", "ports\nsrc FF\n"),
+    ("an SRC byte of the ROMs", State(rom_source=0xFF), "trace 1 src\n", "trace ran 1 end lines 0 FF\n"),
     ("a cycle that is owed", State(owed=1), "", ""),
     ("a cycle that a jump owes", State(seq=4, board=Board({0: "0000"}), rom=zeros_but(4_096, {0: 0x41, 1: 0x23}), counter=0x123, owed=1),
      "list 0 1\n", "000 41 23 JUN 0x123\n"),

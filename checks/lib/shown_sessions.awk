@@ -3,7 +3,7 @@
 # and lines that are no answers. A command may have a text of its own, `<< 'end'`. Pictures are left out.
 
 function is_answer(line) {
-    return line ~ /^(session|ok|no) [0-9]|^(lamps|breaks|watches|seq|state|acc|keys|ports) .|^[0-9A-F][0-9A-F][0-9A-F] [0-9A-F][0-9A-F]( |$)|^[0-7]\.[0-3](\.[0-3])? |^ram [0-7] chips|^(rom|ram|chain)[0-9].* (in|out) |^mcs4: /
+    return line ~ /^(session|ok|no) [0-9]|^(lamps|breaks|watches|seq|state|acc|keys) .|^[0-9A-F][0-9A-F][0-9A-F] [0-9A-F][0-9A-F]( |$)|^[0-7]\.[0-3](\.[0-3])? |^ram [0-7] chips|^(rom|ram|chain)[0-9].* (in|out) |^mcs4: /
 }
 
 function end_session() {

@@ -51,6 +51,9 @@ class Source:
         if at not in self.line_of:
             return f"{at:03X}, which the source does not fill"
         there, name = self.label_below(at)
+        # A label beyond bytes that the source does not fill names nothing here.
+        if any(between not in self.line_of for between in range(there, at)):
+            name = ""
         named = f" ({name}{f' + {at - there}' if at > there else ''})" if name else ""
         return f"{at:03X}{named}, line {self.line_of[at] + 1}: {' '.join(self.code(self.line_of[at]).split())}"
 
@@ -94,7 +97,7 @@ def trace_row(board: Board, cycle: int, rest: str, source: Source | None, with_l
 
 
 def trace_told(start: Board, cycles: int, last: int = 0, source: Source | None = None, with_lines: bool = False) -> str:
-    """`tools/trace`: the next cycles, or the last instructions before the first stop."""
+    """`mcs4 trace`: the next cycles, or the last instructions before the first stop."""
     board, why, done, rows = start.copy(), "end", 0, []
     if last:
         cycles, why = start.copy().run(cycles)
@@ -116,7 +119,7 @@ def trace_told(start: Board, cycles: int, last: int = 0, source: Source | None =
 # ---- wave
 
 def levels(board: Board, source: Source) -> dict[str, str]:
-    """All lines of a board and their levels, in the order of `tools/wave --lines`."""
+    """All lines of a board and their levels, in the order of `mcs4 wave --lines`."""
     chips = board.chips
     told: dict[str, Line] = {f"rom{chip}.{k}": ("rom", (chip, k)) for chip in chips.rom_latch for k in range(4)}
     told |= {f"ram{bank}.{chip}.{k}": ("ram", (bank, chip, k)) for bank, chip in chips.ram_latch for k in range(4)}
@@ -129,7 +132,7 @@ def levels(board: Board, source: Source) -> dict[str, str]:
 
 
 def wave_told(start: Board, cycles: int, names: list[str], source: Source) -> tuple[Changes, int]:
-    """`tools/wave`: what the lines with these names change at each cycle, from their levels at 0 on, and at which cycle it ends. The counter
+    """`mcs4 wave`: what the lines with these names change at each cycle, from their levels at 0 on, and at which cycle it ends. The counter
     and its label change when an instruction is done."""
     board = start.copy()
     now = levels(board, source)
@@ -185,7 +188,7 @@ def spans_of(lines: list[int], chosen: list[int]) -> str:
 
 
 def cover_told(start: Board, cycles: int, source: Source) -> str:
-    """`tools/cover`: how often each line was run, which way its jump went, and what never was."""
+    """`mcs4 cover`: how often each line was run, which way its jump went, and what never was."""
     runs, jumps, _done, _stop = counted(unstopped(start), cycles)
     lines = [i for i, (at, size) in enumerate(source.spans) if size and (not source.is_data(i) or runs[at])]
     ways = {i: (jumps[at], runs[at] - jumps[at]) for i, (at, size) in enumerate(source.spans)
@@ -235,7 +238,7 @@ class Calls:
 
 
 def profile_told(start: Board, cycles: int, source: Source) -> str:
-    """`tools/profile`: where the cycles go."""
+    """`mcs4 profile`: where the cycles go."""
     own: Counter[tuple[int, str]] = Counter()
     calls = Calls()
     begins: list[tuple[int, int]] = []
@@ -271,6 +274,6 @@ def microseconds(cycles: int) -> str:
 
 
 def cycles_told(runs: list[tuple[int, int]], source: Source | None) -> str:
-    """`tools/cycles`: of runs with their cycles and the counter after them."""
+    """`mcs4 cycles`: of runs with their cycles and the counter after them."""
     rows = [f"{microseconds(cycles)}, to {source.place(at)}" for cycles, at in runs] if source else []
     return "".join(f"{row}\n" for row in [*rows, microseconds(sum(cycles for cycles, _at in runs))])

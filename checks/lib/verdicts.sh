@@ -75,6 +75,20 @@ status $1"
     verdict "$(outcome "$@")" "$wanted" "$*"
 }
 
+# Wrong arguments: what is wrong with them, then the command, `./mcs4 NAME ..`; its use follows, and the status is 2.
+misuses() {
+    wanted="$3: $1
+usage: mcs4 $3
+status 2"
+    shift
+    verdict "$(outcome "$@" | short_use)" "$wanted" "$*"
+}
+
+# Shortens the use of a command to its name.
+short_use() {
+    sed '/^       mcs4 /d; s/^\(usage: mcs4 [a-z]*\).*/\1/'
+}
+
 # A new session in the folder, by its name, and one that goes on: lines come from standard input, `answers` has what is answered.
 begins() {
     rm -f -- "$folder/$1.mcs"

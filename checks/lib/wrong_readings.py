@@ -1,4 +1,5 @@
-"""What checks/time has to see: second readings that are wrong in one way each, as a program could be, and answers with one wrong line.
+"""What checks/time and checks/prove have to see: second readings that are wrong in one way each, as a program could be, and answers with one wrong
+line.
 """
 
 from __future__ import annotations
@@ -10,8 +11,10 @@ from typing import Any
 from unittest import mock
 
 import board4004
+import second_search
 import told_by_tools
 from board4004 import Board, Chips
+from second_search import Comparison, Condition, Levels
 
 
 def instruction(name: str, work: Callable[[Board, int, int], None]) -> Callable[[], AbstractContextManager]:
@@ -136,4 +139,69 @@ WRONG_ANSWERS: dict[str, tuple[str, Callable[[list[str]], list[str]]]] = {
     "a line that is left out": ("trace", lambda lines: [lines[0], *lines[2:]]),
     "a row that is out of date": ("trace", lambda lines: [*lines[:-1], " ".join(lines[-1].split()[:2] + lines[-2].split()[2:])]),
     "a time too late": ("trace", lambda lines: [*lines[:-1], one_more(lines[-1].split(), 0)]),
+}
+
+
+# ---- searches
+
+def blank(held: Any) -> Any:
+    """Numbers as they are, all of them 0."""
+    return type(held)(map(blank, held)) if isinstance(held, (tuple, bytes)) else 0
+
+
+def without(place: int) -> Callable[[Board], tuple]:
+    """A state in which one part of what a machine holds is left out."""
+    def save(board: Board) -> tuple:
+        state = RIGHT_SAVED(board)
+        return (*state[:place], blank(state[place]), *state[place + 1:])
+    return save
+
+
+def but_the_largest(board: Board) -> dict[int, Levels]:
+    """Of several values the largest is left out."""
+    values = RIGHT_VALUES(board)
+    return {value: values[value] for value in sorted(values)[:max(len(values) - 1, 1)]}
+
+
+def at_constant_test(board: Board) -> dict[int, Levels]:
+    """TEST is 1 always."""
+    return {value: levels for value, levels in RIGHT_VALUES(board).items() if second_search.begins(board)[0] != "JCN" or levels[1] == 1}
+
+
+def looked_at_at_the_end(board: Board, levels: Levels, is_bad: Condition, pause: int) -> tuple[int, bool]:
+    """Conditions are looked at where a state stands alone."""
+    cycles, _bad = RIGHT_GO_ON(board, levels, lambda _board: False, pause)
+    return cycles, is_bad(board)
+
+
+def not_between(nevers: list[list[Comparison]]) -> Condition:
+    """Conditions are not looked at between the two cycles of an instruction."""
+    is_bad = RIGHT_CONDITION(nevers)
+    return lambda board: not board.owed and is_bad(board)
+
+
+def from_left(board: Board, comparison: Comparison) -> bool:
+    """Line 0 of a number is its highest bit."""
+    way, name, index, part, low, high = comparison
+    return RIGHT_MET(board, (way, name, index, part if part == "whole" else f"line{3 - int(part[4:])}", low, high))
+
+
+RIGHT_SAVED, RIGHT_VALUES, RIGHT_GO_ON = second_search.saved, second_search.values_read, second_search.go_on
+RIGHT_CONDITION, RIGHT_MET, RIGHT_BEGINS = second_search.condition_of, second_search.is_met, second_search.begins
+PARTS = ("accumulator", "carry", "counter", "DCL", "owed cycle", "registers", "return addresses", "SRC of the ROMs", "SRC of the banks",
+         "ports of ROMs", "ports of RAM", "chains", "RAM")
+WRONG_SEARCHES: dict[str, Callable[[], AbstractContextManager]] = {
+    **{f"a state without its {part}": method(second_search, "saved", without(place)) for place, part in enumerate(PARTS)},
+    "a value is left out": method(second_search, "values_read", but_the_largest),
+    "TEST is constant": method(second_search, "values_read", at_constant_test),
+    "JCN 9 reads nothing": method(second_search, "begins", lambda board: ("", 0) if RIGHT_BEGINS(board) == ("JCN", 9) else RIGHT_BEGINS(board)),
+    "RDR reads nothing": method(second_search, "begins", lambda board: ("", 0) if RIGHT_BEGINS(board)[0] == "RDR" else RIGHT_BEGINS(board)),
+    "an owed cycle reads": method(second_search, "begins", lambda board: ("", 0) if board.is_outside() else board4004.CODES[board.rom[board.pc]]),
+    "each row is driven": method(Chips, "is_pulled", lambda chips, line: int(any(chips.columns[column] == line for _row, column in chips.down))),
+    "a stretch is cut a cycle late": method(second_search, "go_on", lambda board, levels, bad, pause: RIGHT_GO_ON(board, levels, bad, pause + 1)),
+    "looked at where states stand": method(second_search, "go_on", looked_at_at_the_end),
+    "not looked at between two cycles": method(second_search, "condition_of", not_between),
+    "one comparison of a row is enough": method(second_search, "condition_of", lambda nevers: RIGHT_CONDITION([[each] for row in nevers for each in row])),
+    "lines count from the left": method(second_search, "is_met", from_left),
+    "out is in": method(second_search, "is_met", lambda board, words: RIGHT_MET(board, ("in", *words[1:]))),
 }

@@ -3,8 +3,9 @@
 const vscode = require("vscode");
 const { BoardView } = require("./board_view.js");
 const { LanguageClient } = require("./language_client.js");
+const { ProgramLanguage } = require("./program_language.js");
 
-const LANGUAGES = ["mcs4", "mcs4-board"];
+const LANGUAGES = ["mcs4", "mcs4-board", "mcs4-test", "mcs4-props"];
 
 const command = () => vscode.workspace.getConfiguration("mcs4").get("command") || "mcs4";
 
@@ -37,6 +38,7 @@ exports.activate = (context) => {
   client = new LanguageClient(vscode, command(), LANGUAGES);
   context.subscriptions.push(
     client,
+    new ProgramLanguage(vscode).register(),
     vscode.debug.registerDebugAdapterDescriptorFactory("mcs4", {
       createDebugAdapterDescriptor: () => new vscode.DebugAdapterExecutable(command(), ["dap"]),
     }),

@@ -1,6 +1,15 @@
 // A client of `mcs4 lsp` for Visual Studio Code, without a package: what the editor asks is asked of the server.
 "use strict";
 const { spawn } = require("node:child_process");
+const { LanguageFeatures } = require("./language_features.js");
+
+/** What the editor can, as far as an answer hangs on it. */
+const CAPABILITIES = {
+  textDocument: { hover: { contentFormat: ["markdown", "plaintext"] } },
+  experimental: { commands: { commands: ["editor.action.showReferences"] } },
+};
+/** The languages that the server calls otherwise. */
+const NAMES = { "mcs4": "asm", "mcs4-board": "toml" };
 
 class LanguageClient {
   /**
@@ -30,7 +39,9 @@ class LanguageClient {
     this.child.on("close", () => this.lost(""));
     this.child.stdin.on("error", () => {});
     this.child.stdout.on("data", (bytes) => this.take(bytes));
-    const { capabilities } = await this.ask("initialize", { processId: process.pid, rootUri: null, capabilities: {} });
+    const workspaceFolders = (vscode.workspace.workspaceFolders || []).map(({ uri, name }) => ({ uri: uri.toString(), name }));
+    const about = { processId: process.pid, rootUri: null, workspaceFolders, capabilities: CAPABILITIES };
+    const { capabilities } = await this.ask("initialize", about);
     this.notify("initialized", {});
     this.listen();
     this.provide(capabilities);
@@ -64,12 +75,19 @@ class LanguageClient {
       const message = JSON.parse(this.input.subarray(end + 4, end + 4 + size).toString());
       this.input = this.input.subarray(end + 4 + size);
       if (message.method === "textDocument/publishDiagnostics") this.show(message.params);
+      if (message.method === "window/showMessage") this.tell(message.params);
       const waiting = message.method === undefined && this.waiting.get(message.id);
       if (!waiting) continue;
       this.waiting.delete(message.id);
       if (message.error) waiting.reject(new Error(message.error.message));
       else waiting.resolve(message.result);
     }
+  }
+
+  tell({ type, message }) {
+    const { window } = this.vscode;
+    if (type === 1) window.showErrorMessage(message);
+    else window.showInformationMessage(message);
   }
 
   send(message) {
@@ -101,7 +119,7 @@ class LanguageClient {
 
   listen() {
     const { workspace } = this.vscode;
-    const idOf = ({ languageId }) => (languageId === "mcs4" ? "asm" : "toml");
+    const idOf = ({ languageId }) => NAMES[languageId] || languageId;
     const opened = (document) => {
       if (!this.isMeant(document)) return;
       const textDocument = { uri: document.uri.toString(), languageId: idOf(document), version: document.version, text: document.getText() };
@@ -178,39 +196,51 @@ class LanguageClient {
           this.editOf(await this.ask("textDocument/rename", { ...this.at(document, position), newName }))),
       }),
       languages.registerCompletionItemProvider(selector, {
-        provideCompletionItems: (document, position) => this.completion(document, position),
-      }),
+        provideCompletionItems: (document, position, _, context) => this.completion(document, position, context),
+      }, ...capabilities.completionProvider.triggerCharacters),
       languages.registerDocumentSymbolProvider(selector, { provideDocumentSymbols: (document) => this.symbols(document) }),
       languages.registerCodeActionsProvider(selector, { provideCodeActions: (document, range) => this.actions(document, range) }),
     );
     this.provideColours(selector, capabilities.semanticTokensProvider.legend);
+    this.disposables.push(...new LanguageFeatures(this, selector).register());
   }
 
   provideColours(selector, { tokenTypes, tokenModifiers }) {
     const { vscode } = this;
     const legend = new vscode.SemanticTokensLegend(tokenTypes, tokenModifiers);
+    const tokensOf = (told) => new vscode.SemanticTokens(new Uint32Array(told ? told.data : []), told ? told.resultId : undefined);
+    const asked = (document, more) => ({ textDocument: { uri: document.uri.toString() }, ...more });
     this.disposables.push(vscode.languages.registerDocumentSemanticTokensProvider(selector, {
-      provideDocumentSemanticTokens: async (document) => {
-        const told = await this.ask("textDocument/semanticTokens/full", { textDocument: { uri: document.uri.toString() } });
-        return new vscode.SemanticTokens(new Uint32Array(told ? told.data : []));
+      provideDocumentSemanticTokens: async (document) => tokensOf(await this.ask("textDocument/semanticTokens/full", asked(document))),
+      provideDocumentSemanticTokensEdits: async (document, previousResultId) => {
+        const told = await this.ask("textDocument/semanticTokens/full/delta", asked(document, { previousResultId }));
+        if (!told || !told.edits) return tokensOf(told);
+        const edits = told.edits.map(({ start, deleteCount, data }) => (
+          new vscode.SemanticTokensEdit(start, deleteCount, new Uint32Array(data))));
+        return new vscode.SemanticTokensEdits(edits, told.resultId);
       },
+    }, legend), vscode.languages.registerDocumentRangeSemanticTokensProvider(selector, {
+      provideDocumentRangeSemanticTokens: async (document, range) => (
+        tokensOf(await this.ask("textDocument/semanticTokens/range", asked(document, { range: this.plainRange(range) })))),
     }, legend));
   }
 
   async hover(document, position) {
     const found = await this.ask("textDocument/hover", this.at(document, position));
     if (!found) return null;
-    const words = new this.vscode.MarkdownString();
-    words.appendText(found.contents.value);
+    const words = new this.vscode.MarkdownString(found.contents.value);
     return new this.vscode.Hover(words, found.range && this.rangeOf(found.range));
   }
 
-  async completion(document, position) {
-    const list = (await this.ask("textDocument/completion", this.at(document, position))) || [];
-    return list.map(({ label, kind, detail, textEdit, insertTextFormat }) => {
+  async completion(document, position, { triggerKind = 0, triggerCharacter } = {}) {
+    // The editor counts kinds of triggers from 0 on, the protocol from 1.
+    const context = { triggerKind: triggerKind + 1, triggerCharacter };
+    const list = (await this.ask("textDocument/completion", { ...this.at(document, position), context })) || [];
+    return list.map(({ label, kind, detail, documentation, textEdit, insertTextFormat }) => {
       // The editor counts kinds from 0 on, the protocol from 1.
       const item = new this.vscode.CompletionItem(label, kind - 1);
       item.detail = detail;
+      item.documentation = documentation;
       item.range = this.rangeOf(textEdit.range);
       item.insertText = insertTextFormat === 2 ? new this.vscode.SnippetString(textEdit.newText) : textEdit.newText;
       return item;

@@ -70,8 +70,8 @@ ready:	JMS show
 ; Debounce. A key that goes down or up bounces for some milliseconds, so a
 ; reading counts only when four further scans have found the same one; behind
 ; a scan that found several keys, five.
-; Uses R0 to R12, no RAM. 935 cycles from the moment a key goes down until it is
-; taken.
+; Uses R0 to R12, no RAM. 935 cycles from the moment a key goes down alone until
+; it is taken.
 
 await:	JMS scan	; P1: the key that is down, or 0
 	LD R7

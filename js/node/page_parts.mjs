@@ -1,5 +1,6 @@
 // What the tools that run by node take out of the page: the proved module, and the tables that page/build has put beside it.
 import { readFileSync } from "node:fs";
+import { inflateRawSync } from "node:zlib";
 
 const PAGE = new URL("../../page/fethsaim.html", import.meta.url);
 
@@ -10,12 +11,11 @@ function partOfPage(id) {
   return found[1];
 }
 
+/** Unpacks a part of the page. */
+const unpackedPart = (id) => inflateRawSync(Buffer.from(partOfPage(id), "base64"));
+
 /** The proved module, as bytes. */
-export function moduleOfPage() {
-  return Buffer.from(partOfPage("module"), "base64");
-}
+export const moduleOfPage = () => unpackedPart("module");
 
 /** The words of refusals, the tables of the manual, the examples. */
-export function dataOfPage() {
-  return JSON.parse(partOfPage("data"));
-}
+export const dataOfPage = () => JSON.parse(unpackedPart("data").toString());

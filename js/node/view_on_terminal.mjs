@@ -1,12 +1,11 @@
 // The view of the debugger (js/core/prompt/view.js) on a terminal: it stands in the upper rows, and commands scroll in those below it. A
 // terminal that moves no cursor (TERM=dumb) gets it as lines, after each command. Colours are left out there, and where NO_COLOR is set.
 import { LEAST_COLUMNS, LEAST_ROWS, View, sizeOf } from "../core/prompt/view.js";
+import { isDumb, painter } from "./terminal.mjs";
 
-const plain = (text) => text;
-const PLAIN = { head: plain, here: plain, other: plain };
-const COLOURS = {
-  head: (text) => `\x1b[7m${text}\x1b[0m`, here: (text) => `\x1b[1m${text}\x1b[0m`, other: (text) => `\x1b[33m${text}\x1b[0m`,
-};
+const REVERSE = 7;
+const BOLD = 1;
+const YELLOW = 33;
 const NO_ROOM = `the view needs a terminal of ${LEAST_COLUMNS} columns and ${LEAST_ROWS} rows at least`;
 
 export class ViewOnTerminal {
@@ -15,8 +14,9 @@ export class ViewOnTerminal {
     this.view = new View(prompt);
     this.output = output;
     this.prompted = prompted;
-    this.isDumb = /^(|dumb|unknown)$/.test(env.TERM || "");
-    this.marks = this.isDumb || env.NO_COLOR ? PLAIN : COLOURS;
+    this.isDumb = isDumb(env);
+    const paint = painter(env);
+    this.marks = { head: paint(REVERSE), here: paint(BOLD), other: paint(YELLOW) };
     this.isOn = false;
     /** How many rows it takes now, 0 for none. */
     this.rows = 0;

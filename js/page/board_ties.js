@@ -7,6 +7,7 @@ import { Face } from "../core/board/face.js";
 import { buzzerOf } from "../core/board/face_board.js";
 import { Pressing, wantsKey } from "./board/pressing.js";
 import { DrawingController } from "./drawing/drawing_controller.js";
+import { insertKeyScan } from "./text_ties.js";
 import { linesOfParts } from "../core/drawing/part_lines.js";
 import { wordsOfCell } from "../core/help/manual.js";
 import { LookView } from "./look_view.js";
@@ -33,7 +34,7 @@ export function lookViewOf(page) {
     act: (line) => page.serving.act(line),
     wordsOfRefusal: (number) => page.words.ofRefusal(number),
     explain: (name) => wordsOfCell(page.cellWords, name),
-    isAt: (counter) => page.source.showNext(counter, running.isFast),
+    isAt: (counter) => page.source.showNext(counter, running.isFast || page.current.willRun),
     breakAt: (breakpoints) => page.breakpoints.keeper.take(breakpoints),
     toggleBreakpoint: (address) => page.breakpoints.keeper.toggleAddress(address),
     wentTo: (address) => page.source.reveal(address),
@@ -89,6 +90,7 @@ export function drawSound({ running, lookView }, boardText) {
  * @returns {DrawingController}
  */
 export function drawingOf(page) {
+  const scanKeys = (/** @type {import("../core/bench/answers.js").Board} */ board) => insertKeyScan(page, board);
   const { bench, boardEditor, current, lookView: { wiring } } = page;
   const { editor } = boardEditor;
   const { tabs } = page.layout;
@@ -111,6 +113,7 @@ export function drawingOf(page) {
       tabs.choose("board");
       editor.select(lines);
     },
+    scanKeys,
     session: () => current.session,
     touched: () => current.touchAndKeep(),
     failed: (fault) => page.recovery.failed(fault),
@@ -128,13 +131,19 @@ export function drawingOf(page) {
  * @returns {Scope}
  */
 export function scopeOf(page) {
-  /** @type {(values: string[]) => { board: string, program: string, values: string[] }} */
-  const textsWith = (values) => ({ board: page.boardEditor.text, program: page.programEditor.text, values });
+  /** @type {(values: string[]) => { board: string, program: string, values: string[], watched: string[] }} */
+  const textsWith = (values) => ({ board: page.boardEditor.text, program: page.programEditor.text, values,
+    watched: page.breakpoints.keeper.watched });
   const scope = new Scope({
     goTo: (address) => page.lookView.goTo.show(address),
+    keep: (rows) => {
+      if (!page.current.session) return;
+      page.current.session.record.rows = rows;
+      page.current.keep();
+    },
     name: () => page.current.name,
     offered: () => catalogOf(page.lookView.board, page.boardEditor.text),
-    isOn: (isOn) => page.layout.tabs.mark("waves", isOn ? "records" : ""),
+    isOn: (isOn) => page.layout.dock.mark("waves", isOn ? "records" : ""),
     begin: (wanted, values) => orTold(page, page.bench.call("recordLive", [textsWith(values), wanted])),
     end: () => orTold(page, page.bench.call("endRecording", [])),
     record: async (cycles, isBefore, values) => {

@@ -1,6 +1,6 @@
 // What those parts call of the others that let time run, serve lines, and keep the session: they get calls, and know no page.
 
-import { wordsOfAddress } from "../words/stops.js";
+import { wordsOfAddress, wordsOfWhen } from "../words/stops.js";
 import { Serving } from "./lines/serving.js";
 import { Recovery } from "./recovery.js";
 import { CurrentSession } from "./session/current_session.js";
@@ -25,6 +25,7 @@ export function currentSessionOf(page) {
     ran: () => page.log.take(),
     showRan: (ran, fault) => page.log.showRan(ran, fault),
     notKept: (words) => (words ? page.notice.show(words, "kept") : page.notice.hide("kept")),
+    saved: (state) => page.layout.status.showSaved(state),
   }, page.past);
 }
 
@@ -54,6 +55,7 @@ export function runningOf(page) {
   const { current } = page;
   return new Running(page.bench, current, {
     began: () => page.usual.clear(),
+    stood: () => page.scope.stands(),
     took: (frame) => {
       page.log.collect(frame.ran);
       page.usual.show(frame.tally.usual);
@@ -69,7 +71,8 @@ export function runningOf(page) {
     },
     cycles: () => page.cycles.cycles.total,
     where: () => wordsOfAddress(page.lookView.counter, page.source.map),
-    breakpoint: (id) => page.breakpoints.keeper.list.get(id),
+    when: (id) => wordsOfWhen(page.breakpoints.keeper.list.get(id), page.breakpoints.keeper.faults.get(id)),
+    unreadable: () => page.breakpoints.keeper.faults.size,
     wordsOfRefusal: (number) => page.words.ofRefusal(number),
     step: () => page.serving.act("step\n"),
     failed: (fault) => page.recovery.failed(fault),

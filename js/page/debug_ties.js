@@ -2,12 +2,14 @@
 
 import { Cancelled, WorkerDied } from "../core/bench/faults.js";
 import { hex } from "../core/bench/numbers.js";
+import { NO_ADDRESS } from "../words/machine.js";
 import { wordsOfLastChange, wordsOfAddress } from "../words/stops.js";
 import { BreakpointsController } from "./machine/breakpoints_controller.js";
 import { HeatView } from "./machine/heat_view.js";
 import { LastChangeView } from "./machine/last_change_view.js";
 import { listenToCaret, listenToHere } from "./machine/run_to.js";
 import { SourceValues } from "../core/machine/source_values.js";
+import { namesOfWatched } from "../core/debug/watched.js";
 import { UsualView } from "./machine/usual_view.js";
 import { WatchedView } from "./machine/watched_view.js";
 import { nameCharacters } from "./text_ties.js";
@@ -16,6 +18,17 @@ import { Travel } from "../core/time/travel.js";
 import { block } from "./ui/dom.js";
 
 /** @typedef {import("./page.js").Page} Page */
+
+/**
+ * Time runs to a line of the source, which may put nothing into ROM.
+ * @param {Page} page
+ * @param {number} line
+ */
+export function runToLine({ source, running, travel }, line) {
+  const address = source.map ? source.map.addressOf(line) : undefined;
+  if (address === undefined) running.tell(NO_ADDRESS);
+  else travel.goOn({ kind: "here", address });
+}
 
 /**
  * @param {Page} page
@@ -34,6 +47,11 @@ export function breakpointsOf(page) {
     },
     goTo: (address) => page.lookView.goTo.show(address),
     reveal: (line) => page.programEditor.reveal(line),
+    showBelow: (line, node) => page.programEditor.editor.editor.showBelow(line - 1, node),
+    whenMeasured: (act) => page.programEditor.editor.editor.whenMeasured(act),
+    showSource: () => page.layout.showText("program"),
+    focusSource: () => page.programEditor.editor.editor.focus(),
+    runTo: (line) => runToLine(page, line),
     freshSource: () => page.source.fresh(),
     checkSource: () => page.source.check(),
     tell: (words) => page.lookView.told.show(words),
@@ -46,6 +64,7 @@ export function travelOf(page) {
   const { running } = page;
   return new Travel(page.bench, {
     stand: () => running.stand(),
+    texts: () => page.breakpoints.texts(),
     aim: (goal) => running.aim(goal),
     change: (words, work) => page.serving.change(words, work),
     runTo: (goal) => running.run(goal),
@@ -59,23 +78,17 @@ export function travelOf(page) {
 
 /** @param {Page} page */
 export function historyOf(page) {
-  const { travel, lookView, source, programEditor, running } = page;
-  /** @type {(address: number) => void} */
-  const runTo = (address) => {
+  const { travel, lookView, programEditor, running } = page;
+  listenToHere(lookView.listing.block, (node) => lookView.listing.rows.addressAt(node), (address) => {
     travel.goOn({ kind: "here", address });
-  };
-  /** The line that the caret is in may put nothing into ROM. */
-  const addressOfCaret = () => {
-    const { map } = source;
-    return map ? map.addressOf(programEditor.editor.editor.getCursor().line + 1) : undefined;
-  };
-  listenToHere(lookView.listing.block, (node) => lookView.listing.rows.addressAt(node), runTo);
-  listenToCaret(block("program-editor"), addressOfCaret, runTo, (words) => running.tell(words));
+  });
+  listenToCaret(block("program-editor"), () => runToLine(page, programEditor.editor.editor.getCursor().line + 1));
   tellLastChanges(page);
   return new HistoryView({
     goOn: (goal) => travel.goOn(goal),
     goBack: (goal) => travel.goBack(goal),
     goForward: () => travel.goForward(),
+    names: () => namesOfPage(page),
     tell: (words) => running.tell(words),
   });
 }
@@ -139,6 +152,14 @@ export function heatOf(page) {
 }
 
 /**
+ * The names that expressions may have: of the board that is wired, of the program in ROM, of Watch.
+ * @param {Page} page
+ */
+function namesOfPage({ lookView, source, breakpoints }) {
+  return { face: lookView.face, board: lookView.board, map: source.map, watched: namesOfWatched(breakpoints.keeper.watched) };
+}
+
+/**
  * @param {Page} page
  * @returns {WatchedView}
  */
@@ -147,10 +168,12 @@ export function watchedOf(page) {
   return new WatchedView({
     offer: (cell, { place, name }) => lookView.editor.offer(cell, { place, name, digits: 1 }),
     standing: () => page.values.standing,
+    names: () => namesOfPage(page),
     listed: () => nameCharacters(page),
     keep: (texts) => {
       if (!current.session) return;
       current.session.record.watched = texts;
+      page.breakpoints.keeper.takeWatched(texts);
       current.keep();
     },
   });
@@ -158,9 +181,10 @@ export function watchedOf(page) {
 
 /**
  * @param {Page} page
+ * @param {import("./text/problems_view.js").ProblemsView} problems
  * @returns {UsualView}
  */
-export function usualOf(page) {
+export function usualOf(page, problems) {
   const { choices } = page.layout;
   return new UsualView({
     wordsOf: (address) => wordsOfAddress(hex(address, 3), page.source.map),
@@ -168,6 +192,7 @@ export function usualOf(page) {
     stopAt: (kinds) => {
       page.bench.call("stopAtFaults", [kinds]).catch((fault) => page.recovery.failed(fault));
     },
+    counted: (count) => problems.takeBugs(count),
     chosen: () => choices.get("stops"),
     choose: (kinds) => choices.set("stops", kinds),
   });

@@ -30,7 +30,7 @@ const pressing = new Pressing({
     return keyOfKeyboard(front.keys, event.key);
   },
 });
-/** Lamps are shown as they are at the moments that are told. */
+/** While time runs, lamps are shown as an eye sees them; else as they are at that instant. */
 const front = new FrontView((node, key) => pressing.listen(node, key), () => {});
 pressing.listenToKeyboard();
 button("test").addEventListener("click", () => tell(`test ${front.level === "1" ? 0 : 1}`, true));
@@ -57,7 +57,9 @@ function show(news) {
     button("test").setAttribute("aria-pressed", String(news.test === "1"));
   }
   if (news.keys) front.showKeys(news.keys);
-  if (news.lamps !== undefined) front.showLamps(news.lamps);
+  const marks = news.lamps ?? front.marks;
+  if (news.shone) front.shine(marks, news.shone, Infinity);
+  else if (!isRunning) front.showLamps(marks);
 }
 
 addEventListener("message", ({ data }) => {

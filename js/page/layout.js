@@ -1,51 +1,83 @@
-// How the page is laid out: tabs and panels, as a user likes them, and how much room what stands above them leaves.
+// The workbench: the tabs of the texts and of the dock, panels with their borders, and what is printed.
 
-import { TEXTS } from "../core/help/story.js";
 import { Choices } from "./ui/choices.js";
 import { block } from "./ui/dom.js";
-import { NARROW, makeFolds } from "./ui/folds.js";
-import { Menu } from "./ui/menu.js";
+import { makeFolds, unfold } from "./ui/folds.js";
+import { Panels } from "./ui/panels.js";
+import { Regions } from "./ui/regions.js";
 import { PrintView } from "./print_view.js";
 import { Splitter } from "./ui/splitter.js";
+import { StatusView } from "./ui/status_view.js";
 import { Tabs } from "./ui/tabs.js";
 
-/** @typedef {import("./print_view.js").Printed} Printed */
+/**
+ * @typedef {import("./print_view.js").Printed} Printed
+ * @typedef {import("./ui/splitter.js").Border} Border
+ */
+
+const TEXTS = ["program", "board", "wiring", "tests", "properties"];
+const DOCK = ["disassembly", "waves", "console", "problems"];
+/** @type {Record<string, string>} the tabs of panels that the dock has */
+const DOCKED = { listing: "disassembly", scope: "waves", talk: "console", problems: "problems" };
+
+/** @type {Border[]} */
+const BORDERS = [
+  { id: "front-splitter", of: "front", property: "--front-width", side: "right", least: 160, most: 700 },
+  { id: "dock-splitter", of: "dock", property: "--dock-height", side: "top", least: 60, most: 1200 },
+  { id: "side-splitter", of: "side", property: "--side-width", side: "left", least: 240, most: 900 },
+  ...["processor", "calls", "watched", "breakpoints", "memory", "ports"].map((of) => /** @type {Border} */ (
+    { id: `${of}-splitter`, of, property: `--height-${of}`, side: "bottom", least: 28, most: 900 })),
+];
 
 export class Layout {
   /** @param {() => Printed} printed what is to be printed */
   constructor(printed) {
     this.choices = new Choices();
-    this.tabs = new Tabs(TEXTS, this.choices.get("text"), (name) => this.choices.set("text", name));
+    const { choices } = this;
+    this.regions = new Regions(choices);
+    this.tabs = new Tabs(TEXTS, choices.get("text"), (name) => {
+      choices.set("text", name);
+      this.regions.reveal(block("texts"));
+    });
+    this.dock = new Tabs(DOCK, choices.get("dock"), (name) => {
+      choices.set("dock", name);
+      this.regions.reveal(block("dock"));
+    });
+    this.status = new StatusView();
     this.print = new PrintView(printed);
-    this.menu = new Menu();
-    this.splitter = new Splitter(this.choices);
-    makeFolds(this.choices);
-    this.placeFurther();
-    this.measureAgain();
+    this.splitters = BORDERS.map((border) => new Splitter(choices, border));
+    this.folds = makeFolds(choices);
+    this.panels = new Panels(choices, () => this.reset());
   }
 
-  /** Below the clock's bar stands what goes back and further, and in it the counter of cycles. A phone has both below lamps and keys. */
-  placeFurther() {
-    const narrow = matchMedia(NARROW);
-    const put = () => {
-      block(narrow.matches ? "front" : "clock").after(block("history"));
-      block(narrow.matches ? "history" : "clock").append(block("cycles"));
-    };
-    narrow.addEventListener("change", put);
-    put();
+  /** Sizes, folds and tabs are as at first. */
+  reset() {
+    for (const splitter of this.splitters) splitter.reset();
+    for (const id of this.folds) unfold(id);
+    this.tabs.choose(TEXTS[0]);
+    this.dock.choose(DOCK[0]);
+    this.regions.show("board");
   }
 
-  /** What is observed does not depend on what is measured (the scroll bar is always there), so that this comes to an end. */
-  measureAgain() {
-    const observer = new ResizeObserver(() => this.measure());
-    for (const each of document.querySelectorAll("header, #clock, #history, #usual, #tour")) observer.observe(each);
+  /**
+   * Brings a tab to the front, of the texts or of the dock.
+   * @param {string} name
+   */
+  showText(name) {
+    const isText = TEXTS.includes(name);
+    this.panels.open(isText ? "texts" : "dock", true);
+    (isText ? this.tabs : this.dock).choose(name);
   }
 
-  /** Texts and listing fill the window below what stands above them; what sticks stands below the clock's bar. */
-  measure() {
-    const { style } = document.documentElement;
-    const panels = document.querySelector("main");
-    if (panels) style.setProperty("--main-top", `${panels.offsetTop}px`);
-    style.setProperty("--clock-height", `${block("clock").offsetHeight}px`);
+  /**
+   * Brings a panel into view.
+   * @param {string} id
+   */
+  showPanel(id) {
+    if (id in DOCKED) this.dock.choose(DOCKED[id]);
+    this.panels.open(id in DOCKED ? "dock" : id, true);
+    unfold(id);
+    this.regions.reveal(block(id));
+    block(id).scrollIntoView({ block: "nearest" });
   }
 }

@@ -48,6 +48,7 @@ export class LookView {
   constructor(calls) {
     this.calls = calls;
     this.board = readBoard([]);
+    this.face = new Face("");
     this.reader = new LookReader();
     /** When all was drawn last. */
     this.drawn = 0;
@@ -115,6 +116,7 @@ export class LookView {
     this.changes.forget();
     this.editor.close(false);
     const face = new Face(boardText);
+    this.face = face;
     this.front.draw(this.board, face);
     this.strip.draw(this.board, face);
     this.ram.draw(this.board);
@@ -129,9 +131,10 @@ export class LookView {
     this.stack.forget();
   }
 
-  /** @param {string} boardText may have another face */
+  /** @param {string} boardText of this board, which may have another face */
   readFace(boardText) {
     const face = new Face(boardText);
+    this.face = face;
     this.front.change(this.board, face);
     this.strip.change(this.board, face);
   }

@@ -1,8 +1,10 @@
 // Starts the page.
 
+import { inflateRaw } from "pako/dist/pako_inflate.js";
 import { Bench } from "../core/bench/bench.js";
 import { startWorker } from "./bench/early_replies.js";
-import { block, button, byId, element, field, isDialogOpen, onClick } from "./ui/dom.js";
+import { Commands, shellOf } from "./command_ties.js";
+import { block, button, byId, element, field, onClick } from "./ui/dom.js";
 import { fromBase64 } from "../core/session/base64.js";
 import { Locks } from "./session/locks.js";
 import { Notice } from "./ui/notice.js";
@@ -10,7 +12,6 @@ import { Page } from "./page.js";
 import { storyOf } from "./session/address.js";
 import { guideOf } from "./session_ties.js";
 import { SPEEDS, speedOf } from "../core/time/speeds.js";
-import { Stepping } from "./time/stepping.js";
 import { inTime, MemoryStore, Store } from "./session/store.js";
 import { Words } from "../core/bench/words.js";
 import * as say from "../words/page.js";
@@ -56,29 +57,28 @@ function textOf(id) {
 }
 
 /**
+ * Unpacks a part of the page.
+ * @param {string} id
+ */
+function unpackedPart(id) {
+  return inflateRaw(fromBase64(textOf(id)));
+}
+
+/**
  * What makes benches, each in a worker that is made of the page's own text.
  * @param {Example[]} examples
  */
 function benchMaker(examples) {
   const address = URL.createObjectURL(new Blob([textOf("worker")], { type: "text/javascript" }));
-  const module = fromBase64(textOf("module")).buffer;
+  const module = unpackedPart("module").buffer;
   return () => new Bench(() => startWorker(address), module, examples);
 }
 
 /** @param {Page} page */
 function listenToButtons(page) {
-  const { recovery, running, serving, travel } = page;
-  const runOrStop = () => running.runOrStop();
-  onClick(button("run"), runOrStop);
-  onClick(button("step"), () => running.step());
-  onClick(button("reset"), () => serving.act("reset\n"));
-  onClick(button("test"), () => serving.act(`test ${page.lookView.test.isOn ? 0 : 1}\n`));
+  onClick(button("test"), () => page.serving.act(`test ${page.lookView.test.isOn ? 0 : 1}\n`));
   onClick(button("from-rom"), () => page.texts.takeFromRom());
-  onClick(button("share-button"), () => page.sharing.share().catch((fault) => recovery.failed(fault)));
   listenToChoices(page);
-  new Stepping({
-    into: () => running.step(), goOn: (goal) => travel.goOn(goal), goBack: (goal) => travel.goBack(goal), runOrStop, isClosed: isDialogOpen,
-  });
 }
 
 /** @param {Page} page */
@@ -128,9 +128,10 @@ function listenToLeaving(page) {
 /**
  * @param {Words} words
  * @param {Notice} notice
+ * @param {import("./command_ties.js").Shell} shell
  * @param {Data} data
  */
-async function start(words, notice, { examples, manual }) {
+async function start(words, notice, shell, { examples, manual }) {
   const locks = await Locks.find();
   const makeBench = benchMaker(examples);
   const bench = makeBench();
@@ -140,16 +141,22 @@ async function start(words, notice, { examples, manual }) {
   if (!store.keeps) notice.show(say.NO_STORE, "store");
   const guide = guideOf(page, manual);
   const story = storyOf(location.search);
+  const commands = new Commands(page, guide, examples, shell);
+  const isFirst = location.hash === "" && !story && (await page.sessionsController.manager.kept()).length === 0;
   page.pressing.listenToKeyboard();
   listenToButtons(page);
   listenToLeaving(page);
   await page.sessionsController.openFirst(story);
   if (story) guide.tell(story, examples);
+  if (isFirst) commands.welcomeFirst();
+  // What keeps it as the page is left has to have run before, for Firefox 153 to run it then.
+  page.current.keepNow();
   // How many milliseconds it took.
   document.body.dataset.ready = String(Math.round(performance.now()));
 }
 
 async function main() {
+  const shell = shellOf();
   const notice = new Notice();
   // It is for browsers that cannot even run this.
   block("needs").hidden = true;
@@ -159,10 +166,10 @@ async function main() {
     return;
   }
   /** @type {Data} */
-  const data = JSON.parse(textOf("data"));
+  const data = JSON.parse(new TextDecoder().decode(unpackedPart("data")));
   const words = new Words(data.refusals);
   try {
-    await start(words, notice, data);
+    await start(words, notice, shell, data);
   } catch (fault) {
     notice.show(say.cannotStart(words.ofFault(fault), textOf("needs")));
   }

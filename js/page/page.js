@@ -6,15 +6,18 @@ import { currentSessionOf, recoveryOf, runningOf, servingOf } from "./core.js";
 import { drawSound, drawingOf, lookViewOf, pressingOf, scopeOf } from "./board_ties.js";
 import { breakpointsOf, heatOf, historyOf, travelOf, usualOf, valuesOf, watchedOf } from "./debug_ties.js";
 import { lampNames } from "../core/board/face_board.js";
+import { isTextOf, keptWith, wiredOf } from "../core/board/wired_text.js";
 import { cellWords } from "../core/help/manual.js";
 import { Layout } from "./layout.js";
 import { LogView } from "./lines/log_view.js";
+import { titleOf } from "../core/session/described.js";
 import { KeptPast } from "./session/kept_past.js";
 import { exportOf, romFilesOf, sessionsControllerOf, sharingOf } from "./session_ties.js";
-import { editorsOf, exploreOf, nameCharacters, sourceOf, testsOf, textsOf } from "./text_ties.js";
+import { editorsOf, exploreOf, nameCharacters, problemsOf, sourceOf, testsOf, textsOf } from "./text_ties.js";
 import { CyclesView } from "./time/cycles_view.js";
 import { TextLooks } from "./text/text_looks.js";
 import { WorkView } from "./ui/work_view.js";
+import * as say from "../words/page.js";
 
 /**
  * @typedef {import("../core/bench/bench.js").Bench} Bench
@@ -64,7 +67,7 @@ export class Page {
     this.tests = testsOf(this, manual);
     this.explore = exploreOf(this, manual, makeBench);
     this.looks = new TextLooks(this.layout.choices, this.textEditors.map(({ editor }) => editor.editor));
-    this.usual = usualOf(this);
+    this.usual = usualOf(this, problemsOf(this));
     this.texts = textsOf(this);
     this.rom = romFilesOf(this);
     this.export = exportOf(this);
@@ -104,7 +107,7 @@ export class Page {
 
   /** The program's text, or what stands in ROM, may be another one. */
   checkSource() {
-    this.source.check().catch((fault) => this.recovery.failed(fault));
+    return this.source.check().catch((fault) => this.recovery.failed(fault));
   }
 
   /**
@@ -124,8 +127,10 @@ export class Page {
     this.breakpoints.open(record);
     this.pressing.forget();
     this.scope.forget();
+    this.scope.view.open(record.rows);
     this.tests.forget();
     this.usual.clear();
+    this.history.begin();
     this.values.forget();
     this.heat.clear();
     this.watched.open(record.watched);
@@ -135,6 +140,39 @@ export class Page {
     this.source.forget();
     this.log.clear();
     this.cycles.open(record.cycles);
+  }
+
+  /**
+   * Draws another board, with the face of the text that it was wired from.
+   * @param {SessionRecord} record
+   * @param {string[]} board
+   */
+  draw(record, board) {
+    const { wiring } = this.editors;
+    const wired = wiring === null ? wiredOf(board, this.boardEditor.text, record.wired) : { text: wiring, board: board.join("\n") };
+    record.wired = keptWith(wired, record.wired);
+    const { lookView } = this;
+    this.current.takeTitle(titleOf(wired.text, this.programEditor.text) || (board.length > 1 ? say.MY_BOARD : ""));
+    lookView.draw(board, wired.text);
+    this.drawing.wired(board);
+    this.history.draw(lookView.board, lampNames(new Face(wired.text), lookView.board.lamps.length));
+    this.editors.look(board.length === 1);
+    this.heat.wired();
+    drawSound(this, wired.text);
+    nameCharacters(this);
+  }
+
+  /**
+   * Shows another face of the board. The face of a text of another board waits until that is wired.
+   * @param {string} boardText
+   */
+  readFace(boardText) {
+    const { session } = this.current;
+    const [wired] = (session && session.record.wired) || [];
+    if (!session || !wired || !isTextOf(boardText, wired)) return;
+    session.record.wired = keptWith({ ...wired, text: boardText }, session.record.wired);
+    this.lookView.readFace(boardText);
+    drawSound(this, boardText);
   }
 
   /**
@@ -152,15 +190,7 @@ export class Page {
     this.cycles.take({ total, reset }, this.running.clock.isRunning);
     session.record.cycles = this.cycles.cycles.kept;
     this.history.showFuture(future);
-    if (board) {
-      this.lookView.draw(board, this.boardEditor.text);
-      this.drawing.wired(board);
-      this.history.draw(this.lookView.board, lampNames(new Face(this.boardEditor.text), this.lookView.board.lamps.length));
-      this.editors.look(board.length === 1);
-      this.heat.wired();
-      drawSound(this, this.boardEditor.text);
-      nameCharacters(this);
-    }
+    if (board) this.draw(session.record, board);
     this.lookView.show(look, isPassing, shone);
     if (printed) {
       session.record.printed = printed;

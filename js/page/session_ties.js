@@ -7,7 +7,7 @@ import { newRecord } from "./session/kept_session.js";
 import { RomFiles } from "../core/session/rom_files.js";
 import { SessionsController } from "./session/sessions_controller.js";
 import { Sharing } from "./session/sharing.js";
-import { block, byId } from "./ui/dom.js";
+import { byId } from "./ui/dom.js";
 import * as say from "../words/page.js";
 
 /**
@@ -28,7 +28,7 @@ export function sessionsControllerOf(page, parts) {
     use: (record, release, example) => current.use(record, release, example),
     rename: (name) => current.rename(name),
     link: (link) => page.sharing.open(link),
-    texts: (name, texts) => page.texts.take(name, texts),
+    texts: (name, texts) => page.texts.open(name, texts),
     speed: (id) => {
       const speeds = byId("speed", HTMLSelectElement);
       speeds.value = id;
@@ -86,11 +86,6 @@ export function sharingOf(page) {
  * @returns {import("../core/help/story_acts.js").ActCalls}
  */
 function actsOf({ layout, lookView, pressing, running, source, travel }) {
-  /** @param {string} name */
-  const showText = (name) => {
-    layout.tabs.choose(name);
-    block("text-tabs").scrollIntoView({ block: "nearest" });
-  };
   return {
     addressOf: (label) => {
       const name = source.map && source.map.names.get(label);
@@ -107,7 +102,7 @@ function actsOf({ layout, lookView, pressing, running, source, travel }) {
     goBack: (goal) => travel.goBack(goal),
     goForward: () => travel.goForward(),
     goTo: (address) => {
-      showText("program");
+      layout.showText("program");
       lookView.goTo.show(address);
     },
     isRunning: () => running.clock.movesKeys,
@@ -116,8 +111,8 @@ function actsOf({ layout, lookView, pressing, running, source, travel }) {
       pressing.down(boardKey, false);
       pressing.up(boardKey.key);
     },
-    showText,
-    showPanel: (name) => block(name).scrollIntoView({ block: "nearest" }),
+    showText: (name) => layout.showText(name),
+    showPanel: (name) => layout.showPanel(name),
   };
 }
 
@@ -131,11 +126,15 @@ export function guideOf(page, manual) {
   const guide = new Guide(manual, {
     send: (lines) => page.serving.send(lines),
     wordsOf: (answer) => page.log.wordsOf(answer),
-    isCovered: () => page.sessions.isOpen,
     begin: (example) => page.sessionsController.begin(example),
     showSource: () => layout.tabs.choose("program"),
     program: () => programEditor.text,
     edit: (program) => programEditor.replaceText(program),
+    reveal: (target) => {
+      if (target === "key") layout.showPanel("front");
+      else if (target === "ram") layout.showPanel("memory");
+      else layout.showText("program");
+    },
     replace: (program, words) => page.texts.replace("program", program, words),
     acts: actsOf(page),
     left: forgetStory,

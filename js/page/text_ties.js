@@ -1,9 +1,9 @@
 // What the texts, and what is tried on them, call of the others: they get calls, and know no page.
 
 import { countOfFaults } from "../core/bench/words.js";
-import { drawSound } from "./board_ties.js";
 import { ExploreTab } from "./explore/explore_tab.js";
 import { Explorer } from "../core/explore/explorer.js";
+import { keyScanOf } from "../core/drawing/key_scan.js";
 import { namesOfCharacters } from "../core/machine/ram_names.js";
 import { SourceSync } from "../core/machine/source_sync.js";
 import { titleOf } from "../core/session/described.js";
@@ -11,6 +11,7 @@ import { newRecord } from "./session/kept_session.js";
 import { TextsController } from "./session/texts_controller.js";
 import { TestsTab } from "./testing/tests_tab.js";
 import { Editors } from "./text/editors.js";
+import { ProblemsView } from "./text/problems_view.js";
 import * as say from "../words/page.js";
 
 /**
@@ -36,7 +37,8 @@ export function editorsOf(page, manual) {
     run: () => running.run(),
     counter: () => page.lookView.counter,
     toggleBreakpoint: (line) => page.breakpoints.toggleLine(line).catch((fault) => page.recovery.failed(fault)),
-    editBreakpoint: (line) => page.breakpoints.editLine(line).catch((fault) => page.recovery.failed(fault)),
+    editBreakpoint: (line, what) => page.breakpoints.editLine(line, what).catch((fault) => page.recovery.failed(fault)),
+    askedMargin: (line, point) => page.breakpoints.openMenu(line, point),
     meaningOf: (name) => page.source.meaningOf(name),
     valuesAt: (text, at) => page.values.at(text, at),
     offer: (cell, { place, name }) => page.lookView.editor.offer(cell, { place, name, digits: 1 }),
@@ -44,6 +46,24 @@ export function editorsOf(page, manual) {
     hasFaults: (name, count) => page.layout.tabs.mark(name, count > 0 ? countOfFaults(count) : ""),
     failed: (fault) => page.recovery.failed(fault),
   });
+}
+
+/**
+ * @param {Page} page
+ * @returns {ProblemsView}
+ */
+export function problemsOf(page) {
+  /** @type {Record<string, import("./text/editor_view.js").EditorView>} */
+  const editors = { program: page.programEditor, board: page.boardEditor, tests: page.tests.editor, properties: page.explore.editor };
+  const problems = new ProblemsView({
+    goTo: (name, fault) => {
+      page.layout.showText(name);
+      editors[name].goToFault(fault);
+    },
+    counted: (count) => page.layout.dock.mark("problems", count > 0 ? String(count) : ""),
+  });
+  for (const [name, editor] of Object.entries(editors)) editor.listed = (faults) => problems.take(name, faults);
+  return problems;
 }
 
 /**
@@ -64,6 +84,7 @@ export function sourceOf(page) {
     check: (text) => page.bench.call("checkProgram", [text]),
     changed: (map, words) => {
       page.lookView.nameLines(map, words);
+      page.layout.status.showRom(map !== null, words);
       nameCharacters(page);
       page.breakpoints.keeper.takeMap(map, words);
     },
@@ -84,18 +105,34 @@ export function textsOf(page) {
     touch: () => current.touch(),
     keep: () => current.keep(),
     named: (boardText) => {
-      page.lookView.readFace(boardText);
-      drawSound(page, boardText);
+      page.readFace(boardText);
       current.takeTitle(titleOf(boardText, page.programEditor.text));
       page.checkSource();
     },
     source: () => page.bench.call("source", []),
+    isNoProgram: (text) => page.editors.isNoProgram(text),
     took: (seen, lines) => {
       page.layout.tabs.choose(seen);
       page.sessionsController.lines.offer(lines);
     },
     failed: (fault) => page.recovery.failed(fault),
   });
+}
+
+/**
+ * Puts a routine that scans the keys of a board behind the source, as one step that can be undone, and shows it.
+ * @param {Page} page
+ * @param {import("../core/bench/answers.js").Board} board
+ */
+export function insertKeyScan({ layout, programEditor }, board) {
+  const { text, editor } = programEditor;
+  const begun = text.trimEnd() === "" ? "" : `${text.trimEnd()}\n\n`;
+  const code = keyScanOf(board, text);
+  editor.edit([{ from: begun.trimEnd().length, to: text.length, insert: begun.slice(begun.trimEnd().length) + code }]);
+  layout.showText("program");
+  const first = begun.split("\n").length;
+  editor.select({ from: first, to: first + code.trimEnd().split("\n").length - 1 });
+  programEditor.tell(say.KEY_SCAN_INSERTED);
 }
 
 /**

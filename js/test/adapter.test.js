@@ -6,6 +6,7 @@ import { AdapterConnection } from "../core/adapter/adapter_connection.js";
 import { DebugAdapter } from "../core/adapter/debug_adapter.js";
 import { LONGEST_MESSAGE, MessageReader, framed } from "../core/server/framing.js";
 import { Engine } from "../core/engine/engine.js";
+import { CYCLES_OF_EYE } from "../core/engine/shining.js";
 import { dataOfPage } from "../node/page_parts.mjs";
 import { moduleOfPage } from "./page_session.js";
 
@@ -56,12 +57,13 @@ function served(files = FILES, sessions = {}) {
   const reader = new MessageReader();
   const told = [];
   const ended = [];
-  const connection = new AdapterConnection((bytes) => told.push(...reader.take(bytes).map(({ text }) => JSON.parse(text))));
+  const connection = new AdapterConnection((bytes) => told.push(...[...reader.take(bytes)].map(({ text }) => JSON.parse(text))));
   const host = {
     nameOf: (name, folder) => (name.startsWith("/") ? name : `${folder}/${name}`),
     beside: (name, other) => other.replace(/[^/]*$/, name),
     read: (name) => files[name] ?? null,
     isThere: (name) => name in files || name in sessions,
+    isInside: (name) => !/outside/.test(name),
     open: async (name) => sessions[name] || Promise.reject(new Error(`${name} is in use`)),
     make: async (name) => {
       sessions[name] = new FakeFile(engine.begin());
@@ -100,8 +102,9 @@ function served(files = FILES, sessions = {}) {
     return stops()[before];
   };
   const begin = async (args = LOCK, configure = async () => {}) => {
-    await ask("initialize", { adapterID: "mcs4", supportsInvalidatedEvent: true });
-    await ask("launch", args);
+    const { supportsInvalidatedEvent = true, ...given } = args;
+    await ask("initialize", { adapterID: "mcs4", supportsInvalidatedEvent });
+    await ask("launch", given);
     await configure();
     const before = stops().length;
     await ask("configurationDone");
@@ -163,7 +166,7 @@ test("breakpoints at lines, labels and addresses, with conditions, hits and note
   assert.deepEqual([plain.verified, plain.line, plain.instructionReference], [true, 31, "0x033"]);
   assert.deepEqual([moved.verified, moved.line], [true, 26]);
   assert.match(none.message, /No instruction follows on line 500/);
-  assert.match(unread.message, /there is no place foo/);
+  assert.match(unread.message, /^It stops at each arrival, because of an error: foo: no such place; places are .* \(column 1\)\.$/);
   assert.match(hits.message, /a hit count is a number/);
   const [other] = await set([{ line: 31 }], { path: "/lock/board.toml" });
   assert.match(other.message, /not in the program that is debugged, \/lock\/lock.asm/);
@@ -215,7 +218,21 @@ test("over, into, out, back and back again; goto; values are set", async () => {
   assert.equal((await ask("setExpression", { expression: "P2", value: "0x1F" })).value, "0x1F");
   assert.deepEqual([await evaluate("r4"), await evaluate("R5"), await evaluate("r5 = 15 and not cy 1")], ["0x1", "0xF", "true"]);
   assert.match((await answer("setExpression", { expression: "r4", value: "16" })).message, /r4 holds 0 to 15/);
-  assert.match((await answer("setExpression", { expression: "r4", value: "x y" })).message, /is no number/);
+  assert.match((await answer("setExpression", { expression: "r4", value: "x y" })).message, /^x: no such place/);
+  assert.match((await answer("setExpression", { expression: "r4", value: "r4 = 1" })).message, /is no number/);
+  assert.equal((await ask("setExpression", { expression: "r4", value: "R5 - 0b1110" })).value, "0x1");
+  const offered = async (text) => (await ask("completions", { text, column: text.length + 1 })).targets.map(({ label }) => label);
+  assert.deepEqual((await offered("press ")).slice(0, 3), ["1", "2", "3"]);
+  assert.deepEqual([await offered("r5 > 8 an"), await offered("lamp ope"), await offered("until r1")],
+    [["anew", "and"], ["open"], ["r1", "r10", "r11", "r12", "r13", "r14", "r15"]]);
+  assert.ok((await offered("back")).includes("back") && (await offered("di")).includes("display"));
+  assert.equal((await ask("setExpression", { expression: "RAM 0 0x12", value: "r4 + 1" })).value, "0x2");
+  assert.equal((await ask("setExpression", { expression: "key 5", value: "Down" })).value, "down");
+  assert.equal(await evaluate("key 5 down"), "true");
+  assert.equal((await ask("setExpression", { expression: "key 5", value: "up" })).value, "up");
+  const lamps = await answer("setExpression", { expression: "lamps", value: "1" });
+  assert.match(lamps.message, /^lamps cannot be set; places to set are acc, /);
+  assert.match(await evaluate("set R4 = r5 - 0xE", "repl"), /^ok \d+$/);
   assert.equal(await evaluate("P2", "hover"), "P2 = 1F: R4 1, R5 F");
   assert.equal(await evaluate("enter"), "0x053, line 57");
   assert.deepEqual([await evaluate("open"), await evaluate("lamp open"), await evaluate("alarm")], ["0x02, 2", "off", "0x05, 5"]);
@@ -236,12 +253,12 @@ test("scopes, variables, memory and disassembly", async () => {
   const keys = await variables(referenceOf("Keys"));
   assert.deepEqual(keys.map(({ name }) => name), ["1", "2", "3", "4", "5", "6", "7", "8", "9", "*", "0", "#"]);
   await ask("setVariable", { variablesReference: referenceOf("Keys"), name: "5", value: "down" });
-  assert.match(await evaluate("ports", "repl"), /keys 1.1/);
+  assert.match(await evaluate("state", "repl"), /keys 1.1/);
   const [bank] = await variables(referenceOf("RAM"));
   const [register] = await variables(bank.variablesReference);
   assert.equal((await variables(register.variablesReference)).length, 20);
   await ask("setVariable", { variablesReference: register.variablesReference, name: "0x03", value: "9" });
-  assert.deepEqual([await evaluate("ram.0.3"), await evaluate("ram 0 0x03")], ["0x9", "9"]);
+  assert.deepEqual([await evaluate("ram.0.3"), await evaluate("ram 0 0x03")], ["0x9", "0x9"]);
   const { dataId } = await ask("dataBreakpointInfo", { variablesReference: register.variablesReference, name: "0x03" });
   assert.equal((await ask("setDataBreakpoints", { breakpoints: [{ dataId }] })).breakpoints[0].verified, true);
   assert.equal(await evaluate("watches", "repl"), "watches 0.03");
@@ -251,11 +268,71 @@ test("scopes, variables, memory and disassembly", async () => {
   assert.match((await answer("writeMemory", { memoryReference: "0xFFF", data: "QUI=" })).message, /outside/);
   const asked = { memoryReference: "0x02C", instructionOffset: -1, instructionCount: 3 };
   const { instructions } = await ask("disassemble", asked);
-  const told = instructions.slice(1).map((each) => [each.address, each.instruction, each.instructionBytes, each.line]);
-  assert.deepEqual(told, [["0x02C", "LDM 13", "DD", 26], ["0x02D", "XCH R12", "BC", 27]]);
-  const outside = await ask("disassemble", { memoryReference: "0x000", instructionOffset: -3, instructionCount: 4 });
-  assert.deepEqual(outside.instructions.map(({ instruction }) => instruction), ["nothing", "nothing", "nothing", "JUN 0x02C"]);
+  const told = instructions.map((each) => [each.address, each.instruction, each.instructionBytes, each.line]);
+  assert.deepEqual(told, [["0x02B", "DB 0x0B", "0B", 24], ["0x02C", "LDM 13", "DD", 26], ["0x02D", "XCH R12", "BC", 27]]);
   assert.match((await answer("disassemble", { memoryReference: "0x1000", instructionCount: 4 })).message, /addresses are/);
+});
+
+test("each row of a disassembly has an address of its own, which a client can read", async () => {
+  const { begin, ask } = served();
+  await begin();
+  const rows = async (memoryReference, instructionOffset, instructionCount) => (
+    (await ask("disassemble", { memoryReference, instructionOffset, instructionCount })).instructions);
+  const before = await rows("0x000", -3, 4);
+  assert.deepEqual(before.map(({ address, instruction }) => `${address} ${instruction}`), ["0x000 JUN 0x02C"]);
+  const after = await rows("0xFFE", 0, 5);
+  assert.deepEqual(after.map(({ address }) => address), ["0xFFE", "0xFFF", "0x1000", "0x1001", "0x1002"]);
+  assert.deepEqual(after.map(({ presentationHint }) => presentationHint), [undefined, undefined, "invalid", "invalid", "invalid"]);
+  for (const [reference, offset, count] of [["0x000", -50, 100], ["0x02C", -200, 400], ["0xFF0", -5, 60], ["0x0FE", -20, 40]]) {
+    const addresses = (await rows(reference, offset, count)).map(({ address }) => Number(globalThis.BigInt(address)));
+    assert.deepEqual(addresses, [...new Set(addresses)].sort((one, other) => one - other));
+    assert.ok(addresses[0] >= 0 && addresses.includes(Number(reference)));
+  }
+});
+
+test("memory is written whole or not at all, and one wrong reference spoils no other breakpoint", async () => {
+  const { begin, ask, answer, evaluate } = served();
+  await begin();
+  const data = Buffer.from([9, 8, 255]).toString("base64");
+  assert.match((await answer("writeMemory", { memoryReference: "ram.0", data })).message, /^poke ram.0.2 255: the bench answered no 11$/);
+  assert.match(await evaluate("ram 0", "repl"), /^0\.0\.0 0000/m);
+  await ask("writeMemory", { memoryReference: "ram.0", data: Buffer.from([9, 8]).toString("base64") });
+  assert.match(await evaluate("ram 0", "repl"), /^0\.0\.0 9800/m);
+  const { breakpoints } = await ask("setInstructionBreakpoints", { breakpoints: [{ instructionReference: "0x02C" },
+    { instructionReference: "nowhere" }, { instructionReference: "0xFFF", offset: 9 }, { instructionReference: "0x02D" }] });
+  assert.deepEqual(breakpoints.map(({ verified }) => verified), [true, false, false, true]);
+  assert.match(breakpoints[1].message, /^nowhere is no label of the program/);
+});
+
+test("a step out without an open call is refused with words that are shown", async () => {
+  const { begin, answer, ask, move, stops, until } = served();
+  await begin();
+  const refused = await answer("stepOut", { threadId: 1 });
+  assert.deepEqual([refused.success, refused.message, refused.body.error.showUser], [false, "no call waits for its return here", true]);
+  await ask("continue", { threadId: 1 });
+  assert.equal((await answer("stepOut", { threadId: 1 })).success, false);
+  const before = stops().length;
+  await ask("pause", { threadId: 1 });
+  await until(() => stops().length > before);
+  assert.equal((await move("stepIn")).reason, "step");
+});
+
+test("a line in the console that changes the machine says where it is now", async () => {
+  for (const supportsInvalidatedEvent of [false, true]) {
+    const { begin, ask, stops, told } = served();
+    await begin({ ...LOCK, supportsInvalidatedEvent });
+    assert.equal(stops()[0].description, "Paused at 000 (line 16).");
+    const lines = [["poke pc 0x02C", /^Paused at 02C \(.*line 26\)\.$/], ["step", /^Paused at 02D \(/], ["reset", /^Paused at 000 /]];
+    for (const [line, wanted] of lines) {
+      const before = told.length;
+      await ask("evaluate", { expression: line, context: "repl" });
+      const { description } = await ask("exceptionInfo", { threadId: 1 });
+      assert.match(description, wanted);
+      const events = told.slice(before).filter(({ event }) => event === "stopped" || event === "invalidated");
+      const wantedEvent = supportsInvalidatedEvent ? "invalidated" : description;
+      assert.deepEqual(events.map(({ event, body }) => body.description || event), [wantedEvent]);
+    }
+  }
 });
 
 test("time that runs is paused; what is done meanwhile is done between pieces", async () => {
@@ -298,6 +375,9 @@ test("a client that draws the board is told it once, what changes, and moves key
   await move("continue");
   await until(({ event, body }) => event === "boardShown" && body.isRunning === false && news().length > 4);
   assert.ok(news().some(({ lamps }) => lamps === "*.."));
+  const seen = news().filter(({ shone }) => shone);
+  assert.ok(seen.some(({ shone }) => shone.cycles === CYCLES_OF_EYE && shone.lamps[0] === CYCLES_OF_EYE));
+  assert.equal(news().pop().shone, undefined);
   assert.equal(news().filter((each) => each.board).length, 0);
   await ask("restart", {});
   await until(({ event, body }) => event === "boardShown" && body.board);
@@ -329,7 +409,7 @@ test("a session file has at each stop what was done; its breakpoints are as they
   await begin({ ...LOCK, session: "/s.mcs" });
   const same = async () => assert.equal(engine.ask(file.now, "state\n").answers[0], await evaluate("state", "repl"));
   await ask("setBreakpoints", { source: SOURCE, breakpoints: [{ line: 83 }] });
-  assert.equal((await move("continue")).description, "Stopped at 02E (ready, line 28), at a breakpoint.");
+  assert.equal((await move("continue")).description, "Paused at 02E (ready, line 28), at a breakpoint.");
   await same();
   await move("continue");
   await same();

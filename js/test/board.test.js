@@ -4,10 +4,11 @@ import { readFileSync } from "node:fs";
 import { test } from "node:test";
 import { refusalOf } from "../core/bench/answers.js";
 import { LINE_NAMES, MOST, MOST_COLUMNS, RANGES, linesOf } from "../core/bench/board_form.js";
-import { readBoardText } from "../core/text/board_reader.js";
+import { BoardReader, readBoardText } from "../core/text/board_reader.js";
 import { faultsOfBoard } from "../core/text/board_words.js";
 import { completeBoard } from "../core/text/board_completion.js";
 import { commentAt } from "../core/text/text_fault.js";
+import { readProjectToml } from "../core/project/project_toml.js";
 import { begin } from "./page_session.js";
 import { boardTables, helpForBoard, tableAt } from "../core/text/text_help.js";
 
@@ -133,4 +134,36 @@ test("values are completed by the lines that the board has so far, and an empty 
   assert.ok(offered.includes('[[rom]]\nchip = 1\nport = "0000"') && offered.includes('[[lamp]]\nline = "rom0.0"'));
   const [first] = completeBoard([""], 0, 0, tables).list;
   assert.equal(first.text, '[[rom]]\nchip = 0\nport = "0000"');
+});
+
+/** How often a reader looks at a word of a text. */
+function looksAt(text) {
+  const reader = new BoardReader(text);
+  let looks = 0;
+  reader.words = new Proxy(reader.words, {
+    get: (words, at) => {
+      looks += 1;
+      return words[at];
+    },
+  });
+  reader.read();
+  return looks;
+}
+
+test("a text that is four times as long is read by four times as many looks at its words", () => {
+  for (const line of ["wire\n", "asm\n.\n", "x =\n", "x = [1,\n", "[[lamp]]\n", "a . b\n", "x = [\n", "{a = [1}\n"]) {
+    const [short, long] = [16384, 65536].map((size) => looksAt(line.repeat(size / line.length)));
+    assert.ok(short > 1000 && long < 4.5 * short, `${JSON.stringify(line)}: ${short} and ${long} looks`);
+  }
+});
+
+test("brackets and braces are open up to a number, and more of them are a fault in their line", () => {
+  const faultsOf = (text) => readBoardText(text).faults.map(({ line, words }) => `${line}: ${words}`);
+  const tooDeep = "more than 32 brackets and braces are open here";
+  assert.deepEqual(faultsOf(`\nx = ${"[".repeat(32)}${"]".repeat(32)}\n`), []);
+  assert.deepEqual(faultsOf(`\nx = ${"[".repeat(33)}${"]".repeat(33)}\ny = 1 2\n`), [`2: ${tooDeep}`, "3: the line has to end here"]);
+  assert.deepEqual(faultsOf(`x = ${"[\n".repeat(16300)}`).slice(0, 1), [`33: ${tooDeep}`]);
+  assert.deepEqual(faultsOf(`x = ${"{a = [".repeat(10000)}`), [`1: ${tooDeep}`]);
+  const [fault] = readProjectToml(`board = "b"\nprogram = ${"[".repeat(16300)}`).faults;
+  assert.deepEqual([fault.line, fault.words], [2, tooDeep]);
 });

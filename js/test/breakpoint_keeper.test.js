@@ -3,7 +3,7 @@ import assert from "node:assert/strict";
 import { test } from "node:test";
 import { BreakpointKeeper } from "../core/debug/breakpoint_keeper.js";
 import { isSoft } from "../core/debug/soft_breakpoints.js";
-import { marksOf } from "../core/machine/breakpoint_marks.js";
+import { detailsOfBreakpoint, marksOf } from "../core/machine/breakpoint_marks.js";
 import { SourceMap } from "../core/machine/source_map.js";
 import { hex } from "../core/bench/numbers.js";
 
@@ -30,9 +30,15 @@ function begin(kept, breaks = []) {
     tell: (words) => seen.told.push(words),
     failed: (fault) => seen.failed.push(fault),
   });
-  keeper.open(kept);
+  keeper.open("one", kept);
   keeper.take(bench.breaks);
   return { keeper, seen, bench };
+}
+/** The edit that puts one text in the place of another one. */
+function replacing(old, text) {
+  const removed = old.split("\n");
+  const to = { line: removed.length - 1, ch: removed[removed.length - 1].length };
+  return [{ from: { line: 0, ch: 0 }, to, text: text.split("\n"), removed, isWhole: true }];
 }
 const linesOf = ({ list }) => list.all.map(({ line, address }) => [line, address]);
 
@@ -91,6 +97,75 @@ test("lines break and unbreak that were typed are followed", async () => {
   assert.deepEqual(linesOf(keeper), []);
 });
 
+test("a line break that is typed while the bench is yet to have the list is followed, too", async () => {
+  const { keeper, bench } = begin([]);
+  keeper.takeMap(MAP, "");
+  // The bench has served the line after it was asked, and tells it before what it was asked is done.
+  const { calls } = keeper;
+  const { set } = calls;
+  calls.set = async (placed) => {
+    const faults = await set(placed);
+    bench.breaks = [...bench.breaks, "000"];
+    keeper.take(bench.breaks);
+    return faults;
+  };
+  keeper.toggleAddress(0x700);
+  calls.set = set;
+  await keeper.settled;
+  await keeper.settled;
+  assert.deepEqual([linesOf(keeper), bench.breaks], [[[2, 0], [0, 0x700]], ["000", "700"]]);
+});
+
+test("a change is sent before the bench has answered the one before, and the answers are taken in that order", async () => {
+  const { keeper } = begin([{ line: 2, address: 0 }]);
+  keeper.takeMap(MAP, "");
+  await keeper.settled;
+  const [{ id }] = keeper.list.all;
+  /** What the bench was sent, and how each is answered. */
+  const sent = [];
+  keeper.calls.set = ([{ condition }]) => new Promise((answer) => {
+    sent.push({ condition, answer: () => answer([[id, condition]]) });
+  });
+  keeper.change(id, { condition: "r4 = 7" });
+  keeper.change(id, { condition: "r4 = 8" });
+  assert.deepEqual(sent.map(({ condition }) => condition), ["r4 = 7", "r4 = 8"]);
+  for (const { answer } of sent.reverse()) answer();
+  await keeper.settled;
+  assert.deepEqual([...keeper.faults], [[id, "r4 = 8"]]);
+  assert.equal(keeper.isApplying, false);
+});
+
+test("words are kept as they are typed, and the bench gets them once they are entered", async () => {
+  const { keeper, seen } = begin([{ line: 2, address: 0, isOn: true, condition: "", from: 1, note: "" }, { line: 4, address: 2 }]);
+  keeper.takeMap(MAP, "");
+  await keeper.settled;
+  const [{ id }] = keeper.list.all;
+  const before = seen.set.length;
+  keeper.type(id, { condition: "r4 = " });
+  assert.deepEqual(keeper.kept.map(({ condition }) => condition), ["r4 = ", ""]);
+  assert.deepEqual([seen.set.length, seen.touched, keeper.list.all[0].condition], [before, 1, ""]);
+  keeper.type(id, { condition: "r4 = 7" });
+  keeper.change(id, { condition: "r4 = 7" });
+  keeper.change(id, { condition: "r4 = 8" });
+  await keeper.settled;
+  assert.deepEqual([keeper.kept[0].condition, keeper.list.all[0].condition], ["r4 = 8", "r4 = 8"]);
+  keeper.type(id, { note: "R4 is {r4}" });
+  keeper.open("two", undefined);
+  assert.deepEqual(keeper.kept, []);
+});
+
+test("a bench that fails is reported once, and the next list is sent", async () => {
+  const { keeper, seen, bench } = begin([]);
+  keeper.takeMap(MAP, "");
+  const { set } = keeper.calls;
+  keeper.calls.set = async () => { throw new Error("it died"); };
+  keeper.toggleAddress(0x700);
+  keeper.calls.set = set;
+  keeper.toggleAddress(0x701);
+  await keeper.settled;
+  assert.deepEqual([seen.failed.map(({ message }) => message), bench.breaks, keeper.isApplying], [["it died"], ["700", "701"], false]);
+});
+
 test("a text that is not what stands in ROM takes breakpoints, which stop once it is assembled", async () => {
   const { keeper, seen, bench } = begin([]);
   keeper.takeMap(null, "The source differs from ROM at 0x002, line 4: assemble it.");
@@ -128,7 +203,7 @@ test("what cannot be read is told; one that is off is kept; hits are counted", a
   keeper.count({ hits: [[second.id, 2], [second.id, 1]], notes: [], noted: 0 });
   assert.equal(second.hits, 3);
   assert.deepEqual([...marksOf(keeper.list.all, keeper.faults).lines.values()].map(({ mark, words }) => `${mark} ${words}`),
-    ["\u25CB breakpoint where no: it stops nothing: it is none", "\u25CB breakpoint: it is off"]);
+    ["\u25CF breakpoint where no: it stops at each arrival, because of an error: it is none", "\u25CB breakpoint: it is off"]);
   assert.deepEqual(keeper.list.kept[1], { line: 4, address: 2, isOn: false, condition: "", from: 1, note: "" });
 });
 
@@ -144,4 +219,89 @@ test("one more than the bench has is kept, and off", async () => {
   keeper.change(off.id, { isOn: true });
   await keeper.settled;
   assert.deepEqual([keeper.list.countOn, seen.set.pop().length], [32, 32]);
+});
+
+const KEPT = [{ line: 2, address: 0, isOn: true, condition: "r5 = 13", from: 3, note: "" },
+  { line: 4, address: 2, isOn: false, condition: "", from: 1, note: "acc is {acc}" }];
+const OTHERS = { short: "; a\n NOP", long: "; a\n; b\n NOP\n NOP\n; c" };
+
+for (const [what, other] of Object.entries(OTHERS)) {
+  test(`a text that is replaced by a ${what} one has its breakpoints and their words again once it is back`, async () => {
+    const { keeper } = begin(KEPT, ["000"]);
+    keeper.takeMap(MAP, "");
+    keeper.edited(replacing(TEXT, other));
+    keeper.takeMap(null, "assemble it");
+    // The other text is assembled: its lines are elsewhere.
+    keeper.takeMap(new SourceMap(["map lines 2 names 0", "line 1 000 0", "line 2 000 1"], OTHERS.short), "");
+    await keeper.settled;
+    keeper.edited(replacing(other, TEXT));
+    assert.deepEqual(keeper.list.kept, KEPT);
+    // And so it is where it goes on from one to the other.
+    keeper.removeAll();
+    keeper.toggleLine(1);
+    keeper.edited(replacing(TEXT, `${other}\n`));
+    keeper.edited(replacing(`${other}\n`, TEXT));
+    assert.deepEqual(linesOf(keeper).map(([line]) => line), [2]);
+  });
+}
+
+test("the bench has the breakpoints of a text that is back, whatever the source is found to be", async () => {
+  const { keeper, bench } = begin([{ line: 4, address: 2 }], ["002"]);
+  keeper.takeMap(MAP, "");
+  keeper.edited(replacing(TEXT, OTHERS.short));
+  await keeper.settled;
+  assert.deepEqual(bench.breaks, []);
+  keeper.edited(replacing(OTHERS.short, TEXT));
+  await keeper.settled;
+  assert.deepEqual([bench.breaks, linesOf(keeper)], [["002"], [[4, 2]]]);
+});
+
+test("what is done with breakpoints while another text is there stays", () => {
+  const { keeper } = begin(KEPT);
+  keeper.edited(replacing(TEXT, OTHERS.long));
+  keeper.change(keeper.list.atAddress(0).id, { condition: "r5 = 14" });
+  keeper.toggleAddress(0x700);
+  assert.deepEqual(linesOf(keeper), [[0, 0], [0, 2], [0, 0x700]]);
+  keeper.edited(replacing(OTHERS.long, TEXT));
+  assert.deepEqual(linesOf(keeper), [[2, 0], [4, 2], [0, 0x700]]);
+  assert.deepEqual(keeper.list.all.map(({ condition }) => condition), ["r5 = 14", "", ""]);
+});
+
+test("a session that is come back to brings them back, too", () => {
+  const { keeper } = begin(KEPT);
+  keeper.edited(replacing(TEXT, OTHERS.short));
+  const left = structuredClone(keeper.list.kept);
+  keeper.open("two", undefined);
+  keeper.open("one", left);
+  keeper.edited(replacing(OTHERS.short, TEXT));
+  assert.deepEqual(keeper.list.kept, KEPT);
+});
+
+test("no more come back than there can be on", () => {
+  const { keeper } = begin(Array.from({ length: 32 }, (_, at) => ({ line: at + 1, address: at })));
+  const many = Array.from({ length: 32 }, (_, at) => `line ${at}`).join("\n");
+  keeper.edited(replacing(many, ""));
+  for (let address = 0x100; address < 0x110; address++) keeper.toggleAddress(address);
+  keeper.edited(replacing("", many));
+  assert.deepEqual([keeper.list.countOn, keeper.list.all.length, keeper.list.all[31].isOn], [32, 48, true]);
+});
+
+test("words that are no others change nothing, but end what was typed", async () => {
+  const { keeper, seen } = begin([{ line: 2, condition: "r5 = 1" }]);
+  const [{ id }] = keeper.list.all;
+  const same = { condition: "r5 = 1", from: 1, note: "" };
+  keeper.change(id, same);
+  assert.equal(seen.touched, 0);
+  keeper.type(id, { ...same, condition: "r5 =" });
+  assert.deepEqual([keeper.kept[0].condition, seen.touched], ["r5 =", 1]);
+  keeper.change(id, same);
+  assert.deepEqual([keeper.kept[0].condition, seen.touched], ["r5 = 1", 2]);
+});
+
+test("what a breakpoint does is told in words; of one that always stops there is nothing to tell", () => {
+  const plain = { condition: "", from: 1, note: " " };
+  assert.equal(detailsOfBreakpoint(plain), "");
+  assert.equal(detailsOfBreakpoint({ ...plain, condition: " r9 = 9 ", from: 2 }), "where r9 = 9 from hit 2 on");
+  assert.equal(detailsOfBreakpoint({ ...plain, note: "R9 is {r9}" }), 'logs "R9 is {r9}" and continues');
+  assert.equal(detailsOfBreakpoint({ ...plain, from: 3, note: "x" }), 'from hit 3 on: logs "x" and continues');
 });

@@ -184,6 +184,17 @@ test("a lamp that stands still is full at once, and fades when it goes out; one 
   assert.deepEqual(seen.isOn, [false]);
 });
 
+test("a lamp that rested within a frame stands still once it rests for twice as long", () => {
+  const { seen, pass } = oneLamp();
+  // 2 ms, 8 ms and 10 ms of 20 ms.
+  pass(0.5, 20, { first: 10, longest: 40, rest: 50 });
+  assert.ok(Math.abs(seen.lamps[0] - 0.5 * (1 - Math.exp(-20 / PERSISTENCE))) < 1e-9, String(seen.lamps[0]));
+  pass(1, 5);
+  assert.ok(seen.lamps[0] < 0.5, String(seen.lamps[0]));
+  pass(1, 5);
+  assert.deepEqual(seen.lamps, [1]);
+});
+
 test("what comes and goes more often than an eye follows never stands still", () => {
   const { seen, pass } = oneLamp();
   // 12 ms dark and 8 ms lit, looked at each 4 ms.

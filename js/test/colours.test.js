@@ -4,7 +4,7 @@ import assert from "node:assert/strict";
 import { test } from "node:test";
 import { assemblyColours } from "../page/text/assembly_colours.js";
 import { boardColours } from "../page/text/board_colours.js";
-import { COLOURS } from "../page/text/test_colours.js";
+import { COLOURS } from "../core/text/test_colours.js";
 
 /** The words of a line with their colours. */
 function told(line, colours) {

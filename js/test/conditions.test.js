@@ -3,8 +3,8 @@ import assert from "node:assert/strict";
 import { before, test } from "node:test";
 import { readBoard } from "../core/bench/answers.js";
 import { Face } from "../core/board/face.js";
-import { MOST_PLACES, conditionOf, testConditionOf } from "../core/debug/conditions.js";
-import { durationOf, wholeDuration } from "../core/debug/durations.js";
+import { MOST_PLACES, conditionOf, testConditionOf } from "../core/conditions/conditions.js";
+import { durationOf, wholeDuration } from "../core/conditions/durations.js";
 import { SourceMap } from "../core/machine/source_map.js";
 import { Answers, valuesOf } from "../core/engine/tracing.js";
 import { begin } from "./page_session.js";
@@ -24,7 +24,7 @@ async function bench(lines = "") {
   return { calls, names: { face: new Face(TEXT), board, map: new SourceMap(calls.ask(`map\n${PROGRAM}.\n`), PROGRAM) } };
 }
 
-/** @type {import("../core/debug/conditions.js").Names} */
+/** @type {import("../core/conditions/conditions.js").Names} */
 let names;
 before(async () => {
   ({ names } = await bench());
@@ -46,24 +46,26 @@ test("conditions hold by what the bench tells of their places", async () => {
     "pc = 11", "pc > 10",
     "not at start", "not not @end", "lamps locked alarm", "lamps ..* .*", "lamps ???.?", "lamp locked on", "lamp 3 off",
     "not lamp open on",
-    "display 2 locked alarm", "not display 2", "ram.0.0 4", "ram.0.0x00 4 0 0", "ram.0.0x00 = 4 0", "st.0.0.0 0", "ram0.0 out 4",
+    "display 2 locked alarm", "display 2", 'display "2"', "display = 2", "display != 3", "not display 2 locked",
+    "ram.0.0 4", "ram.0.0x00 4 0 0", "ram.0.0x00 = 4 0", "st.0.0.0 0", "ram0.0 out 4",
     "ram0.0.2 1",
     "ram0.1 out 1", "ram0.1 out = 1", "rom0 out 0", "rom1 in 8", "rom1 out 0", "rom1.0 0", "rom0 in 0", "chain0 0000000000",
     "chain0 00???? ????",
-    "chain0.5 0", "acc 1 and r2 4 and lamp alarm on", "pc @end"];
+    "chain0 ?????00000", "chain0 = 0?????????", "not chain0 != 0000000000", "chain0.5 0", "acc 1 and r2 4 and lamp alarm on", "pc @end"];
   for (const text of holding) {
     const condition = read(text);
     const values = valuesNow(calls, condition);
     assert.equal(condition.holds(values), true, `${text}: ${condition.places} ${values}`);
     assert.equal(condition.tell(values), "", text);
   }
-  for (const text of ["acc 2", "r2 < 4", "r2 <= 3", "@start", "lamps locked", "lamps none", "display 2", "ram.0.0 4 1",
+  for (const text of ["acc 2", "r2 < 4", "r2 <= 3", "@start", "lamps locked", "lamps none", "display 2 locked", "display != 2",
+    "ram.0.0 4 1",
     "acc 1 and r2 5", "not pc 11"]) {
     assert.equal(read(text).holds(valuesNow(calls, read(text))), false, text);
   }
 });
 
-test("what does not hold is told as tools/test tells it", async () => {
+test("what does not hold is told as mcs4 test tells it", async () => {
   const { calls } = await bench("run 19\n");
   const told = (text) => read(text).tell(valuesNow(calls, read(text)));
   assert.equal(told("acc 2"), "acc is 1, and has to be 2");
@@ -71,7 +73,7 @@ test("what does not hold is told as tools/test tells it", async () => {
   assert.equal(told("@start"), "pc is 00B (end), and has to be @start");
   assert.equal(told("acc 1 and lamp alarm off"), "lamp alarm is on, and has to be off");
   assert.equal(told("lamps none"), "lamps are ..*.*, and have to be ??...; lit: locked alarm");
-  assert.equal(told("ram.0.0 4 1"), "ram.0.0 is 4 0, and has to be 4 1");
+  assert.equal(told("ram.0.0 4 1"), "ram.0.0x00 is 4 0, and has to be 4 1");
   assert.equal(told("r2 < 4"), "r2 is 4, and has to be < 4");
 });
 
@@ -92,25 +94,30 @@ test("what cannot be read is told, with what the board has", () => {
     ["lamp 5 on", "the board has no lamp 5; it has: locked open alarm"],
     ["lamp 3", "it is written as `lamp NAME on` or `lamp NAME off`"], ["lamps *.", "a pattern of 2 lamps; the board has 5"],
     ["lamps locked purple", "the board has no lamp purple; it has: locked open alarm"],
-    ["r16 3", "the registers are r0 to r15, not r16"], ["r9 16", "r9 holds 0 to 15, not 16"], ["cy = 2", "cy holds 0 to 1, not 2"],
-    ["r9", "it is written as `r9 VALUE`"], ["r9 =", "it is written as `r9 VALUE`"], ["r9 1 2", "r9 is one value"],
-    ["r9 x", "r9 holds 0 to 15, not x"],
+    ["r16 3", "r16: no such place; the registers are r0 to r15"],
+    ["r9 16", "r9 holds 0 to 15, not 16"], ["cy = 2", "cy holds 0 to 1, not 2"],
+    ["r9", "r9: a comparison is missing, as in: r9 = 4"], ["r9 =", "a value is missing after ="], ["r9 1 2", "r9 is one value"],
+    ["r9 x", "x: no such place; places are acc, "], ["cy @end", "cy holds 0 to 1, not @end (11)"],
     ["@away", "the program has no label away"], ["at limit", "the program has no label limit"], ["at", "it is written as `at LABEL`"],
     ["display", "it is written as `display TEXT`, as in: display -18"],
-    ["lamps > 3", "the board has no lamp >; it has: locked open alarm"],
+    ["lamps > x", "x: no such place; "], ["lamps = 32", "lamps holds 0 to 31, not 32"],
     ["rom2 in 3", "the board has no ROM 2"], ["rom1 at 3", "it is written as `rom1 in VALUE` or `rom1 out VALUE`, 0 to 15"],
-    ["rom1.4 1", "it is written as `romC.K 0` or `romC.K 1`, K 0 to 3"], ["ram0.2 out 1", "the board has no RAM chip 0.2"],
-    ["ram0.0.1 2", "it is written as `ramB.C.K 0` or `ramB.C.K 1`, K 0 to 3"], ["chain1.0 1", "the board has no chain 1"],
+    ["rom1.4 1", "rom1.4: no such place; ports are rom1 and ram0.1, their lines rom1.0 to rom1.3"],
+    ["ram0.2 out 1", "the board has no RAM chip 0.2"],
+    ["ram0.0.1 2", "ram0.0.1 holds 0 to 1, not 2"], ["chain1.0 1", "the board has no chain1.0"], ["chain1 01", "the board has no chain 1"],
     ["chain0 01", "chain 0 has 10 bits, each 0, 1, or ? for any"], ["ram.1.0 1", "the board has no RAM chip for ram.1.0"],
     ["ram.0.127 1 2", "the board has no RAM chip for the last of these characters"],
-    ["ram.8.0 1", "there is no place ram.8.0; a place of RAM is ram.BANK.SRC or st.BANK.REGISTER.NUMBER"],
-    ["foo 1", "there is no place foo; places are acc, cy, pc, dcl, test, r0 to r15, ram.B.S, st.B.H.K"],
-    ["test 1", "no run changes test, and no trace shows it: it is for the lines of a test"],
+    ["ram.8.0 1", "ram.8.0: no such place; a place of RAM is ram.BANK.SRC or st.BANK.REGISTER.NUMBER"],
+    ["display < 5", "it is written as `display TEXT`"], ["display != ", "it is written as `display TEXT`"],
+    ["foo 1", "foo: no such place; places are acc, cy, pc, dcl, test, r0 to r15, p0 to p7, ram.B.S, st.B.H.K"],
     ["cycles at most 3", "no run changes cycles, and no trace shows it: it is for the lines of a test"],
-    ["r2 < 4 5", "< stands between a place that holds one number, and a number"],
-    ["ram.0.0 4 < 5", "< stands between a place that holds one number, and a number"], ["= 3", "there is no place 3"],
+    ["r2 < 4 5", "5: a condition ends before this; join two by and, or"],
+    ["ram.0.0 4 < 5", "<: a condition ends before this; join two by and, or"], ["= 3", "a value is missing before ="],
   ];
-  for (const [text, fault] of faults) assert.ok(conditionOf(text, names).fault.startsWith(fault), text);
+  for (const [text, fault] of faults) {
+    const told = conditionOf(text, names).fault;
+    assert.ok(told.startsWith(fault), `${text}: ${told}`);
+  }
   const bare = { ...names, face: new Face(WIRED) };
   assert.equal(conditionOf("lamp red on", bare).fault, "the board has no lamp red; its text names no lamps (`# lamp 0: NAME ..`)");
   assert.equal(conditionOf("display 3", bare).fault, "the board's text names no display (`# display 0: 4 digits`)");
@@ -119,18 +126,20 @@ test("what cannot be read is told, with what the board has", () => {
   assert.match(conditionOf("printed 3", printing).fault, /^what is printed comes line by line/);
 });
 
-test("the lines of a test have what a trace does not tell, and no words of their own", () => {
-  const ofTest = (text) => testConditionOf(text.split(" "), names);
+test("the lines of a test ask for what no trace shows as well", () => {
+  const ofTest = (text) => testConditionOf(text, names);
   const { condition } = ofTest("test 1");
   assert.deepEqual([condition.places, condition.needs], [[], ["test"]]);
-  const beside = { test: "1", owed: "1", cycles: 538 };
+  const beside = { test: "1", owed: "1", keys: "", cycles: 538, seen: [], printed: [] };
+  const both = ofTest("r9 = 3 and (test = 1 or cycles at most 5)").condition;
+  assert.deepEqual([both.places, both.needs], [["r9"], ["cycles", "test"]]);
+  const held = [both.holds(["3"], beside), both.holds(["3"], { ...beside, test: "0" }), both.holds(["4"], beside)];
+  assert.deepEqual(held, [true, false, false]);
   assert.equal(condition.holds([], beside), true);
   assert.equal(ofTest("cycles at most 6 ms").condition.holds([], beside), true);
   assert.equal(ofTest("cycles 537").condition.tell([], beside), "cycles are 538, and have to be 537");
   assert.equal(ofTest("@end").condition.tell(["00B"], beside), "pc is 00B (end), within an instruction, and has to be @end");
   assert.equal(ofTest("cycles").fault, "it is written as `cycles TIME`, `cycles at most TIME` or `cycles at least TIME`");
-  assert.equal(ofTest("r9 = 3").fault, "r9 is one value");
-  assert.equal(ofTest("at end").fault, "there is no place at; places are acc, cy, pc, dcl, test, r0 to r15, ram.B.S, st.B.H.K");
 });
 
 test("times", () => {

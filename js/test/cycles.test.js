@@ -4,7 +4,7 @@ import { CycleCount, acceptedOf } from "../core/engine/accepted.js";
 import { Cycles, wordsOfCycles } from "../core/time/cycles.js";
 import { readBoard } from "../core/bench/answers.js";
 import { readInputs } from "../core/bench/inputs.js";
-import { placeOf } from "../core/bench/places.js";
+import { placeOf } from "../core/conditions/places.js";
 import { SourceMap } from "../core/machine/source_map.js";
 import { wordsOfHalt, wordsOfMove, wordsOfAddress, wordsOfStop } from "../words/stops.js";
 
@@ -59,11 +59,11 @@ test("places by their names", () => {
   };
   assert.deepEqual([
     told("acc", "6"), told("R15", "9"), told("ram.0.63", "C"), told("st.0.1.2", "2"), told("ram0.0.3", "1"), told("rom1.2", "0"),
-    told("rom1", "1", "0", "1", "1"), told("ram0.0", "0", "1", "0", "0"), told("chain0.19", "1"), told("lamp1", "1"), told("lamps", ".*"),
+    told("rom1", "D"), told("ram0.0", "2"), told("chain0.19", "1"), told("lamp1", "1"), told("lamps", ".*"),
   ], [
     ["acc", "acc", "6"], ["r15", "r15", "9"], ["ram.0.0x3F", "ram.0.0x3F", "C"], ["st.0.1.2", "st.0.1.2", "2"],
-    ["ram0.0.3", "ram0.0.3", "1"], ["rom1.2", "rom1.2", "0"], ["rom1", "rom1.0 rom1.1 rom1.2 rom1.3", "D"],
-    ["ram0.0", "ram0.0.0 ram0.0.1 ram0.0.2 ram0.0.3", "2"], ["chain0.19", "chain0.19", "1"], ["lamp 1", "chain0.5", "*"],
+    ["ram0.0.3", "ram0.0.3", "1"], ["rom1.2", "rom1.2", "0"], ["rom1", "rom1", "D"],
+    ["ram0.0", "ram0.0", "2"], ["chain0.19", "chain0.19", "1"], ["lamp 1", "chain0.5", "*"],
     ["lamps", "lamps", ".*"],
   ]);
   const lacking = ["ram.1.0", "ram.0.0x40", "st.0.4.0", "rom3.1", "rom0", "ram0.1", "ram1.0.0", "chain0.20", "chain1.0", "lamp 2"];
@@ -77,16 +77,16 @@ test("why time stopped, in words", () => {
   const reached = { cycles: 538, why: "goal", returns: false };
   assert.equal(wordsOfStop({ kind: "over" }, { ...reached, returns: true }, "009"), "Returned to 009, after 538 cycles, 5.810 ms.");
   assert.equal(wordsOfStop({ kind: "over" }, { ...reached, cycles: 1 }, "00D"), "At 00D, after 1 cycle, 0.011 ms.");
-  assert.equal(wordsOfStop({ kind: "here", address: 20 }, reached, "014"), "Stopped at 014, as wanted, after 538 cycles, 5.810 ms.");
+  assert.equal(wordsOfStop({ kind: "here", address: 20 }, reached, "014"), "Paused at 014, as wanted, after 538 cycles, 5.810 ms.");
   assert.equal(wordsOfStop({ kind: "out" }, { cycles: 4, why: "break", returns: true }, "016"),
-    "Stopped at 016, at a breakpoint, after 4 cycles, 0.043 ms; the return from the subroutine was not reached.");
-  assert.equal(wordsOfStop(null, { cycles: 4, why: "break", returns: false }, "016"), "Stopped at 016, at a breakpoint.");
+    "Paused at 016, at a breakpoint, after 4 cycles, 0.043 ms; the return from the subroutine was not reached.");
+  assert.equal(wordsOfStop(null, { cycles: 4, why: "break", returns: false }, "016"), "Paused at 016, at a breakpoint.");
   assert.equal(wordsOfStop({ kind: "change", place: "rom3" }, { cycles: 0, why: "lacks", returns: false }, "000"),
     "Nothing was done: this board has no rom3.");
-  assert.equal(wordsOfMove({ kind: "change", place: "r4" }), "Time runs, up to a change of r4.");
+  assert.equal(wordsOfMove({ kind: "change", place: "r4" }), "Running to a change of r4.");
   assert.equal(wordsOfHalt({ kind: "out" }, 4, "016"),
-    "Stopped at 016, after 4 cycles, 0.043 ms; the return from the subroutine was not reached.");
-  assert.equal(wordsOfHalt(null, 4, "016"), "Stopped at 016.");
+    "Paused at 016, after 4 cycles, 0.043 ms; the return from the subroutine was not reached.");
+  assert.equal(wordsOfHalt(null, 4, "016"), "Paused at 016.");
   const map = new SourceMap(["map lines 2 names 1", "line 1 000 2", "line 2 002 1", "name go 000"], "go: JUN go\nNOP\n");
   assert.deepEqual(["000", "002", "003"].map((at) => wordsOfAddress(at, map)), ["000 (go, line 1)", "002 (go + 2, line 2)", "003"]);
 });

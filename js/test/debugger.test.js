@@ -56,7 +56,7 @@ test("a session in memory: breakpoints at lines, moves, values, back and forward
   assert.deepEqual([moved, faults], [["Line 5 puts no bytes into ROM: its breakpoint is at the next instruction, line 6."], []]);
   const stop = await session.go();
   assert.deepEqual([stop.why, stop.id, session.line], ["break", 1, LINE.increment]);
-  assert.equal(stop.words, "Stopped at 005 (turn + 2, line 6), at a breakpoint.");
+  assert.equal(stop.words, "Paused at 005 (turn + 2, line 6), at a breakpoint.");
   assert.equal((await session.into()).words, "At 006 (turn + 3, line 7), after 1 cycle, 0.011 ms.");
   assert.deepEqual(session.values(["r4", "lamps", "acc", "nothing"]), ["1", "..", "0", ""]);
   assert.equal((await session.go({ kind: "over" })).words, "At 003 (turn, line 4), after 2 cycles, 0.022 ms.");
@@ -122,18 +122,34 @@ test("conditional breakpoints stop where one of the bench does, whatever the fra
   }
 });
 
-test("a breakpoint stops a move; what cannot be read is told, and stops nothing", async () => {
+test("a breakpoint stops a move; one that cannot be read says why, and stops at each arrival until it is mended", async () => {
   const session = open();
   session.breakpoints.add({ line: LINE.write, condition: "r4 = 0" });
   const broken = session.breakpoints.add({ line: LINE.increment, condition: "r44 = 0" });
   const lacking = session.breakpoints.add({ line: LINE.wait, note: "{rom3}" });
   const { faults } = await session.applyBreakpoints();
-  assert.deepEqual(faults, [[broken.id, "the registers are r0 to r15, not r44"],
-    [lacking.id, "the note asks for {rom3}, which this board lacks"]]);
+  assert.deepEqual(faults, [[broken.id, "r44: no such place; the registers are r0 to r15 (column 1)"],
+    [lacking.id, "the note asks for {rom3}: the board has no ROM 3 (column 2)"]]);
   await session.go({ kind: "here", address: 3 });
   const stop = await session.go({ kind: "over" });
   assert.deepEqual([stop.why, session.line], ["break", LINE.write]);
-  assert.match(stop.words, /^Stopped at 009 \(show \+ 1, line 9\), at a breakpoint, where r4 = 0, after 3 cycles, .*; the return .* not/);
+  const stops = [];
+  for (let more = 0; more < 4; more++) stops.push([(await session.go()).id, session.line]);
+  assert.deepEqual(stops, [[lacking.id, LINE.wait], [lacking.id, LINE.wait], [lacking.id, LINE.wait], [lacking.id, LINE.wait]]);
+  session.breakpoints.change(lacking.id, { note: "{rom0}" });
+  session.breakpoints.change(broken.id, { condition: "A = 1" });
+  await session.applyBreakpoints();
+  const unsure = await session.go();
+  assert.deepEqual([unsure.id, session.line], [broken.id, LINE.increment]);
+  assert.equal(unsure.words, "Paused at 005 (turn + 2, line 6), at a breakpoint that has an error, "
+    + "A: no such place; the accumulator is acc (column 1).");
+  assert.equal((await session.go()).id, broken.id);
+  session.breakpoints.change(broken.id, { condition: "R4 == 0b11 || r4 >= 0xF" });
+  await session.applyBreakpoints();
+  const mended = [];
+  for (let more = 0; more < 3; more++) mended.push([(await session.go()).id, session.values(["r4"])[0]]);
+  assert.deepEqual(mended, [[broken.id, "3"], [broken.id, "F"], [1, "0"]]);
+  assert.match(stop.words, /^Paused at 009 \(show \+ 1, line 9\), at a breakpoint, where r4 = 0, after 3 cycles, .*; the return .* not/);
 });
 
 test("breakpoints are no part of the past: going back leaves them, and what comes after is done again as it was", async () => {
@@ -273,10 +289,11 @@ test("a program that is assembled anew takes its breakpoints along", async () =>
 });
 
 test("a pause ends a run without a stop", async () => {
-  const session = open("x: JUN x\n");
+  const session = open("JMS x\nx: JUN x\n");
+  await session.go({ kind: "count", count: 1 });
   const stop = await session.go({ kind: "out" }, async (done) => done < 1000000);
   assert.equal(stop.why, "pause");
-  assert.match(stop.words, /^Stopped at 000 \(x, line 1\), after .*; the return from the subroutine was not reached\.$/);
+  assert.match(stop.words, /^Paused at 002 \(x, line 2\), after .*; the return from the subroutine was not reached\.$/);
 });
 
 test("notes tell lamps by their names and ports as digits", () => {
@@ -284,8 +301,8 @@ test("notes tell lamps by their names and ports as digits", () => {
   const lamps = [0, 1].flatMap((line) => ["[[lamp]]", `line = "ram0.0.${line}"`]);
   const board = readBoard(["board", "[[rom]]", "chip = 0", 'port = "0000"', ...lamps]);
   const { note, fault } = noteOf("{one}{two} rom {rom0} {", { board, face, map: null });
-  assert.deepEqual([fault, note.places.length], ["", 6]);
-  assert.equal(note.words(["1", "0", "1", "0", "0", "1"]), "*. rom 9 {");
+  assert.deepEqual([fault, note.places.length], ["", 3]);
+  assert.equal(note.words(["1", "0", "9"]), "*. rom 9 {");
 });
 
 const edited = (lines, edit) => {
@@ -320,14 +337,18 @@ test("a line that is taken out takes its breakpoint along, and brings it back wh
 });
 
 test("where all of the text is another one, breakpoints are where their addresses are", () => {
-  const list = new BreakpointList([{ line: 2, address: 4 }, { line: 3 }]);
-  list.edit({ from: at(0), to: at(3), text: ["new", "lines", "here", "x"], removed: ["a", "b", "c", "d"] });
-  assert.deepEqual(list.all.map(({ line, address }) => [line, address]), [[3, -1], [0, 4]]);
+  const [removed, text] = [["a", "b", "c", "d"], ["new", "lines", "here", "x"]];
+  // Both end with a line's end, or neither; but where the lines below stay it is not all of the text.
+  for (const [end, isWhole, lines] of [[[], true, [[3, -1], [0, 4]]], [[""], true, [[3, -1], [0, 4]]], [[], false, [[2, 4], [3, -1]]]]) {
+    const list = new BreakpointList([{ line: 2, address: 4 }, { line: 3 }]);
+    list.edit({ from: at(0), to: at(3 + end.length), text: [...text, ...end], removed: [...removed, ...end], isWhole });
+    assert.deepEqual(list.all.map(({ line, address }) => [line, address]), lines);
+  }
 });
 
 test("where a breakpoint has a condition or a count, the words of the stop have it", async () => {
   const session = open();
   session.breakpoints.add({ line: LINE.write, condition: "r4 = 2", from: 2 });
   await session.applyBreakpoints();
-  assert.match((await session.go()).words, /^Stopped at 009 \(show \+ 1, line 9\), at a breakpoint, where r4 = 2, at hit 2\.$/);
+  assert.match((await session.go()).words, /^Paused at 009 \(show \+ 1, line 9\), at a breakpoint, where r4 = 2, at hit 2\.$/);
 });

@@ -1,6 +1,5 @@
 // Boards that are drawn: each act on the boards of the examples, with what the module of the bench says of the text that comes of it.
 import assert from "node:assert/strict";
-import { readFileSync } from "node:fs";
 import { test } from "node:test";
 import { readBoard } from "../core/bench/answers.js";
 import { Face, faceFaults } from "../core/board/face.js";
@@ -13,10 +12,9 @@ import { edited, inverseOf } from "../core/drawing/text_edits.js";
 import { headOf } from "../core/board/face_words.js";
 import { sentText } from "../core/text/text_fault.js";
 import { Engine } from "../core/engine/engine.js";
+import { examplesOfPage, moduleOfPage } from "./page_session.js";
 
-const page = readFileSync(new URL("../../page/fethsaim.html", import.meta.url), "utf8");
-const partOf = (id) => new RegExp(`id="${id}">([^<]*)<`).exec(page)[1];
-const loading = Engine.load(Buffer.from(partOf("module"), "base64"));
+const loading = Engine.load(moduleOfPage);
 /** @type {Engine} */
 let engine;
 /** A session without a board. */
@@ -28,7 +26,7 @@ const onBench = (name, act) => test(name, async () => {
   empty = empty || engine.begin();
   act();
 });
-const examples = JSON.parse(partOf("data")).examples.map(({ name, board }) => ({ name, text: board })).filter(({ text }) => text);
+const examples = examplesOfPage.map(({ name, board }) => ({ name, text: board })).filter(({ text }) => text);
 
 /** Boards as people write them otherwise. */
 const OTHERS = [

@@ -1,7 +1,6 @@
 // What is chosen and begun on a board that is drawn, and what comes of it in the text, with the module of the bench and a text that can be
 // undone.
 import assert from "node:assert/strict";
-import { readFileSync } from "node:fs";
 import { test } from "node:test";
 import { readBoard } from "../core/bench/answers.js";
 import { Face } from "../core/board/face.js";
@@ -14,11 +13,10 @@ import { lampLabels } from "../core/drawing/lamp_labels.js";
 import { MovedParts } from "../core/drawing/moved_parts.js";
 import { edited, inverseOf } from "../core/drawing/text_edits.js";
 import { Engine } from "../core/engine/engine.js";
+import { examplesOfPage, moduleOfPage } from "./page_session.js";
 
-const page = readFileSync(new URL("../../page/fethsaim.html", import.meta.url), "utf8");
-const partOf = (id) => new RegExp(`id="${id}">([^<]*)<`).exec(page)[1];
-const loading = Engine.load(Buffer.from(partOf("module"), "base64"));
-const { examples } = JSON.parse(partOf("data"));
+const loading = Engine.load(moduleOfPage);
+const examples = examplesOfPage;
 const boardOf = (wanted) => examples.find(({ name }) => name === wanted).board;
 
 /** A board that is drawn beside a text, as the page has it. */

@@ -9,11 +9,10 @@ import { Coverage } from "../core/explore/coverage.js";
 import { markOf, wordsOfEnd, wordsOfFigures, wordsOfProperty } from "../words/explored.js";
 import { Explorer } from "../core/explore/explorer.js";
 import { Exploring, readToExplore } from "../core/explore/exploring.js";
-import { partsOf } from "../core/explore/find_test.js";
 import { KeptFiles } from "../core/explore/kept_files.js";
 import { Looks } from "../core/explore/looks.js";
 import { Places, Told } from "../core/explore/places.js";
-import { joinReports, tapOf, testsOfReport } from "../core/explore/report.js";
+import { isRight, joinReports, tapOf, testsOfReport } from "../core/explore/report.js";
 import { Search } from "../core/explore/search.js";
 import { subjectOf } from "../core/explore/subject.js";
 import { chooseStep, downAfter, downAtFirst, isSound, randomFrom, sinceAfter, sinceAtFirst } from "../core/explore/walks.js";
@@ -100,7 +99,7 @@ const testOf = async (text, seconds) => (await explore(text, seconds)).found[0].
 
 test("what is wrong with a text of properties is told with what there is", () => {
   assert.deepEqual(faultsOf("press A E\n"), ["1: the board has no key E; it has: A B C D WALK"]);
-  assert.deepEqual(faultsOf("# a comment\n\nnever lamp purple on\n"), ["3: the board has no lamp purple; it has: on"]);
+  assert.deepEqual(faultsOf("# a comment\n\nnever lamp purple on\n"), ["3: the board has no lamp purple; it has: on (column 7)"]);
   assert.deepEqual(faultsOf("every 20 ms @there"), ["1: the program has no label there"]);
   assert.match(faultsOf("wait 0 to 5")[0], /^1: it is written as `wait TIME to TIME`/);
   assert.match(faultsOf("wait 1 to 2 s")[0], /^1: it is written as `wait TIME to TIME`/);
@@ -134,7 +133,7 @@ test("each form of a property is found broken, or reached, with a test that says
   assert.match(await testOf(`${keys}after press A within 50 @dark`), /press A\n {2}until @dark within 50\n$/);
   assert.match(await testOf(`${keys}@dark at most once for each press`), /press B\n {2}run \d+\n {2}expect not @dark\n$/);
   assert.match(await testOf(`${keys}every 100 @dark`), /^test every 100 @dark\n {2}until @dark within 100\n$/);
-  assert.match(await testOf(`${keys}reach lamp on on and r7 = 0`), /one of: lamp on on and r7 = 0\n[^]*expect lamp on on\n$/);
+  assert.match(await testOf(`${keys}reach lamp on on and r7 = 0`), /\n {2}expect lamp on on and r7 = 0\n$/);
   assert.match(await testOf(`${keys}reach @dark`), /press B\n {2}run \d+\n {2}expect @dark\n$/);
   assert.match(await testOf(`${keys}reach line 22`), /press B\n {2}run \d+\n {2}expect pc 0x01B\n$/);
 });
@@ -184,6 +183,21 @@ test("a model says what the display has to show, and what is wrong with it is to
   const wrong = new CampaignRun(shown, campaign, 1, () => true, PATIENCE, () => ({ shown: [], fault: "it died" }));
   await wrong.goOn(20);
   assert.equal(wrong.fault, "it died");
+});
+
+test("a model whose command may not be run is reported as not run, and is not right", () => {
+  const told = (text, isSkipped) => ({ text, line: 2, isGoal: false, isSkipped, applied: true, states: 0, chains: 0, found: null });
+  const report = (isSkipped) => ({
+    form: "explore 1", names: { properties: "x.props" }, sums: "",
+    properties: [told("model ./says", isSkipped), told("never lamp 1 on", false)],
+    seeds: [1], steps: 3, states: 2, seconds: 0, covered: "", instructions: [], isStopped: false,
+  });
+  const [plan, ...lines] = tapOf(report(true)).split("\n").slice(1);
+  assert.equal(plan, "1..1");
+  assert.deepEqual(lines.filter((line) => /ok|run:/.test(line)), ["ok 1 - never lamp 1 on # 3 steps, 2 states",
+    "# not run: model ./says (x.props:2): it runs a command of your shell; --allow-model allows it"]);
+  assert.deepEqual(report(true).properties.map(isRight), [false, true]);
+  assert.deepEqual([[true, true], [true, false]].map((all) => joinReports(all.map(report)).properties[0].isSkipped), [true, false]);
 });
 
 test("the same seed makes the same walks", () => {
@@ -267,14 +281,6 @@ test("a find is made short where keys are held for a short time, and waits are a
   const run = new CampaignRun(late, campaign, 3, () => true, 4 * PATIENCE);
   while (run.found[0] === null) await run.goOn(20);
   assert.deepEqual(run.found[0].test.split("\n").slice(1, 6), ["  run 100", "  press A", "  run 100", "  release A", "  run 100000"]);
-});
-
-test("conditions in the words of a person are told in those of a test", () => {
-  assert.deepEqual(partsOf("lamp on on and not r7 = 3 and at look and acc != 2 and ram0.0 out > 4"), [
-    { words: "lamp on on", isNot: false, place: "" }, { words: "r7 3", isNot: true, place: "" },
-    { words: "@look", isNot: false, place: "" }, { words: "acc 2", isNot: true, place: "" },
-    { words: "", isNot: false, place: "ram0.0 out" },
-  ]);
 });
 
 test("what stands at places is what trace tells of them", () => {
@@ -366,7 +372,7 @@ test("reports are joined: the shortest finds, and all that was run", async () =>
   assert.match(tap, /^TAP version 13\n1\.\.5\nnot ok 1 - never lamp on on # broken, 0 steps\n/);
   assert.match(tap, /\nnot ok 2 - reach lamp 1 on # [\d,]+ steps, \d+ states\n/);
   assert.match(tap, /\n# seeds 1 2: /);
-  assert.match(testsOfReport(joined), /^# Found by tools\/explore: .*\n\n# x.props:3\ntest shorter\n$/);
+  assert.match(testsOfReport(joined), /^# Found by mcs4 explore: .*\n\n# x.props:3\ntest shorter\n$/);
 });
 
 test("what was run is told with what was not", () => {
@@ -437,8 +443,10 @@ test("what came of it is told in words", () => {
   assert.equal(wordsOfProperty(property, report()), "");
   assert.equal(wordsOfProperty({ ...property, applied: false }, report()), "never looked at");
   assert.equal(wordsOfProperty({ ...property, states: 12 }, report()), "holds for all 12 states");
-  assert.match(wordsOfProperty({ ...property, text: "model ./says" }, report()), /^not asked: a page can start no command/);
-  assert.deepEqual([markOf(goal, true), markOf(goal, false), markOf(property, true)], ["open", "not ok", "ok"]);
+  const skipped = { ...property, text: "model ./says", isSkipped: true };
+  assert.match(wordsOfProperty(skipped, report()), /^a page cannot run a command; mcs4 explore --allow-model can$/);
+  const marks = [markOf(goal, true), markOf(goal, false), markOf(property, true), markOf(skipped, true)];
+  assert.deepEqual(marks, ["open", "not ok", "ok", "not run"]);
 });
 
 test("a search ends with its time, where it is stopped, and where its worker dies; texts with faults are told", async () => {

@@ -6,7 +6,7 @@ import { DisplayText } from "../core/board/display_text.js";
 import { Face, faceFaults, moreThan } from "../core/board/face.js";
 import { missingOf } from "../core/board/face_board.js";
 
-/** The samples that tools/lib/face.awk is tried with, too: comments of a board, and what they tell. */
+/** The samples: comments of a board, and what they tell. */
 const sample = (name) => readFileSync(new URL(`../../checks/faces/${name}`, import.meta.url), "utf8");
 const board = readBoard(["board", ...sample("board.toml").trim().split("\n")]);
 
@@ -15,7 +15,7 @@ const textOf = (face) => new DisplayText(
   [...face.lamps].map(([at, { text }]) => ({ at, text })),
 );
 
-/** A face, a fact a line, as checks/lib/face_told.awk tells it. */
+/** A face, a fact a line. */
 function told(face, faults, patterns) {
   const list = (word, map) => [...map].map(([place, { text }]) => `${word} ${place} ${text}`);
   const { title, test: pin } = face;
@@ -35,7 +35,7 @@ function told(face, faults, patterns) {
 }
 
 for (const name of ["all", "faults", "many", "none", "printer", "scanned", "shows"]) {
-  test(`a face as the tools read it: ${name}`, () => {
+  test(`the face of a sample: ${name}`, () => {
     const text = sample(`${name}.face`);
     const wanted = sample(`${name}.told`).split("\n").filter(Boolean);
     const patterns = wanted.filter((line) => line.startsWith("shows ")).map((line) => line.split(" ")[1]);

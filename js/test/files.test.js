@@ -24,7 +24,7 @@ test("what a file is by its name and its first bytes", () => {
   const properties = "never lamp 0 on\n";
   assert.deepEqual(opened("lamps.props", properties).texts, { ...NO_TEXTS, properties });
   assert.equal(opened("notes", "test 0\nrun 10\n").texts.tests, null);
-  assert.deepEqual(opened("notes", "\ufeffLDM 1\r\n").texts.program, "LDM 1\r\n");
+  assert.deepEqual(opened("notes", "\ufeffLDM 1\r\n").texts, { ...NO_TEXTS, program: "LDM 1\r\n", isGuess: true });
 });
 
 test("lines for the bench have a board, a program and other lines", () => {
@@ -42,7 +42,9 @@ test("what is nothing for the bench is refused in words", () => {
   assert.throws(() => opened("a.jpg", "no session at all"), /^Error: not a kind of text that the bench has; the page opens/);
   assert.throws(() => opened("a.asm", "\n"), /^Error: it is empty; the page opens/);
   assert.throws(() => opened("a.asm", "x".repeat(65537)), /a text of 65,537 characters, and 65,536 is the most/);
-  assert.throws(() => opened("a.s19", "S1130000285F245F2212226A000424290008237C2A\n"), /S-records are not read/);
+  assert.throws(() => opened("a.s19", "S1130000285F245F2212226A000424290008237C2A\n"), /no last record \(S9\)/);
+  const records = opened("a.s19", "S1130000285F245F2212226A000424290008237C2A\nS9030000FC\n");
+  assert.deepEqual([records.kind, [...records.bytes.slice(0, 3)]], ["image", [0x28, 0x5f, 0x24]]);
 });
 
 test("Intel HEX is read and written", () => {

@@ -37,9 +37,9 @@ test("pieces of lines have the inputs of the whole", () => {
 });
 
 test("answers go to their inputs", () => {
-  const inputs = readInputs(linesOf(["seq", "ram 0", "list 0 2", "list 0 1", "ports", "ram 9", "board", "run 5"]));
+  const inputs = readInputs(linesOf(["seq", "ram 0", "list 0 2", "list 0 1", "ram 9", "board", "run 5"]));
   const answers = [["seq 4"], ["ram 0 chips 1", "0.0.0 2000000000000000 0000", "0.0 out 1"], ["000 00    NOP", "001 00    NOP"],
-    ["000 00    NOP"], ["ports", "src 00", "keys -"], ["no 11"], ["board", "[[rom]]", "chip = 0"], ["ok 5 ran 5 end"]];
+    ["000 00    NOP"], ["no 11"], ["board", "[[rom]]", "chip = 0"], ["ok 5 ran 5 end"]];
   assert.deepEqual(matchAnswers(inputs, answers.flat()), answers);
   assert.deepEqual(matchAnswers(inputs, ["seq 4"]).slice(0, 2), [["seq 4"], []]);
 });

@@ -4,7 +4,8 @@ import { test } from "node:test";
 import { cellWords, fittingLines, instructionsOf, linesOfBench, piecesOf, plain, searched, wordsOfCell } from "../core/help/manual.js";
 
 const SCRIPT = "import json; from manual_tables import manual_tables; print(json.dumps(manual_tables()))";
-const MANUAL = JSON.parse(execFileSync("python3", ["-B", "-c", SCRIPT], { cwd: new URL("../../page/", import.meta.url), encoding: "utf8" }));
+const PAGE = new URL("../../page/", import.meta.url);
+const MANUAL = JSON.parse(execFileSync("python3", ["-B", "-c", SCRIPT], { cwd: PAGE, encoding: "utf8" }));
 
 test("a cell is cut into text and code", () => {
   assert.deepEqual(piecesOf("`wire`, then a text"), [{ text: "wire", isCode: true }, { text: ", then a text", isCode: false }]);

@@ -1,14 +1,11 @@
 // The module of the page itself, by the calls of the page.
 import assert from "node:assert/strict";
-import { readFileSync } from "node:fs";
 import { test } from "node:test";
 import { BenchCalls } from "../core/engine/bench_calls.js";
 import { Engine } from "../core/engine/engine.js";
+import { examplesOfPage, moduleOfPage } from "./page_session.js";
 
-const page = readFileSync(new URL("../../page/fethsaim.html", import.meta.url), "utf8");
-const partOf = (id) => new RegExp(`id="${id}">([^<]*)<`).exec(page)[1];
-const module = Buffer.from(partOf("module"), "base64");
-const { examples } = JSON.parse(partOf("data"));
+const [module, examples] = [moduleOfPage, examplesOfPage];
 const calculator = examples.find(({ name }) => name === "calculator");
 
 async function begin(example) {

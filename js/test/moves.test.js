@@ -1,4 +1,4 @@
-// Goals, on the module of the page itself. What is expected was counted by tools/trace and tools/cycles, as docs/MANUAL.md shows it.
+// Goals, on the module of the page itself. What is expected was counted by mcs4 trace and mcs4 cycles, as docs/MANUAL.md shows it.
 import assert from "node:assert/strict";
 import { test } from "node:test";
 import { begin, counterOf } from "./page_session.js";
@@ -30,6 +30,17 @@ test("over anything else is one instruction, and out ends behind the JMS", async
   assert.equal(counterOf(calls), "014");
   assert.equal((await calls.goOn({ kind: "out" })).found.isReached, true);
   assert.equal(counterOf(calls), "009");
+});
+
+test("out of no subroutine: nothing is done, also where a return address is left over", async () => {
+  const calls = await begin("three lamps");
+  for (const lines of ["", "run 7\n"]) {
+    await calls.serve(lines);
+    if (lines) await calls.goOn({ kind: "over" });
+    const before = calls.ask("regs\nseq\n");
+    assert.deepEqual(await goOn(calls, { kind: "out" }), { cycles: 0, isReached: false, end: "outside" });
+    assert.deepEqual(calls.ask("regs\nseq\n"), before);
+  }
 });
 
 test("to an address, so many instructions, and to a change", async () => {
@@ -135,7 +146,7 @@ test("a breakpoint and a watch of the user come first; a goal that never comes d
   assert.deepEqual(await goOn(calls, { kind: "change", place: "chain0.1" }), { cycles: 0, isReached: false, end: "lacks" });
   const empty = await begin("empty bench", "wire\n[[rom]]\nchip = 0\nport = \"0000\"\n.\nasm\nx: JUN x\n.\n");
   const before = Buffer.from(empty.session.file);
-  const told = await empty.goOn({ kind: "out" }, 5000);
+  const told = await empty.goOn({ kind: "change", place: "r4" }, 5000);
   assert.deepEqual([told.found.end, told.entries.length, Buffer.compare(before, empty.session.file)], ["bound", 0, 0]);
 });
 
@@ -161,7 +172,7 @@ test("a goal among presses of keys comes at the cycle at which it is reached", a
 
 test("a reset ends a move, and time runs on", async () => {
   const calls = await bench("end: JUN end\n");
-  assert.equal((await calls.goOn({ kind: "out" })).found.end, "bound");
+  assert.equal((await calls.goOn({ kind: "change", place: "r4" })).found.end, "bound");
   assert.equal(calls.debugger.isMoving, true);
   calls.advance(1543);
   await calls.serve("reset\n");

@@ -64,6 +64,20 @@ test("a page that is left while it shows a session was not hung by it, however l
   assert.equal(load().isUnended("one"), false);
 });
 
+test("a page that is left is told so by each of two events, since a browser may pass over one", async () => {
+  for (const name of ["beforeunload", "pagehide"]) {
+    const { load, wait } = browser();
+    const openings = load();
+    const target = new EventTarget();
+    openings.listen(target);
+    assert.equal(openings.begun.size, 0);
+    await openings.during("one", async () => {});
+    target.dispatchEvent(new Event(name));
+    wait(3000);
+    assert.equal(load().isUnended("one"), false, name);
+  }
+});
+
 test("another tab may just be opening it", () => {
   const { load, wait } = browser();
   load().during("one", () => new Promise(() => {}));

@@ -1,11 +1,9 @@
 // Sessions over the module of the page itself, for tests.
-import { readFileSync } from "node:fs";
+import * as page from "../node/page_parts.mjs";
 import { BenchCalls } from "../core/engine/bench_calls.js";
 
-const page = readFileSync(new URL("../../page/fethsaim.html", import.meta.url), "utf8");
-const partOf = (id) => new RegExp(`id="${id}">([^<]*)<`).exec(page)[1];
-export const moduleOfPage = Buffer.from(partOf("module"), "base64");
-const { examples } = JSON.parse(partOf("data"));
+export const moduleOfPage = page.moduleOfPage();
+const { examples } = page.dataOfPage();
 export const examplesOfPage = examples;
 
 /** A session from an example, after some lines. */

@@ -8,7 +8,7 @@ import { programTexts, wordsOfAssembled } from "../core/text/assembling.js";
 import { namesOf, partsOf, tokensOf, wordAt } from "../core/text/assembly.js";
 import { completeProgram } from "../core/text/completion.js";
 import { instructionsOf } from "../core/help/manual.js";
-import { findProgramFaults } from "../core/text/program_faults.js";
+import { findProgramFaults, isNoProgram } from "../core/text/program_faults.js";
 import { wordsOfProgramLine } from "../core/text/program_words.js";
 import { LONGEST_TEXT, faultsOfLines, sentText } from "../core/text/text_fault.js";
 import { helpForProgram } from "../core/text/text_help.js";
@@ -51,6 +51,9 @@ test("what is no instruction, and what may be meant", () => {
   assert.match(wordsOf("LDX 5"), /^LDX is no instruction; .*LDM\?$/);
   assert.equal(wordsOf("JMP there"), "JMP is no instruction; JUN?");
   assert.equal(wordsOf("begin"), "begin is no instruction; a label has a colon: begin:");
+  for (const rest of ["NOP", "jun x", "FIM P0, 3", "= 3 + 4"]) {
+    assert.equal(wordsOf(`x ${rest}`).includes("a label has a colon: x:"), !rest.startsWith("="), rest);
+  }
   assert.equal(wordsOf("zero EQU 4"), "a name gets its number by =: zero = 4");
   assert.equal(wordsOf("zero  set 0x10"), "a name gets its number by =: zero = 0x10");
 });
@@ -120,6 +123,8 @@ test("a text is sent line for line, without comments and indentation", () => {
   assert.equal(sentText("NOP\n\t", ";"), "NOP\n\n");
   assert.deepEqual(faultsOfLines("NOP\n\t", ";"), []);
   assert.equal(sentText("NOP\n . ; no end\n.\n", ";"), "NOP\n .\n.\n");
+  assert.equal(sentText("\tNOP ; .\n\t. ; a dot alone\n  . \nx: ;\n ; y\n\n  LDM 1", ";"), "NOP\n .\n .\nx:\n\n\nLDM 1\n");
+  assert.equal(sentText("a = 'x#\"' # \"d\"\ny = \"\\\"#\" # e\nz = \"no end # f\n", "#"), "a = 'x#\"'\ny = \"\\\"#\"\nz = \"no end # f\n");
 });
 
 test("lines that cannot be sent, at their places in the text", () => {
@@ -171,4 +176,15 @@ test("what assembling alone leaves, in words", () => {
     "3 bytes assembled. 2 bytes of before stay in ROM, from 0x041 on. The counter stays at 012; nothing was reset.");
   assert.deepEqual([counted(1, "byte"), counted(0, "byte"), counted(1543, "cycle"), counted(2, "property is", "properties are")],
     ["1 byte", "0 bytes", "1,543 cycles", "2 properties are"]);
+});
+
+test("a text with an error in each line of code is hardly a program", () => {
+  const at = (...lines) => lines.map((line) => ({ number: 30, line, from: 0, to: 1, words: "" }));
+  assert.equal(isNoProgram("hello there\n\n; a remark\nand more\n", { faults: at(1, 4), areAll: true, rest: null }), true);
+  assert.equal(isNoProgram("hello there\n NOP\n", { faults: at(1), areAll: true, rest: null }), false);
+  // No more than some are looked for.
+  const long = "prose\n".repeat(500);
+  assert.equal(isNoProgram(long, { faults: at(...Array.from({ length: 20 }, (_, line) => line + 1)), areAll: false, rest: null }), true);
+  assert.equal(isNoProgram(`NOP\n${long}`, { faults: at(2, 3), areAll: false, rest: null }), false);
+  for (const empty of ["", "; a remark\n"]) assert.equal(isNoProgram(empty, { faults: [], areAll: true, rest: null }), false);
 });

@@ -2,6 +2,7 @@ import assert from "node:assert/strict";
 import { test } from "node:test";
 import { checksum } from "../core/session/checksum.js";
 import { NotAProject, isProject, projectText, readProject, wordsOfLength } from "../core/session/project_file.js";
+import { breakpointsIn, partsOfProject, valuesIn } from "../core/session/project_parts.js";
 
 const SIZE = 163856;
 const encode = (text) => new TextEncoder().encode(text);
@@ -132,4 +133,39 @@ test("breakpoints of the source stand in the head, and come back as they were", 
     const changed = text.replace(/\ncksum .*/, "").replace("break at 0x7FF", wrong);
     assert.throws(() => read(changed), /has to be one of the head: `name`, `unended`, `break`/);
   }
+});
+
+test("values are in the head, and come back as they were", () => {
+  const watched = ["count = R5", "digit = ram 0 0x12", "P2"];
+  const text = projectText(project({ watched, breakpoints: [] }));
+  assert.deepEqual(text.split("\n").slice(3, 7), ["name a lock", "value count = R5", "value digit = ram 0 0x12", "value P2"]);
+  assert.deepEqual(read(text).watched, watched);
+  assert.equal(read(projectText(project({ watched: [] }))).watched, undefined);
+  for (const wrong of ["value", "value ", "values x"]) {
+    assert.throws(() => read(text.replace(/\ncksum .*/, "").replace("value P2", wrong)), /one of the head: .* `break`, `value`/);
+  }
+});
+
+test("a project is files of a folder, and their texts are its parts again", () => {
+  const breakpoints = breakpointsIn('break line 14 at 0x00F off from 5 if "r4 = 7" log "R4 is {r4}"\r\nbreak at 0x000\n');
+  const watched = valuesIn("count = R5\ndigit = ram 0 0x12");
+  const whole = project({ breakpoints, watched, testText: "test one\n" });
+  const parts = new Map(partsOfProject(whole).map(({ name, content }) => [name, content]));
+  const names = ["mcs4.toml", "board.toml", "program.asm", "program.test", "breakpoints", "values", "session.mcs", "name"];
+  assert.deepEqual([...parts.keys()], names);
+  assert.match(parts.get("mcs4.toml"), /^# .*\nboard = "board.toml"\nprogram = "program.asm"\ntests = \["program.test"\]\n$/);
+  assert.deepEqual([breakpointsIn(parts.get("breakpoints")), valuesIn(parts.get("values"))], [breakpoints, watched]);
+  assert.deepEqual([parts.get("name"), parts.get("board.toml"), parts.get("session.mcs")], ["a lock\n", "# b\n", whole.file]);
+  assert.throws(() => breakpointsIn("break line 1\nbreak\n"), /line 2 is no breakpoint/);
+  assert.throws(() => breakpointsIn("break line 1\n".repeat(257)), /it has 257 breakpoints, more than a project can have \(256\)/);
+  assert.throws(() => valuesIn("a = R1\n \n"), /line 2 is empty/);
+});
+
+test("a text that is too long for the editors is read if that is asked for; zero bytes never are", () => {
+  const long = projectText(project({ programText: "; a remark\n".repeat(7000) }));
+  assert.throws(() => read(long), /the source has 77,000 characters/);
+  assert.equal(readProject(encode(long), SIZE, true).programText.length, 77000);
+  assert.throws(() => read(projectText(project({ boardText: "\0" }))), /zero bytes/);
+  const more = projectText(project()).replace(/cksum \d+\n/, "").replace("\nend\n", "\nmore\nend\n");
+  assert.throws(() => read(more), new RegExp(`line ${more.split("\n").indexOf("more") + 1} of the project has to be the end of the file`));
 });

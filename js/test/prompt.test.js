@@ -18,8 +18,8 @@ const BOARD = read("three_lamps/board.toml");
 const PROGRAM = read("three_lamps/three_lamps.asm");
 const LOCK = { board: read("lock/board.toml"), program: read("lock/lock.asm") };
 
-/** A prompt, with what it has printed and refused since it was asked last. */
-async function prompted({ board, program } = { board: BOARD, program: PROGRAM }, isByHand = false) {
+/** A prompt, with files, and with what it has printed and refused since it was asked last. */
+async function prompted({ board, program } = { board: BOARD, program: PROGRAM }, isByHand = false, files = {}) {
   let told = [];
   const session = new DebugSession(engine, { board, program });
   const launched = { session, kept: null, program: "p.asm", board: "b.toml", stopsOnEntry: true, isDebugged: true, nameOf: (name) => name };
@@ -28,6 +28,11 @@ async function prompted({ board, program } = { board: BOARD, program: PROGRAM },
     complain: (words) => told.push(`refused: ${words}`),
     pause: async () => {},
     source: () => PROGRAM.replace("time  = 0x0C", "time  = 0x0D"),
+    read: (name) => files[name] ?? assert.fail(`cannot read ${name}`),
+    write: (name, text) => {
+      files[name] = text;
+    },
+    files: (begin) => Object.keys(files).filter((name) => name.startsWith(begin)),
     isByHand,
     view: null,
   };
@@ -114,10 +119,10 @@ test("a run among lines of the bench ends at breakpoints as time does that runs"
   const [cycles, before] = [total(), session.breakpoints.all[0].hits];
   await ask("back");
   assert.equal(total(), 0);
-  const told = (await ask("bench run 100000")).filter((line) => /^(ok|Stopped)/.test(line));
+  const told = (await ask("bench run 100000")).filter((line) => /^(ok|Paused)/.test(line));
   assert.equal(total(), cycles);
   assert.match(told[0], new RegExp(`^ok \\d+ ran ${cycles} end$`));
-  assert.match(told[1], /^Stopped at 005 \(next, line \d+\), at a breakpoint, where r4 = 2\. The line run 100000 ended there\.$/);
+  assert.match(told[1], /^Paused at 005 \(next, line \d+\), at a breakpoint, where r4 = 2\. The line run 100000 ended there\.$/);
   assert.equal(session.breakpoints.all[0].hits, before + 1);
   await ask("delete", 'break next if r4 = 4 log "R4 is {r4}"');
   const logged = await ask("bench run 20000");
@@ -128,7 +133,7 @@ test("a run among lines of the bench ends at breakpoints as time does that runs"
 test("breakpoints with conditions, counts and notes; watches", async () => {
   const { ask, session } = await prompted();
   assert.match((await ask("break wait from 3"))[0], /^Breakpoint 1 at 014 \(wait, line \d+\)\.$/);
-  assert.match((await ask("continue")).join("|"), /Stopped at 014 \(wait, line \d+\), at a breakpoint, at hit 3\.\|>\*/);
+  assert.match((await ask("continue")).join("|"), /Paused at 014 \(wait, line \d+\), at a breakpoint, at hit 3\.\|>\*/);
   assert.match((await ask("info breakpoints"))[0], /^1 {2}line \d+ at 0x014 from 3, 3 hits$/);
   assert.deepEqual(await ask("disable 1", "delete 7"), ["refused: there is no breakpoint 7; info breakpoints has their numbers"]);
   await ask("delete", "break next if r4 = 4 log \"R4 is {r4}\"");
@@ -150,14 +155,26 @@ test("breakpoints with conditions, counts and notes; watches", async () => {
 test("what is shown, printed and set", async () => {
   const { ask } = await prompted();
   assert.deepEqual(await ask("set r4 = 0x0B", "print r4", "print P2", "set p2 time", "print p2"), ["0xB", "0xB0", "0x0C"]);
+  assert.deepEqual(await ask("set R5 = r4 + 15", "print R5", "set st 0 1 2 = R5 & 3", "print st.0.1.2"), ["0xF", "0x3"]);
+  assert.deepEqual(await ask("set A = 1", "set r4 16"), [
+    "refused: A: no such place; the accumulator is acc (column 1)", "refused: r4 holds 0 to 15"]);
+  assert.match((await ask("set r4 = foo"))[0], /^refused: foo: no such place; places are acc, .* and of lamps \(column 6\)$/);
+  assert.deepEqual(await ask("back r99", "back r4 + 1", "until r4 > 1 or x = 2", "back test = 0"), [
+    "refused: r99: no such place; the registers are r0 to r15 (column 1)",
+    "refused: r4 + 1: a comparison is missing, as in: r4 + 1 = 4 (column 1)",
+    "refused: x: no such place; places are acc, cy, pc, dcl, test, r0 to r15, p0 to p7, ram.B.S, st.B.H.K, rom1, ram0.1, lamps, and names "
+    + "of the source, of Watch and of lamps (column 11)",
+    "refused: no run changes test, and no trace shows it: ask for it at a breakpoint (column 1)"]);
+  assert.match((await ask("set"))[0], /^refused: it is written as `set PLACE = VALUE`, as in: set r4 = 7, .* \(column 1\)$/);
+  assert.deepEqual((await ask("set pc = wait + 2", "set pc = 0")).length, 2);
   assert.deepEqual(await ask("x/2 wait"), ["  014 22 0C wait: FIM P1, 0x0C", "  016 73 16 turn: ISZ R3, 0x016"]);
-  assert.deepEqual(await ask("set ram.0.0x02 7", "x/4 ram.0.0x00"), ["ram.0.0x00  0070"]);
+  assert.deepEqual(await ask("set RAM 0 2 = 7", "x/4 ram.0.0x00", "x/4 RAM 0 0"), ["ram.0.0x00  0070", "ram.0.0x00  0070"]);
   assert.deepEqual(await ask("display r4", "next"), ["1: r4 = 0x0", "At 002 (line 5), after 2 cycles, 0.022 ms.",
     ">    5  002          SRC P0          ; the RAM chip", "1: r4 = 0x0"]);
   assert.match((await ask("list wait")).join("\n"), /wait: {3}FIM P1, time/);
   assert.match((await ask("info registers"))[0], /^acc 0 {2}cy 0 {2}pc 002/);
   assert.match((await ask("info names")).join("\n"), /^time {12} 0C$/m);
-  assert.match((await ask("info"))[0], /^refused: info shows registers, ram, ports, keys, breakpoints, .*, session$/);
+  assert.match((await ask("info"))[0], /^refused: info shows registers, ram, ports, keys, breakpoints, .*, locals$/);
   assert.match((await ask("bench lamps"))[0], /^lamps \.\.\.$/);
   assert.match((await ask("bench poke r16 1"))[0], /^refused: no 11/);
   assert.match((await ask("load"))[0], /The source is in ROM/);
@@ -200,8 +217,10 @@ test("keys", async () => {
   const { ask } = await prompted(LOCK);
   assert.match((await ask("info keys"))[0], /^1 2 3/);
   await ask("run 20 ms");
-  assert.match((await ask("press 12")).join(), /Stands at/);
+  assert.match((await ask("press 12")).join(), /Paused at/);
   assert.deepEqual((await ask("hold 1", "info keys"))[1], "down: 0.0");
+  const ports = (await ask("info ports")).join();
+  assert.match(ports, /^src 10 0\.10,rom 0 out [0-9A-F] in 0,rom 1 out 0 in [0-9A-F],chain 0 [01]{10},keys 0\.0$/);
   assert.deepEqual((await ask("release 1", "info keys"))[1], "none is down");
   assert.match((await ask("press Q"))[0], /^refused: the board has no key Q; it has: 1 2 3/);
   await ask("break 0x000");
@@ -220,10 +239,114 @@ test("an empty line does the last move again where a person types", async () => 
   assert.equal(script.session.address, 0x002);
 });
 
+test("breakpoints that are deleted at their stop, that change, and that let hits pass", async () => {
+  const { ask, session } = await prompted(LOCK);
+  assert.deepEqual(await ask("tbreak scan"), ["Breakpoint 1 at 0A7 (scan, line 125)."]);
+  assert.deepEqual(await ask("info breakpoints"), ["1  line 125 at 0x0A7, temporary"]);
+  assert.match((await ask("continue")).join("\n"), /Breakpoint 1 was temporary, and is deleted\.\n/);
+  assert.deepEqual(await ask("info breakpoints"), ["there are no breakpoints"]);
+  await ask("break scan", "condition 2 r4 = 7");
+  assert.equal(session.breakpoints.get(2).condition, "r4 = 7");
+  assert.deepEqual(await ask("condition 2 if acc > 20"), ["refused: acc holds 0 to 15, not 20 (column 7)"]);
+  assert.equal(session.breakpoints.get(2).condition, "r4 = 7");
+  assert.deepEqual(await ask("cond 2"), ["Breakpoint 2 has no condition now."]);
+  await ask("continue", "continue");
+  assert.deepEqual(await ask("ignore 2 3"), ["Breakpoint 2 lets the next 3 hits pass."]);
+  await ask("continue");
+  assert.equal(session.breakpoints.get(2).hits, 6);
+  assert.deepEqual(await ask("ignore $bpnum 0"), ["Breakpoint 2 stops at its next hit."]);
+  for (const [line, words] of [
+    ["condition", /^refused: it is written as condition N/], ["condition 9 acc = 1", /no breakpoint 9/],
+    ["ignore 2", /0 to 999,999,999, not nothing/],
+    ["ignore 2 -1", /not -1/], ["commands 2 3", /commands N/], ["tbreak nothing", /no place in the program/],
+  ]) assert.match((await ask(line)).join(), words, line);
+});
+
+test("commands that run at a stop", async () => {
+  const { ask, prompt } = await prompted(LOCK);
+  await ask("break scan", "commands");
+  assert.equal(prompt.label, "> ");
+  assert.deepEqual(await ask("silent", "", "print pc", "end", "info b"), ["1  line 125 at 0x0A7", "       silent", "       print pc"]);
+  assert.deepEqual((await ask("continue")).filter((line) => !line.startsWith("lamps")), ["0x0A7, line 125"]);
+  // After one that moves the others are left out; the next stop has its own.
+  await ask("commands 1", "print acc", "step", "print never", "end");
+  assert.equal((await ask("continue")).filter((line) => /never/.test(line)).length, 0);
+  await ask("commands 1", "print pc", "bogus", "print acc", "end");
+  assert.deepEqual((await ask("continue")).slice(-2), ["0x0A7, line 125", "refused: there is no command bogus; help shows them all"]);
+  await ask("commands 1", "end");
+  assert.deepEqual(await ask("info b"), [(await ask("info breakpoints"))[0]]);
+  await ask("commands 1");
+  assert.deepEqual([prompt.drop(), prompt.drop()], ["the commands of breakpoint 1 are dropped", ""]);
+  // Somebody stops what goes on for ever.
+  let turns = 0;
+  prompt.calls.pause = async () => {
+    turns += 1;
+    if (turns === 5) prompt.interrupt();
+  };
+  await ask("commands 1", "silent", "set acc = 0", "continue", "end", "continue");
+  assert.ok(turns >= 5);
+});
+
+test("values in formats, at a stop too", async () => {
+  const { ask } = await prompted();
+  await ask("set r4 = 10", "set r5 = 3");
+  for (const [line, words] of [
+    ["print/x r4", "0xA"], ["p/d r4", "10"], ["p/u r4 + r5", "13"], ["p/o r4", "012"], ["p/t r4", "0b1010"], ["p/b r5", "0b11"],
+    ["p/x r5 - r4", "-0x7"], ["p/a 0x014", "0x014 <wait>"], ["p/x r4 = 10", "0x1"], ["p/x wait", "0x14"],
+    ["p/q r4", "refused: q is not a format; formats are x, d, u, o, t, b, a"],
+    ["p/x lamps", "refused: lamps is not a number, so it has no format"], ["p/x", "refused: it is written as print WHAT, as print r4"],
+    ["display/t r4", "1: /t r4 = 0b1010"], ["info display", "1: /t r4"],
+  ]) assert.deepEqual(await ask(line), [words], line);
+  assert.equal((await ask("step")).at(-1), "1: /t r4 = 0b1010");
+});
+
+test("more that info shows, and short words of gdb", async () => {
+  const { ask } = await prompted(LOCK);
+  await ask("until scan");
+  assert.deepEqual(await ask("info line scan"), ["Line 125 is at 0x0A7 (scan)."]);
+  assert.deepEqual(await ask("info line 31"), ["Line 31 is at 0x033 (digit) and 0x034."]);
+  assert.deepEqual(await ask("info s"), await ask("bt"));
+  assert.deepEqual(await ask("i r"), await ask("info registers"));
+  assert.deepEqual(await ask("f"), ["#0  0A7  scan, line 125", ">  125  0A7  scan:   LDM 15"]);
+  assert.match((await ask("info program"))[0], /^Paused at 0A7/);
+  assert.match((await ask("info locals"))[0], /no local variables/);
+  assert.deepEqual(await ask("info registers r4"), ["refused: info registers stands alone"]);
+  for (const words of ["si step", "ni next", "rsi reverse-step", "r run", "tb tbreak", "dis disable", "cond condition"]) {
+    const [word, name] = words.split(" ");
+    assert.equal(commandOf(word).command.name, name, word);
+  }
+});
+
+test("breakpoints in a file, and commands of one", async () => {
+  const files = { bad: "# a remark\n\nbreak 31\nbogus\nbreak scan\n", cut: "break 31\ncommands\nprint acc\n", itself: "source itself\n" };
+  const { ask, session, prompt } = await prompted(LOCK, false, files);
+  await ask("break 31 from 3 if r4 = 7", "disable $bpnum", "break scan log \"R4 is {r4}\"", "tbreak 0x010");
+  await ask("commands", "silent", "print pc", "end", "watch ram.0.0x01", "watch r4");
+  assert.deepEqual(await ask("save breakpoints saved"), ["3 breakpoints saved in saved."]);
+  assert.deepEqual(files.saved.split("\n"), [
+    "# Breakpoints of mcs4 debug", "tbreak 19", "commands $bpnum", "  silent", "  print pc", "end", "break 31 from 3 if r4 = 7",
+    "disable $bpnum", "break 125 log \"R4 is {r4}\"", "watch ram.0.0x01", "watch r4", "",
+  ]);
+  const told = [await ask("info breakpoints"), await ask("info watches")];
+  await ask("delete", "delete r4", "delete ram.0.0x01", "source saved");
+  const numbers = (lines) => lines.map((line) => line.replace(/^\d/, "N"));
+  assert.deepEqual([numbers(await ask("info breakpoints")), await ask("info watches")], [numbers(told[0]), told[1]]);
+  await ask("delete");
+  assert.deepEqual((await ask("source bad")).slice(1), ["refused: bad: line 4: there is no command bogus; help shows them all"]);
+  assert.equal(session.breakpoints.all.length, 1);
+  assert.match((await ask("source cut")).at(-1), /^refused: cut ends too soon; the commands of breakpoint \d+ are dropped$/);
+  assert.match((await ask("source itself")).at(-1), /at most 8 deep$/);
+  assert.deepEqual(await ask("save"), ["refused: it is written as save breakpoints FILE"]);
+  assert.deepEqual(await prompt.complete("source b"), [["bad"], "b"]);
+  assert.deepEqual(await prompt.complete("save breakpoints sa"), [["saved"], "sa"]);
+  assert.deepEqual(await prompt.complete("save b"), [["breakpoints"], "b"]);
+});
+
 test("what a line can go on with", async () => {
   const { prompt } = await prompted();
-  assert.deepEqual(prompt.complete("unt"), [["until "], "unt"]);
-  assert.deepEqual(prompt.complete("until wa"), [["wait"], "wa"]);
-  assert.deepEqual(prompt.complete("info reg"), [["registers"], "reg"]);
-  assert.deepEqual(prompt.complete("bogus wa")[1], "wa");
+  assert.deepEqual(await prompt.complete("unt"), [["until "], "unt"]);
+  assert.deepEqual(await prompt.complete("until wa"), [["wait"], "wa"]);
+  assert.deepEqual(await prompt.complete("print not r1 = 3 an"), [["and"], "an"]);
+  assert.deepEqual(await prompt.complete("info reg"), [["registers"], "reg"]);
+  assert.deepEqual((await prompt.complete("bogus wa"))[1], "wa");
 });

@@ -33,5 +33,5 @@ test("what the addresses are, in words", () => {
   assert.equal(noteOfCounter(5, null).words, "");
   assert.deepEqual(noteOfReturn(2, true, MAP), { isLive: true, words: "go + 2, call in line 1", title: "go: JMS one" });
   assert.equal(noteOfReturn(2, true, null).words, "");
-  assert.equal(noteOfReturn(2, false, MAP).words, "left over");
+  assert.equal(noteOfReturn(2, false, MAP).words, "stale");
 });

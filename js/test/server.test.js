@@ -2,47 +2,14 @@
 import assert from "node:assert/strict";
 import { test } from "node:test";
 import { readFileSync } from "node:fs";
-import { Connection } from "../core/server/connection.js";
 import { cures, diagnosticsOf } from "../core/server/diagnostics.js";
 import { LONGEST_MESSAGE, MessageReader, StreamLost, framed } from "../core/server/framing.js";
-import { boardUriOf, isBoard, isProgram } from "../core/server/kinds.js";
-import { LanguageServer } from "../core/server/language_server.js";
+import { boardFor, isBoard, isProgram } from "../core/server/kinds.js";
 import { OpenText } from "../core/server/open_text.js";
 import { tokenCodes } from "../core/server/token_codes.js";
-import { Engine } from "../core/engine/engine.js";
-import { dataOfPage } from "../node/page_parts.mjs";
-import { moduleOfPage } from "./page_session.js";
+import { bytesOf, served } from "./served.js";
 
-const engine = new Engine(new globalThis.WebAssembly.Module(moduleOfPage));
 const BOARD = readFileSync(new URL("../../examples/lock/board.toml", import.meta.url), "utf8");
-const bytesOf = (text) => new TextEncoder().encode(text);
-
-/** A server with one who asks it; `files` are beside the texts. */
-function served(files = {}) {
-  const reader = new MessageReader();
-  const told = [];
-  let status = null;
-  const connection = new Connection((bytes) => told.push(...reader.take(bytes).map(({ text }) => JSON.parse(text))), (ended) => {
-    status = ended;
-  });
-  const host = { readFile: (uri) => files[uri] || null, pause: async () => {} };
-  const server = new LanguageServer(connection, engine, dataOfPage(), host);
-  const answer = async (method, params, id = told.length + 1) => {
-    connection.take(framed({ jsonrpc: "2.0", id, method, params }));
-    for (let turns = 0; turns < 200 && !told.some((each) => each.id === id); turns++) await new Promise(setImmediate);
-    return told.find((each) => each.id === id);
-  };
-  const ask = async (method, params) => (await answer(method, params)).result;
-  const open = async (uri, text, languageId = "asm") => {
-    const textDocument = { uri, languageId, version: 1, text };
-    connection.take(framed({ jsonrpc: "2.0", method: "textDocument/didOpen", params: { textDocument } }));
-    const begin = { line: 0, character: 0 };
-    await ask("textDocument/codeAction", { textDocument: { uri }, range: { start: begin, end: begin } });
-    return told.filter((each) => each.method === "textDocument/publishDiagnostics" && each.params.uri === uri).pop().params.diagnostics;
-  };
-  const at = (uri, line, character) => ({ textDocument: { uri }, position: { line, character } });
-  return { server, connection, told, answer, ask, open, at, begin: () => ask("initialize", {}), status: () => status };
-}
 
 test("messages come out of a stream, wherever it is cut", () => {
   const bytes = new Uint8Array([...framed({ id: 1 }), ...framed({ id: "\u00e9" })]);
@@ -53,17 +20,50 @@ test("messages come out of a stream, wherever it is cut", () => {
     assert.deepEqual(texts.map(({ text }) => JSON.parse(text).id), [1, "\u00e9"]);
   }
   const reader = new MessageReader();
-  assert.deepEqual(reader.take(bytesOf("content-length: 2\r\nX: y\r\n\r\n{}")), [{ text: "{}" }]);
-  assert.throws(() => new MessageReader().take(bytesOf("GET / HTTP/1.1\r\n\r\n")), StreamLost);
-  assert.throws(() => new MessageReader().take(bytesOf("x".repeat(5000))), StreamLost);
+  assert.deepEqual([...reader.take(bytesOf("content-length: 2\r\nX: y\r\n\r\n{}"))], [{ text: "{}" }]);
+  assert.throws(() => [...new MessageReader().take(bytesOf("GET / HTTP/1.1\r\n\r\n"))], StreamLost);
+  assert.throws(() => [...new MessageReader().take(bytesOf("x".repeat(5000)))], StreamLost);
 });
 
 test("a message that is too long is left out, and the next one is read", () => {
   const reader = new MessageReader();
-  assert.deepEqual(reader.take(bytesOf(`Content-Length: ${LONGEST_MESSAGE + 1}\r\n\r\n`)), []);
-  assert.deepEqual(reader.take(new Uint8Array(LONGEST_MESSAGE)), []);
-  const rest = reader.take(new Uint8Array([32, ...framed({ id: 1 })]));
+  assert.deepEqual([...reader.take(bytesOf(`Content-Length: ${LONGEST_MESSAGE + 1}\r\n\r\n`))], []);
+  assert.deepEqual([...reader.take(new Uint8Array(LONGEST_MESSAGE))], []);
+  const rest = [...reader.take(new Uint8Array([32, ...framed({ id: 1 })]))];
   assert.deepEqual(rest.map((each) => each.tooLong || JSON.parse(each.text).id), [LONGEST_MESSAGE + 1, 1]);
+});
+
+test("a size that no message has is an error at once, after the messages before it", () => {
+  const reader = new MessageReader();
+  const texts = [];
+  const bytes = bytesOf("Content-Length: 2\r\n\r\n{}Content-Length: 99999999999\r\n\r\n");
+  assert.throws(() => {
+    for (const { text } of reader.take(bytes)) texts.push(text);
+  }, /^Error: Content-Length: 99999999999 is more than a message can have/);
+  assert.deepEqual(texts, ["{}"]);
+  const { connection, told } = served();
+  assert.throws(() => connection.take(bytes), StreamLost);
+  assert.match(told[told.length - 1].error.message, /^Content-Length: 99999999999 is more/);
+});
+
+test("what comes in one chunk with initialize, and with shutdown, is served in its order", async () => {
+  const { connection, told, status } = served();
+  const textDocument = { uri: "file:///a.asm", languageId: "asm", version: 1, text: "foo\n" };
+  const hover = { textDocument, position: { line: 0, character: 0 } };
+  const notes = [["initialized", {}], ["textDocument/didOpen", { textDocument }]].map(([method, params]) => ({ method, params }));
+  const asked = [{ id: 1, method: "initialize", params: {} }, ...notes, { id: 2, method: "textDocument/hover", params: hover }];
+  connection.take(new Uint8Array(asked.flatMap((each) => [...framed({ jsonrpc: "2.0", ...each })])));
+  const untilTold = async (count) => {
+    for (let turns = 0; turns < 2000 && told.length < count; turns++) await new Promise(setImmediate);
+  };
+  await untilTold(3);
+  assert.deepEqual(told.slice(0, 2).map(({ id, result }) => [id, result !== undefined]), [[1, true], [2, true]]);
+  assert.deepEqual(told[2].params.diagnostics.map(({ range }) => range.start.line), [0]);
+  const end = [{ id: 3, method: "shutdown" }, { id: 4, method: "textDocument/hover", params: hover }, { method: "exit" }];
+  connection.take(new Uint8Array(end.flatMap((each) => [...framed({ jsonrpc: "2.0", ...each })])));
+  await untilTold(5);
+  assert.deepEqual([told.find(({ id }) => id === 3).result, told.find(({ id }) => id === 4).error.code], [null, -32600]);
+  assert.equal(status(), 0);
 });
 
 test("edits of a text, also those outside of it", () => {
@@ -93,11 +93,11 @@ test("what is a board and what a program", () => {
 test("the board of a program, by its project file", () => {
   const project = "board = \"my board.toml\"\nprogram = \"x.asm\"\n";
   const textOf = (files) => (uri) => (uri in files ? files[uri] : null);
-  assert.equal(boardUriOf("file:///a/x.asm", textOf({})), "file:///a/board.toml");
-  assert.equal(boardUriOf("file:///a/x.asm", textOf({ "file:///a/mcs4.toml": project })), "file:///a/my%20board.toml");
-  assert.equal(boardUriOf("file:///a/b/c/x.asm", textOf({ "file:///a/mcs4.toml": project })), "file:///a/my%20board.toml");
-  assert.equal(boardUriOf("file:///a/x.asm", textOf({ "file:///a/mcs4.toml": "board = 1" })), "file:///a/board.toml");
-  assert.equal(boardUriOf("untitled:x", textOf({})), "board.toml");
+  assert.equal(boardFor("file:///a/x.asm", textOf({})).uri, "file:///a/board.toml");
+  assert.equal(boardFor("file:///a/x.asm", textOf({ "file:///a/mcs4.toml": project })).uri, "file:///a/my%20board.toml");
+  assert.equal(boardFor("file:///a/b/c/x.asm", textOf({ "file:///a/mcs4.toml": project })).uri, "file:///a/my%20board.toml");
+  assert.equal(boardFor("file:///a/x.asm", textOf({ "file:///a/mcs4.toml": "board = 1" })).uri, "file:///a/board.toml");
+  assert.equal(boardFor("untitled:x", textOf({})).uri, "board.toml");
 });
 
 test("the faults of a project file, and a program on the board that it names", async () => {
@@ -171,13 +171,23 @@ test("all faults of a program, on the board beside it, and cures", async () => {
   assert.deepEqual(await open("file:///b/y.asm", " ORG 0x200\n NOP\n"), []);
 });
 
+test("a bad name is one fault, and hides no other", async () => {
+  const { begin, open } = served();
+  await begin();
+  for (const [at, name] of ["thisnameismuchtoolong", "LDM", "P3", "2x"].entries()) {
+    const faults = await open(`file:///bad${at}.asm`, `${name} = 3\n LDM 16\nright = 4\n LDM right\n`);
+    const told = faults.map(({ range, message }) => `${range.start.line} ${/more faults/.test(message)}`);
+    assert.deepEqual(told, ["0 false", "1 false"], `${name}: ${JSON.stringify(faults)}`);
+  }
+});
+
 test("a program's words, names and places", async () => {
   const { answer, ask, at, begin, open } = served();
   await begin();
   const uri = "file:///a/x.asm";
   assert.deepEqual(await open(uri, "four = 4\nturn: LDM four ; turn\n JUN turn\n"), []);
   const hover = await ask("textDocument/hover", at(uri, 2, 6));
-  assert.equal(hover.contents.value, "turn: address 0x000, line 2\n\nline 3: address 0x001, 40 00, 2 cycles");
+  assert.equal(hover.contents.value, "turn: address 0x000, line 2\n\nturn\n\nline 3: address 0x001, 40 00, 2 cycles");
   assert.match((await ask("textDocument/hover", at(uri, 1, 7))).contents.value,
     /^LDM d: 1 word, 1 cycle\. .*\n\nline 2: address 0x000, D4, 1 cycle$/);
   assert.equal(await ask("textDocument/hover", at(uri, 1, 18)), null);
@@ -211,4 +221,15 @@ test("a board's words and places: a lamp's line leads to its chip", async () => 
   const range = { start: { line: 0, character: 0 }, end: { line: lines.length, character: 0 } };
   const actions = await ask("textDocument/codeAction", { textDocument: { uri: "file:///b/board.toml" }, range });
   assert.deepEqual(actions.map(({ title }) => title), ["Write chips"]);
+});
+
+test("the rest of a message that does not come is reported", () => {
+  const { connection, told } = served();
+  assert.equal(connection.refuseIncomplete(), "");
+  connection.take(bytesOf("Content-Length: 20\r\n\r\n{\"id\":"));
+  assert.equal(connection.refuseIncomplete(), "only 6 of the 20 bytes that Content-Length announces have arrived");
+  assert.deepEqual([told[0].id, told[0].error.code], [null, -32600]);
+  const other = served();
+  other.connection.take(bytesOf("Content-Le"));
+  assert.match(other.connection.refuseIncomplete(), /a part of the head/);
 });

@@ -16,7 +16,19 @@ test("what an address names", () => {
     assert.deepEqual(readAddress(addressOf(kind, value)), { kind, value });
   }
   assert.deepEqual(readAddress("#example=50%"), { kind: "example", value: "50%" });
+  for (const blanks of ["%20", " ", "%0A%20%0d", "\n"]) {
+    assert.deepEqual(readAddress(`#link=1.abc-_${blanks}`), { kind: "link", value: "1.abc-_" });
+    assert.deepEqual(readAddress(`#example=traffic%20light${blanks}`), { kind: "example", value: "traffic light" });
+  }
   for (const other of ["", "#", "#help", "#sessions=1", "#link"]) assert.deepEqual(readAddress(other), { kind: "", value: "" });
+});
+
+test("breakpoints and values go into a new session, where there are some", () => {
+  const texts = { boardText: "", programText: "" };
+  const breakpoints = [{ line: 2, address: -1, isOn: true, condition: "r4 = 7", from: 1, note: "" }];
+  const made = newRecord("die", Uint8Array.of(1), { ...texts, breakpoints, watched: ["count = R5"] });
+  assert.deepEqual([made.breakpoints, made.watched], [breakpoints, ["count = R5"]]);
+  assert.deepEqual(["breakpoints", "watched"].filter((key) => key in newRecord("die", Uint8Array.of(1), texts)), []);
 });
 
 test("a session of an example is not kept before something is done in it", async () => {
@@ -86,10 +98,21 @@ function controller(answers, programText, found) {
   const shown = { session };
   const notice = { show: (words, kind, action) => told.notices.push({ words, kind, action }) };
   const ask = { ask: async () => { told.asked += 1; return answers.shift(); } };
-  const editor = (text) => ({ text, open(_id, shownText) { this.text = shownText; }, replaceText(other) { this.text = other; } });
+  const editor = (text) => ({
+    text, past: [], future: [], open(_id, shownText) { this.text = shownText; },
+    replaceText(other) { this.past.push(this.text); this.text = other; },
+    undoOrRedo(which) {
+      const [from, to] = which === "undo" ? [this.past, this.future] : [this.future, this.past];
+      if (from.length === 0) return false;
+      to.push(this.text);
+      this.text = from.pop();
+      return true;
+    },
+  });
   const made = new TextsController(editor("# b"), editor(programText), editor(""), editor(""), ask, notice, {
     session: () => shown.session, touch: () => {}, keep: async () => "", named: () => {}, source: async () => found,
     failed: (fault) => { throw fault; },
+    isNoProgram: async (text) => text.includes("prose"), took: () => {},
   });
   return { made, told, shown, session };
 }
@@ -104,6 +127,19 @@ test("a source that is replaced is asked for, and can be brought back", async ()
   assert.equal(session.record.programText, "; mine");
   told.notices.pop().action.act();
   assert.equal(session.record.programText, "\tNOP\n");
+  clearTimeout(made.editing);
+});
+
+test("Undo goes the editor's way while nothing was typed since, and else puts the old text in", async () => {
+  const { made, told } = controller([true, true], "; mine", "\tNOP\n");
+  await made.takeFromRom();
+  told.notices.pop().action.act();
+  assert.deepEqual([made.program.text, made.program.past], ["; mine", []]);
+  told.notices.pop().action.act();
+  assert.deepEqual([made.program.text, made.program.past], ["\tNOP\n", ["; mine"]]);
+  made.program.replaceText("\tNOP\n; more");
+  told.notices.pop().action.act();
+  assert.deepEqual([made.program.text, made.program.past.length], ["; mine", 3]);
   clearTimeout(made.editing);
 });
 
@@ -128,5 +164,46 @@ test("a source of another session is not brought back into this one", async () =
   shown.session = session;
   told.notices.pop().action.act();
   assert.equal(made.program.text, "; mine");
+  clearTimeout(made.editing);
+});
+
+const FROM_FILE = { board: null, program: "some prose\n", tests: null, properties: null, lines: "" };
+
+test("a file that is perhaps no program is asked for before it replaces the source", async () => {
+  const { made, told, session } = controller([false, true], "; mine", "");
+  await made.open("notes", { ...FROM_FILE, isGuess: true });
+  assert.deepEqual([made.program.text, told.asked, told.notices.length], ["; mine", 1, 0]);
+  await made.open("notes", { ...FROM_FILE, isGuess: true });
+  assert.deepEqual([made.program.text, session.record.programText, told.asked], ["some prose\n", "some prose\n", 2]);
+  clearTimeout(made.editing);
+});
+
+test("a file with the name of a program, or with a line that is right, is not asked for", async () => {
+  for (const [name, texts] of [["notes.asm", FROM_FILE], ["notes", { ...FROM_FILE, program: " NOP\n", isGuess: true }]]) {
+    const { made, told } = controller([], "; mine", "");
+    await made.open(name, texts);
+    assert.deepEqual([made.program.text, told.asked], [texts.program, 0]);
+    clearTimeout(made.editing);
+  }
+});
+
+test("a file makes one notice, which undoes all that the file has replaced", async () => {
+  const { made, told } = controller([], "; mine", "");
+  await made.open("both.txt", { ...FROM_FILE, board: "# new", program: "\tNOP\n" });
+  assert.deepEqual([made.board.text, made.program.text, told.notices.length], ["# new", "\tNOP\n", 1]);
+  const [{ words, kind, action }] = told.notices;
+  assert.match(words, /^both\.txt is in Board and Source\./);
+  assert.equal(kind, "undo");
+  action.act();
+  assert.deepEqual([made.board.text, made.program.text, told.notices.length], ["# b", "; mine", 2]);
+  told.notices[1].action.act();
+  assert.deepEqual([made.board.text, made.program.text], ["# new", "\tNOP\n"]);
+  clearTimeout(made.editing);
+});
+
+test("where a file replaces nothing, its notice offers nothing to undo", async () => {
+  const { made, told } = controller([], " \n", "");
+  await made.open("a.asm", { ...FROM_FILE, program: "\tNOP\n" });
+  assert.deepEqual(told.notices.map(({ kind, action }) => [kind, action]), [["file", undefined]]);
   clearTimeout(made.editing);
 });

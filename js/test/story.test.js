@@ -2,7 +2,7 @@
 import assert from "node:assert/strict";
 import { readFileSync, readdirSync } from "node:fs";
 import { test } from "node:test";
-import { placeOf } from "../core/bench/places.js";
+import { placeOf } from "../core/conditions/places.js";
 import { Face } from "../core/board/face.js";
 import { stepsOfStory } from "../core/help/story.js";
 import { doAct } from "../core/help/story_acts.js";

@@ -3,7 +3,7 @@ import { test } from "node:test";
 import { markOfOutcomes, wordsOfCounts, wordsOfFaults, wordsOfOutcomes, wordsOfTime } from "../words/results.js";
 import { textOfCount, wordsOfCount } from "../page/text/count_marks.js";
 import { completeProperty, firstProperties, helpForProperty, propertyForms } from "../core/text/property_words.js";
-import { completeTest, helpForTest, testForms } from "../core/text/test_words.js";
+import { completeTest, firstTest, helpForTest, testForms } from "../core/text/test_words.js";
 
 const names = { keys: ["1", "2", "ENTER"], lamps: ["red", "green"], labels: ["start", "stop"] };
 const table = (...rows) => ({ caption: "", head: ["", ""], rows });
@@ -11,6 +11,7 @@ const table = (...rows) => ({ caption: "", head: ["", ""], rows });
 const manual = [{ title: "The lines of a test", tables: [
   table(["`test NAME ..`", "begins a test"], ["`press KEY ..`, `release KEY ..`", "keys go down, or up"], ["`reset`", "a power cycle"],
     ["`run TIME`", "runs for that long"], ["`expect CONDITION`", "fails if it does not hold"]),
+] }, { title: "Conditions", tables: [
   table(["`lamps NAME ..`, `lamps none`", "these lamps are lit"], ["`@LABEL`", "the counter is there"], ["`acc V`", "a register"],
     ["`ram.B.S V ..`", "the RAM character: `ram.0.0x00 2 4`"]),
 ] }, { title: "What may change", tables: [table(["`press KEY ..`", "these keys may go down"])],
@@ -32,7 +33,9 @@ test("words of tests are completed with the names of board and program", () => {
   assert.deepEqual(completed("keys 1 E"), ["ENTER"]);
   assert.deepEqual(completed("until @st"), ["@start", "@stop"]);
   assert.deepEqual(completed("expect not lamp r"), ["red"]);
-  assert.deepEqual(completed("expect lamp red o"), ["on", "off"]);
+  assert.deepEqual(completed("expect lamp red o"), ["on", "off", "or"]);
+  assert.deepEqual(completed("expect acc 3 and (lamp gr"), ["green"]);
+  assert.deepEqual(completed("until not key E"), ["ENTER"]);
   assert.deepEqual(completed("until lamps gr"), ["green"]);
   assert.ok(completed("expect ").includes("acc") && completed("expect ").includes("@stop"));
   assert.deepEqual([completed("# e"), completed("run 1"), completed("test e")], [[], [], []]);
@@ -87,4 +90,13 @@ test("the words of properties: what they become, and what the manual says of the
   assert.equal(helpForProperty(["never lamps none"], 0, 8, told), "lamps NAME ..: these lamps are lit");
   assert.match(firstProperties(names), /\nnote lamps\n\nreach lamp red on\n/);
   assert.match(firstProperties({ ...names, keys: [] }), /\ntest\nwait /);
+});
+
+test("a test to begin with presses the first key, and expects the first lamp", () => {
+  const lines = (keys, lamps) => firstTest({ keys, lamps }).split("\n").slice(2, -1);
+  assert.deepEqual(lines(["1", "2"], ["red", "green"]),
+    ["test the key 1 turns on red", "  press 1", "  run 50 ms", "  expect lamp red on"]);
+  assert.deepEqual(lines(["1"], []), ["test the key 1 turns on a lamp", "  press 1", "  run 50 ms", "  expect not lamps none"]);
+  assert.deepEqual(lines([], ["red"]), ["test red is on within a second", "  until lamp red on within 1 s"]);
+  assert.deepEqual(lines([], []), ["test it has run for 100 cycles", "  run 100", "  expect cycles 100"]);
 });

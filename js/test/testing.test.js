@@ -1,9 +1,10 @@
-// Tests of programs, run on the module of the page itself. checks/testing compares them with tools/test, cover and profile.
+// Tests of programs, run on the module of the page itself. checks/testing compares them with mcs4 test, cover and profile.
 import assert from "node:assert/strict";
 import { readFileSync } from "node:fs";
 import { before, test } from "node:test";
 import { Cancelled } from "../core/bench/faults.js";
 import { wordsOfCoverage } from "../core/testing/coverage.js";
+import { withTenths } from "../core/bench/numbers.js";
 import { readTested, runTests } from "../core/testing/testing.js";
 import { Engine } from "../core/engine/engine.js";
 import { moduleOfPage } from "./page_session.js";
@@ -88,7 +89,7 @@ test("a test that repeats for long can be left", async () => {
 test("faults of the texts are told, and nothing is run", async () => {
   const report = await runTests(engine, texts("test a\n  until lamps green within 10 ms\n  press x\n  run 10 years\n"), always);
   assert.deepEqual(report.faults.map(({ text, line, words }) => `${text}:${line}: ${words}`), [
-    "tests:2: the board has no lamp green; it has: left middle right",
+    "tests:2: the board has no lamp green; it has: left middle right (column 9)",
     "tests:3: the board has no key x; its text names no keys (`# row 0: NAME ..`)",
     "tests:4: it is written as `run TIME`, as in: run 500, run 20 ms, run 1.5 s",
   ]);
@@ -117,4 +118,9 @@ test("bytes of ROM that a test sets are in the counts of its own run alone", asy
   const { outcomes, profile } = await runTests(engine, texts(text), always);
   assert.deepEqual(outcomes.map(({ failure }) => failure), [null, null, null]);
   assert.equal(profile.total, profile.rows.reduce((sum, { own }) => sum + own, 0) + profile.begunBefore);
+});
+
+test("a number halfway between two tenths has the even one, as by printf", () => {
+  const printed = [0, 6.25, 93.75, 0.05, 33.3333, 99.96, 0.75, 20.25].map(withTenths);
+  assert.deepEqual(printed, ["0.0", "6.2", "93.8", "0.1", "33.3", "100.0", "0.8", "20.2"]);
 });

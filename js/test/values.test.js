@@ -1,12 +1,17 @@
 // What the words of a program stand for now, on the module of the page itself.
 import assert from "node:assert/strict";
 import { before, test } from "node:test";
+import { readBoard } from "../core/bench/answers.js";
+import { Face } from "../core/board/face.js";
 import { DebugSession } from "../core/debug/debug_session.js";
 import { LineChanges } from "../core/debug/line_changes.js";
 import { Standing } from "../core/debug/standing.js";
 import { textOf, valuesAt } from "../core/debug/value_words.js";
-import { readAllWatched, readWatched } from "../core/debug/watched.js";
+import { answerAt } from "../core/debug/standing_places.js";
+import { namesOfWatched, readAllWatched, readWatched } from "../core/debug/watched.js";
 import { Engine } from "../core/engine/engine.js";
+import { Answers, valuesOf } from "../core/engine/tracing.js";
+import { randomFrom } from "../core/explore/walks.js";
 import { moduleOfPage } from "./page_session.js";
 
 const BOARD = `rom = [{ chip = 0, port = "0000" }, { chip = 1, port = "ii00" }]
@@ -36,6 +41,12 @@ async function open(lines = POKES) {
 
 function standingOf(session, banks = [0, 2]) {
   return new Standing(["state", ...banks.map((bank) => `ram ${bank}`)].map((line) => session.ask(`${line}\n`).join("\n")));
+}
+
+/** The names that expressions may have. */
+function namesIn(session, map) {
+  const watched = namesOfWatched(["count = R4", "digit = ram 0 0x12", "total = count + digit", "loop = loop + 1"]);
+  return { face: new Face(BOARD), board: readBoard(session.ask("board\n")), map, watched };
 }
 
 /** What is told of a word of a line. */
@@ -123,24 +134,73 @@ test("what a line has changed: an instruction, a call that was stepped over; no 
   assert.deepEqual([...changes.lines], []);
 });
 
+test("what a look says of places is what trace answers", async () => {
+  const random = randomFrom(4);
+  const upTo = (most) => Math.floor(random() * most);
+  const text = `rom = [{ chip = 0, port = "0000" }, { chip = 1, port = "1i0i" }, { chip = 3, port = "i100" }]
+ram = [{ bank = 0, chips = 2 }, { bank = 5, chips = 1 }]
+lamp = [{ line = "ram0.1.2" }, { line = "chain0.3" }, { line = "rom3.1" }]
+chain = [{ clock = "rom0.0", data = "rom0.1", chips = 2 }]
+keys = { chain = 0, first = 0, rows = 2, columns = ["rom1.0", "rom1.2"] }
+`;
+  const places = ["acc", "cy", "dcl", "pc", "r0", "r15", "src", "ret", "lamps", "rom0", "rom1", "rom3", "rom1.0", "rom1.1",
+    "rom1.2", "rom1.3", "rom3.3", "rom3.2", "ram0.0", "ram0.1", "ram5.0", "ram0.1.2", "ram0.1.3", "chain0", "chain0.0", "chain0.3",
+    "chain0.19", "ram.0.0x12", "ram.0.0x7F", "ram.5.0x00", "st.0.1.2", "st.5.3.0", "ram.7.0x00", "rom9", "rom9.1"];
+  const { debugger: { session } } = new DebugSession(engine, { board: text, program: "" });
+  const board = readBoard(session.ask("board\n"));
+  for (let round = 0; round < 60; round++) {
+    const heads = [" FIM P0, ", " SRC P0", " LDM ", " WRR", " WMP", " WRM", " WR2", " DCL", " JMS x"];
+    const rows = Array.from({ length: 12 }, () => heads[upTo(heads.length)]);
+    const code = rows.map((row) => (/ $/.test(row) ? row + upTo(row.includes("FIM") ? 256 : 16) : row)).join("\n");
+    const moves = [0, 1].map((row) => `${upTo(2) ? "press" : "release"} ${row} ${upTo(2)}\n`).join("");
+    await session.serve(`${moves}asm\n${code}\nx: NOP\n.\npoke pc 0\npoke acc ${upTo(16)}\nrun ${1 + upTo(30)}\n`, async () => true);
+    const standing = standingOf(session, [0, 5]);
+    for (let from = 0; from < places.length; from += 16) {
+      const some = places.slice(from, from + 16);
+      const told = valuesOf(new Answers(session.ask(`trace 1 ${some.join(" ")}\n`)).takeTrace().row);
+      const answers = some.map((place) => `${place} ${answerAt(place, standing, board)}`);
+      assert.deepEqual(answers, some.map((place, at) => `${place} ${told[at]}`));
+    }
+  }
+});
+
 test("watched expressions have names of the user's own, and what cannot be read is told", async () => {
-  const { session } = await open();
+  const { session, map } = await open();
   const standing = standingOf(session);
+  const names = namesIn(session, map);
   for (const [text, name, wanted] of [
     ["count = R4", "count", "6"], ["digit= ram 0 0x12", "digit", "7"], ["st.0.1.2", "st.0.1.2", "9"], ["P2", "P2", "60"],
     ["x = acc", "x", "5"],
     ["far = ram 1 0", "far", "the board lacks it"], ["ram0.0", "ram0.0", "out 0"], ["keys = rom7", "keys", "the board lacks it"],
-    ["ROM0", "ROM0", "out 0, in 0"]]) {
-    const { watched, fault } = readWatched(text);
-    assert.deepEqual([fault, watched.name, textOf(watched.pieces(standing))], ["", name, wanted]);
-    assert.equal(readWatched(watched.text).watched.name, name);
+    ["ROM0", "ROM0", "out 0, in 0"], ["pc", "pc", standing.registers.counter],
+    ["R4 = 6", "R4 = 6", "true"], ["r4 == 0x7", "r4 == 0x7", "false"], ["next = R4 + 1", "next", "7"],
+    ["P2 + acc", "P2 + acc", "101 (0x65)"],
+    ["count > 5 and digit = 7", "count > 5 and digit = 7", "true"], ["count + digit", "count + digit", "13 (0xD)"],
+    ["total + 1", "total + 1", "14 (0xE)"], ["0b101", "0b101", "5"], ["acc - P2", "acc - P2", "-91"], ["test = 1", "test = 1", "true"]]) {
+    const { watched, fault } = readWatched(text, names);
+    assert.deepEqual([fault, watched?.name, textOf(watched?.pieces(standing, names) || [])], ["", name, wanted], text);
+    assert.equal(readWatched(watched.text, names).watched.name, name);
   }
-  assert.deepEqual(readWatched("a = P2").watched.pieces(standing).map(({ place }) => place), ["r4", "r5"]);
-  for (const text of ["", "a =", "r16", "ram 8 0", "ram 0 256", "st 0 1 4", "p8", "acc 1", "count = 5", "ram0.4"]) {
-    assert.match(readWatched(text).fault, /is nothing to watch; there are acc, /);
+  assert.deepEqual(readWatched("a = P2").watched.pieces(standing, names).map(({ place }) => place), ["r4", "r5"]);
+  for (const [text, fault] of [
+    ["", "An expression is missing, as in: "], ["a =", "An expression is missing, as in: "],
+    ["loop", "in loop: in loop: in loop: loop names others"],
+    ["r16", "r16: no such place; the registers are r0 to r15 (column 1)"],
+    ["a = A + 1", "A: no such place; the accumulator is acc (column 5)"],
+    ["ram 8 0", "ram 8 0: no such place; a place of RAM is ram.BANK.SRC or st.BANK.REGISTER.NUMBER (column 1)"],
+    ["x = st 0 1 4", "st 0 1 4: no such place; "], ["p8", "p8: no such place; "], ["ram0.4", "ram0.4: no such place; ports are "],
+    ["coumt + 1", "coumt: no such place; perhaps count (column 1)"], ["R4 + (1", "this parenthesis is not closed (column 6)"],
+  ]) {
+    const read = readWatched(text, names);
+    assert.ok(read.fault.startsWith(fault), `${text}: ${read.fault}`);
   }
+  // What needs names is judged where there are some.
+  assert.equal(readWatched("r16").fault, "");
+  assert.equal(textOf(readWatched("r16").watched.pieces(standing, names)), "r16: no such place; the registers are r0 to r15");
   assert.match(readWatched("1a = R5").fault, /^A name has letters/);
-  assert.match(readWatched(`a = ${"x".repeat(60)}`).fault, /^It has more than 60/);
-  assert.deepEqual(readAllWatched(["a = R1", "nonsense", 5, null, "R2"]).map(({ text }) => text), ["a = R1", "R2"]);
-  assert.deepEqual(readAllWatched({ a: 1 }), []);
+  assert.match(readWatched(`a = ${"x".repeat(200)}`).fault, /^It has more than 200/);
+  const { all, fault } = readAllWatched(["a = R1", "r5 +", 5, null, "R2"]);
+  assert.deepEqual(all.map(({ text }) => text), ["a = R1", "R2"]);
+  assert.match(fault, /^a value is missing after \+ \(column 4\)/);
+  assert.deepEqual(readAllWatched({ a: 1 }), { all: [], fault: "" });
 });

@@ -151,7 +151,7 @@ test("a trigger that is not understood is told, and nothing is recorded", async 
   const { calls, texts } = await beginWith("calculator");
   const faultOf = (trigger) => calls.recordLive(texts, { trigger, behind: 0, stopsTime: false });
   const faults = {
-    "r99 rises": 'nothing here is called r99; the list "Lines and values" has the names',
+    "r99 rises": 'nothing here is called r99; Rows lists the names',
     "rom0 rises": "rom0 is a number: it is written as rom0 changes, or as rom0 = 5",
     "pc changes": "a place of the program is written as @LABEL",
     "r9 = 16": /15/,

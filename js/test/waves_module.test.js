@@ -1,15 +1,13 @@
 // Recordings with the module of the page itself.
 import assert from "node:assert/strict";
-import { readFileSync } from "node:fs";
 import { test } from "node:test";
 import { BenchCalls } from "../core/engine/bench_calls.js";
-import { vcdParts } from "../core/waves/vcd.js";
+import { neededLines, recordPieces } from "../core/engine/wave_stream.js";
+import { VcdText, vcdParts } from "../core/waves/vcd.js";
 import { Waves } from "../core/waves/waves.js";
+import { examplesOfPage, moduleOfPage } from "./page_session.js";
 
-const page = readFileSync(new URL("../../page/fethsaim.html", import.meta.url), "utf8");
-const partOf = (id) => new RegExp(`id="${id}">([^<]*)<`).exec(page)[1];
-const module = Buffer.from(partOf("module"), "base64");
-const { examples } = JSON.parse(partOf("data"));
+const [module, examples] = [moduleOfPage, examplesOfPage];
 
 async function begin(name, goesOn = async () => true) {
   const calls = new BenchCalls(goesOn);
@@ -132,4 +130,29 @@ test("registers, pairs, characters and ports are what the bench tells at each cy
     for (const [chip, out] of roms) if (chip === "0") assert.equal(at("rom0[3:0]", moment), out, `cycle ${moment}`);
   }
   assert.equal(at("ram.0.0x12", 700), calls.ask("run 700\nram 0\n")[3].split(" ")[1][2]);
+});
+
+test("a recording that is written piece by piece is the same file, also of a few lines, a port and values", async () => {
+  const begun = [["stopwatch", "test 0\nrun 1001\n", ["acc", "p2"]], ["calculator", "press 0 1\nrun 7\nstep\n", ["r5"]]];
+  for (const [name, lines, values] of begun) {
+    const { calls, texts } = await begin(name);
+    await calls.serve(lines);
+    const whole = new Waves(await calls.record(50001, false, { ...texts, values }));
+    const numbers = whole.lines.map((_, line) => line);
+    for (const some of [numbers, numbers.filter((line) => line % 7 === 3), numbers.filter((line) => whole.lines[line].kind === "port")]) {
+      const wanted = neededLines(whole.lines, some);
+      let [text, parts] = [null, []];
+      const state = calls.session.file.slice();
+      const { program } = whole;
+      for await (const waves of recordPieces(calls.engine, state, { lines: wanted.lines, program, cycles: 50001 }, async () => {})) {
+        if (!text) {
+          text = new VcdText(waves, wanted.chosen);
+          parts.push(text.head());
+        }
+        parts = [...parts, ...text.changes()];
+        assert.ok(waves.span <= 20000);
+      }
+      assert.equal([...parts, text.end()].join(""), [...vcdParts(whole, some)].join(""));
+    }
+  }
 });

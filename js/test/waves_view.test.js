@@ -1,6 +1,7 @@
 // What is seen of a recording, and what is told of it.
 import assert from "node:assert/strict";
 import { test } from "node:test";
+import { flagAt } from "../page/waves/wave_canvas.js";
 import { WaveWindow, ticksOf } from "../core/waves/wave_window.js";
 import {
   betweenText, cursorText, cyclesText, instructionText, microseconds, readCycles, recordedText, spokenText, valueText,
@@ -144,4 +145,33 @@ test("a value in three ways", () => {
 test("how many cycles are wanted", () => {
   assert.deepEqual(["1", " 10,000 ", "10,000,000"].map(readCycles), [1, 10000, 10000000]);
   assert.deepEqual(["0", "10000001", "", "x", "1.5", "-1", "999999999"].map(readCycles), [0, 0, 0, 0, 0, 0, 0]);
+});
+
+test("a recording that stands still is seen as a whole, unless a part of it was chosen", () => {
+  const view = windowOf(0, 500);
+  view.stretch(0, 154363);
+  assert.equal(view.from > 0, true);
+  view.fit();
+  assert.deepEqual([view.from, view.span], [0, 154363]);
+  view.zoom(100, 154363);
+  view.fit();
+  assert.equal(view.span, 1543.63);
+  view.zoom(1 / 20, 154363);
+  view.goTo(1000);
+  view.fit();
+  assert.equal(view.from, 1000);
+});
+
+test("the flag of a cursor is within the picture", () => {
+  assert.deepEqual([flagAt(300.5, 500), flagAt(500.5, 500), flagAt(498.5, 500)], [293.5, 486, 486]);
+});
+
+test("cursors that nobody has moved come to the first edges once a recording ends", () => {
+  const view = windowOf(0, 500);
+  view.stretch(0, 1000);
+  assert.deepEqual(view.cursors, [1000, 1000]);
+  view.placeCursors(100, 400);
+  assert.deepEqual(view.cursors, [100, 400]);
+  view.placeCursors(5, 6);
+  assert.deepEqual(view.cursors, [100, 400]);
 });

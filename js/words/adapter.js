@@ -37,7 +37,7 @@ export const changes = (place) => `${place} changes`;
 export const HELP = `Lines of the bench (regs, list @show 5, ram 0, poke r4 7, run 100, step, reset, ..), with @NAME for an address.
 press KEY, release KEY: a key goes down, or up; while time runs, press is a short press. keys KEYS: short presses, as time runs.
 until LABEL or ADDRESS, change PLACE: on up to there. back, back PLACE: an instruction back, before the last change. forward: again.
-R4, P2, ram.0.0x12, rom1, lamps, display, a name, a condition (r9 = 9 and lamp open on): what it is now.`;
+R4, P2, ram.0.0x12, rom1, lamps, display, a name, a condition (r9 = 9 or lamp open on): what it is now. set PLACE = VALUE.`;
 /** @type {(most: number) => string} */
 export const tooLong = (most) => `more than ${most} characters are not taken`;
 /** @type {(why: string) => string} */
@@ -49,7 +49,7 @@ export const keysWait = (count) => `${count} key${count === 1 ? " waits" : "s wa
 export const TIME_RUNS = "time runs: pause comes first";
 /** @type {(form: string) => string} */
 export const placeForm = (form) => `it is written as ${form}`;
-export const UNTIL_FORM = "until LABEL or until ADDRESS";
+export const UNTIL_FORM = "until LABEL, until ADDRESS or until CONDITION";
 export const CHANGE_FORM = "change PLACE, as in change r4";
 /** @type {(most: number) => string} */
 export const tooManyLines = (most) => `more than ${most} lines are not taken at once`;

@@ -1,5 +1,22 @@
 // What people read of the bench's faults: calls that failed, images of ROM. (Its refusals are words of tools/lib/refusals.txt.)
 
+// --- bench/answered_script.js ---
+export const FIRST_IS_SESSION = "the first line of the answers has to be `session N`";
+/** @type {(at: number, answer: string, line: number, input: string) => string} */
+export const noAnswer = (at, answer, line, input) => (
+  `line ${at} of the answers, \`${answer}\`, is no answer to line ${line} of the script, \`${input}\``);
+/** @type {(words: string, commands: number) => string} */
+export const otherCountOfCommands = (words, commands) => `${words}: ${commands} commands were accepted before it`;
+/** @type {(at: number, answer: string) => string} */
+export const comesAfterLast = (at, answer) => (
+  `line ${at} of the answers, \`${answer}\`, comes after the answer to the last line of the script`);
+
+// --- bench/begun_script.js ---
+/** @type {(commands: number, most: number) => string} */
+export const acceptedMore = (commands, most) => `it has accepted ${commands} commands, and the whole script makes ${most}`;
+/** @type {(commands: number) => string} */
+export const someDiffer = (commands) => `after ${commands} commands some answers differ`;
+
 // --- bench/faults.js ---
 export const IT_WAS_CANCELLED = "it was cancelled";
 export const WORKER_STOPPED = "the bench's worker has stopped";
@@ -7,10 +24,6 @@ export const WORKER_STOPPED = "the bench's worker has stopped";
 // --- bench/names_in_lines.js ---
 export const NO_SUCH_NAME = "the program has no such name";
 export const NAMES_UNKNOWN = "names are known while the source is the same as ROM";
-
-// --- bench/places.js ---
-export const PLACES_TOLD = "acc, cy, dcl, r0 to r15, ram.B.S, st.B.H.K, rom1.2, ram0.0.3, chain0.5, a whole port as rom1 or ram0.0, lamp 3 "
-  + "or lamps";
 
 // --- bench/ran.js ---
 /** @type {(runs: number, cycles: string) => string} */
@@ -20,6 +33,8 @@ export const manyRuns = (runs, cycles) => `run .. (${runs} lines, ${cycles} cycl
 export const NO_BYTE = "it has no byte";
 /** @type {(bytes: string, room: string) => string} */
 export const tooManyBytes = (bytes, room) => `it has ${bytes} bytes, and ROM has ${room}`;
+/** @type {(bytes: string, room: string, from: string) => string} */
+export const tooManyFrom = (bytes, room, from) => `it has ${bytes} bytes, and only ${room} fit from the address ${from} on`;
 export const BEGINS_WITH_COLON = "a record of Intel HEX begins with `:`";
 export const RECORD_FORM = "a record has `:`, ten hexadecimal digits and two for each byte";
 /** @type {(count: number, bytes: number) => string} */
@@ -31,12 +46,24 @@ export const PAST_LAST = "past the last address, FFF";
 export const secondTime = (address) => `the address ${address}, which an earlier line has`;
 /** @type {(type: number) => string} */
 export const beyondAll = (type) => `type 0${type} with another value than 0: an address past FFF`;
+/** @type {(type: string, size: number) => string} */
+export const otherSize = (type, size) => `a record of type ${type} has ${["no", "one", "two", "three", "four"][size]} bytes`;
 /** @type {(type: string) => string} */
 export const noType = (type) => `type ${type}, which has no meaning for a 4004`;
 export const AFTER_LAST = "a record after the last one (type 01)";
 /** @type {(line: number, fault: string) => string} */
 export const imageLine = (line, fault) => `line ${line}: ${fault}`;
 export const NO_LAST_RECORD = "it has no last record (:00000001FF), so a part of it is missing";
+
+// --- bench/rom_formats.js ---
+export const S_RECORD_FORM = "a record of Motorola has `S`, a digit, and two hexadecimal digits for each byte";
+export const SHORT_RECORD = "too short for its address";
+export const AFTER_S9 = "a record after the last one (S9)";
+export const NO_S9 = "it has no last record (S9), so a part of it is missing";
+/** @type {(word: string) => string} */
+export const bnpfForm = (word) => `a word of BNPF is B, eight of P and N, and F, as BNNNPNPNNF; this is ${word}`;
+/** @type {(word: string) => string} */
+export const bnpfWithoutEnd = (word) => `a word without its end, \`F\`: ${word}`;
 
 // --- bench/words.js ---
 export const UNKNOWN_REFUSAL = "a refusal that this page does not know; the manual has it";

@@ -8,7 +8,7 @@ export const keyAtTest = (kind, legend) => `${kind} ${legend}, at TEST`;
 export const NO_KEYS = "This board has no keys.";
 export const NAMES_KEYS = " Lines such as # row 0: 7 8 9 in the board's text give them names.";
 /** @type {(naming: string) => string} */
-export const keysHint = (naming) => `Shift-click keeps a key down. While time is stopped, a click puts a key down or up.${naming}`;
+export const keysHint = (naming) => `Shift-click holds a key. Paused: a click toggles it.${naming}`;
 
 // --- board/face.js ---
 export const A_SEGMENT = "a segment";
@@ -22,8 +22,8 @@ export const andMore = (count) => `And ${count} more.`;
 export const LAMPS_AND_KEYS = "Lamps and keys";
 /** @type {(milliseconds: number) => string} */
 export const asSeen = (milliseconds) => (
-  `Brightness is the part of the time for which a lamp is lit, as an eye sees it: over ${milliseconds} ms.`);
-export const AT_INSTANT = "Time is stopped: this is what is lit now.";
+  `Brightness is averaged over ${milliseconds} ms, as the eye does.`);
+export const AT_INSTANT = "Paused: lamps show this instant.";
 /** @type {(line: number, words: string) => string} */
 export const lineOfBoard = (line, words) => `line ${line} of the board's text: ${words}`;
 
@@ -107,8 +107,25 @@ export const BUZZER = "Buzzer";
 // --- board/wiring_view.js ---
 export const PARTS_AND_WIRES = "The board's parts and wires";
 export const TEST_PIN = "the TEST pin";
+/** @type {(number: number) => string} */
+export const pinOf = (number) => ` (pin ${number})`;
 /** @type {(takers: string) => string} */
 export const wiredTo = (takers) => `wired to ${takers}`;
 export const NOT_WIRED = "not wired";
 /** @type {(line: string) => string} */
 export const at = (line) => `at ${line}`;
+
+// --- board/shown_answers.js ---
+/** @type {(board: string) => string} */
+export const hasNoDisplay = (board) => `${board} has no display: a comment \`# display 0: 4 digits\` makes one`;
+/** @type {(line: number, answer: string) => string} */
+export const isRefusal = (line, answer) => `line ${line} of the answers is a refusal: ${answer}; mcs4 explain says why`;
+/** @type {(line: number, board: string) => string} */
+export const isInstant = (line, board) => (
+  `line ${line} of the answers has the lamps at an instant, and the digits of ${board} are lit by turns; `
+  + "`trace 2778 lamps` asks what is seen in 30 ms");
+/** @type {(line: number, count: number, board: string, needed: number) => string} */
+export const tooFewLamps = (line, count, board, needed) => (
+  `line ${line} of the answers has ${count} lamps, and the display of ${board} needs ${needed}`);
+export const ENDS_WITHIN_TRACE = "the answers end within one to `trace`";
+export const NO_LAMPS_SHOWN = "no answer shows the lamps";

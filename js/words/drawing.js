@@ -144,8 +144,9 @@ export const SHELF = {
   switch: ["Switch", "at the processor's TEST pin; it stays"],
   buzzer: ["Buzzer", "at the chosen output line, else at the next free one; the edges of its line are sound"],
 };
-export const NOT_WIRED = "Not wired yet.";
+export const NOT_WIRED = "Not applied yet.";
 export const SHOW_IN_BOARD = "Show in Board";
+export const INSERT_SCAN = "Insert code that scans these keys";
 
 // --- drawing/fields.js ---
 /** @type {(label: string) => string} */

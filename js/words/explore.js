@@ -12,7 +12,7 @@ export const testFails = (line, text, words) => `line ${line} of its tests fails
 
 // --- explore/campaign.js ---
 export const FORMS = "press, test, reset, together, wait, held, apart, from, begin, note, pace, never, always, at, after press, every, "
-  + "reach, model, or are written as `C only after press K, press K ..` or `@LABEL at most once for each press`";
+  + "reach, model, while, once, or are written as `C only after press K, press K ..` or `@LABEL at most once for each press`";
 /** @type {(word: string) => string} */
 export const labelForm = (word) => `a label is written as @LABEL, not ${word}`;
 export const WAIT_FORM = "it is written as `wait TIME to TIME`, from 1 cycle to 100,000 (1.08 s), as in: wait 1 ms to 20 ms";
@@ -36,6 +36,10 @@ export const NEVER_FORM = "it is written as `never CONDITION` or `never CONDITIO
 export const FOR_FORM = "it ends with `for TIME`, as in: for 20 ms";
 export const AT_FORM = "it is written as `at @LABEL CONDITION`";
 export const AFTER_FORM = "it is written as `after press KEY within TIME CONDITION`, as in: after press # within 50 ms lamp open on";
+export const GUARD_FORM = "a guard is written as `while CONDITION,`, `once CONDITION,`, `after press KEY,` or "
+  + "`after press KEY within TIME,` before never, always, at, after press or reach";
+/** @type {(most: number) => string} */
+export const mostGuards = (most) => `at most ${most} guards are before a property`;
 export const EVERY_FORM = "it is written as `every TIME @LABEL`, as in: every 20 ms @scan";
 /** @type {(line: string) => string} */
 export const noInstructionIn = (line) => `no instruction stands in line ${line} of the program`;
@@ -72,8 +76,6 @@ export const NEVER_RUN = "Never run: lines";
 export const NAMES = { board: "Board", program: "Source", properties: "Properties" };
 
 // --- explore/find_test.js ---
-/** @type {(condition: string) => string} */
-export const oneOf = (condition) => `  # one of: ${condition}`;
 export const FOURTH_CALL = "the fourth call leads there, and the oldest return address is lost";
 export const BBL_LEADS = "a BBL leads there, and no call is open";
 export const MORE_OFTEN = "it has come there more often than anything was pressed";
@@ -84,6 +86,8 @@ export const NO_FOURTH_CALL = "no more than three calls open";
 export const NO_LONE_RETURN = "no BBL without a call";
 
 // --- explore/report.js ---
+/** @type {(place: string, text: string) => string} a model, whose text has its command */
+export const notRun = (place, text) => `not run: ${text} (${place}): it runs a command of your shell; --allow-model allows it`;
 /** @type {(count: number, lines: string) => string} */
 export const linesAre = (count, lines) => `${count === 1 ? "line" : "lines"} ${lines}`;
 /** @type {(part: number, whole: number) => string} */
@@ -112,7 +116,7 @@ export const alwaysOneWay = (lines) => `always went one way: ${lines}`;
 /** @type {(steps: string) => string} */
 export const aSecond = (steps) => `, ${steps} a second`;
 /** @type {(board: string, program: string) => string} */
-export const foundByTool = (board, program) => `# Found by tools/explore: tools/test ${board} ${program} and this file.\n`;
+export const foundByTool = (board, program) => `# Found by mcs4 explore: mcs4 test ${board} ${program} and this file.\n`;
 
 // --- explore/subject.js ---
 /** @type {(which: string, number: number, line: string) => string} */

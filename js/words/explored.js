@@ -9,7 +9,7 @@ import { grouped, isRight, remarkOf, stepsOf } from "../core/explore/report.js";
  * @typedef {import("../core/explore/report.js").Told} Told
  */
 
-const NEEDS_COMMAND = "not asked: a page can start no command, and tools/explore can";
+const NEEDS_COMMAND = "a page cannot run a command; mcs4 explore --allow-model can";
 
 /**
  * How many are broken, and how many goals were not reached.
@@ -67,6 +67,7 @@ export function markOfReport(report) {
  * @param {boolean} goesOn
  */
 export function markOf(property, goesOn) {
+  if (property.isSkipped) return "not run";
   if (goesOn && property.isGoal && !property.found) return "open";
   return isRight(property) ? "ok" : "not ok";
 }
@@ -77,8 +78,8 @@ export function markOf(property, goesOn) {
  * @param {Report} report
  */
 export function wordsOfProperty(property, report) {
-  const { text, isGoal, found, applied, states } = property;
-  if (/^model /.test(text) && !found) return NEEDS_COMMAND;
+  const { isGoal, isSkipped, found, applied, states } = property;
+  if (isSkipped) return NEEDS_COMMAND;
   if (!found) return applied && states === 0 ? "" : remarkOf(property, report);
   return `${isGoal ? "reached" : "broken"} by ${stepsOf(found.steps)}, ${grouped(found.cycles)} cycles`;
 }

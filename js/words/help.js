@@ -11,8 +11,10 @@ export const rowsHaveIt = (count) => `${count} ${count === 1 ? "row has" : "rows
 
 // --- help/manual.js ---
 export const INSTRUCTIONS = "The 45 instructions";
+export const KEYBOARD = "The keyboard";
 export const CELLS = "What the cells show";
 /** The titles of the sections of docs/MANUAL.md whose rows begin with a line for the bench. */
+export const CONDITIONS_OF_JCN = "The sixteen conditions of JCN";
 export const SECTIONS_OF_LINES = ["Commands", "Queries"];
 
 // --- help/story_acts.js ---
@@ -108,41 +110,39 @@ down:   RDR             ; wait until one is down
 export const STEP_LAMP = {
   title: "A lamp",
   words: ["A board is wired for you: a processor, one ROM, one RAM chip with four lamps at its port, and two keys.",
-    "Type this program into Source, or press Put it into Source. Then press Assemble and run.",
-    "The step is done when the first lamp is lit."],
+    "Type this program into Source, or click Insert. Then click Assemble and run.",
+    "Goal: the first lamp is on."],
 };
 export const STEP_COUNT = {
   title: "A count",
   words: ["Four lamps show a number from 0 to 15. This program counts, and waits in between.",
-    "Try slow motion, too: the list Speed is beside Reset.",
-    "The step is done when the lamps have shown four different numbers."],
+    "Try slow motion, too: the list of speeds is beside Reset.",
+    "Goal: the lamps have shown four different numbers."],
 };
 export const STEP_KEY = {
   title: "A key",
   words: ["The keys are a matrix: a bit of a shift register (a 4003) drives their row, and the ROM's port reads their columns.",
     "Assemble and run it, then hold a key.",
-    "The step is done when a lamp is lit while a key is down."],
+    "Goal: a lamp is on while a key is down."],
 };
 export const STEP_BREAKPOINT = {
   title: "A breakpoint",
-  words: ["A run stops before a line that has a breakpoint. Click beside the line show: in Source, or on the line in the listing.",
-    "Then run.",
-    "Into (F11) runs one more instruction. A second click removes the breakpoint.",
-    "The step is done when a run has stopped at a breakpoint."],
+  words: ["The program pauses before a line with a breakpoint. Click beside the line show: in Source, or on the line in Disassembly.",
+    "Then press Continue.",
+    "Step into (F11) runs one more instruction. A second click removes the breakpoint.",
+    "Goal: the program pauses at a breakpoint."],
 };
 export const STEP_WATCH = {
   title: "A watch",
   words: ["This program keeps its count in RAM. Remove the breakpoint, assemble and run it.",
-    "Click the first character of RAM: a run stops where it changes. Then run and press a key.",
-    "The step is done when a run has stopped after that character changed."],
+    "Click the first nibble of RAM: the program pauses when it changes. Then press Continue, and a key.",
+    "Goal: the program pauses after that nibble has changed."],
 };
 
 // --- help/tour_view.js ---
 export const LAST_DONE = "Done: that was the last step. Help has all instructions and lines.";
 /** @type {(at: number, count: number, title: string) => string} */
 export const stepOf = (at, count, title) => `${at} of ${count}: ${title}`;
-export const END = "End";
+export const END = "Finish";
 export const NEXT_STEP = "Next step";
 export const DONE = "Done.";
-export const BACK_TO_STORY = "Back to the story";
-export const BACK_TO_STEPS = "Back to the first program";

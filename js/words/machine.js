@@ -5,12 +5,12 @@
 export const whereHolds = (condition) => ` where ${condition}`;
 /** @type {(from: number) => string} */
 export const fromHit = (from) => ` from hit ${from} on`;
-/** @type {(when: string, since: string, log: string) => string} */
-export const breakpointThat = (when, since, log) => `breakpoint${when}${since}${log}`;
+/** @type {(details: string) => string} */
+export const breakpointThat = (details) => `breakpoint${details && ` ${details}`}`;
 /** @type {(note: string) => string} */
-export const logs = (note) => `: logs "${note}", and does not stop`;
+export const logs = (note) => `: logs "${note}" and continues`;
 /** @type {(words: string, fault: string) => string} */
-export const neverStops = (words, fault) => `${words}: it stops nothing: ${fault}`;
+export const stopsAsUnsure = (words, fault) => `${words}: it stops at each arrival, because of an error: ${fault}`;
 /** @type {(words: string) => string} */
 export const isOff = (words) => `${words}: it is off`;
 /** @type {(words: string) => string} */
@@ -20,20 +20,36 @@ export const stopsLater = (words) => `${words}: it stops once the source is asse
 export const ON = "on";
 /** @type {(time: string) => string} */
 export const loggedAt = (time) => `at ${time}`;
-export const WHERE = "where";
-/** @type {(fault: string) => string} */
-export const stopsNothing = (fault) => `It stops nothing: ${fault}.`;
-export const STOPS_WHERE = "stops where this is true, in the words of tests: r9 = 9, lamp 3 on, display 42";
-export const SUCH_AS_CONDITION = "such as r9 = 9";
-export const FROM_HIT = "from hit";
-export const STOPS_FROM_HIT = "stops from this hit on";
-export const SUCH_AS_NOTE = "such as R4 is {r4}";
-export const LOG = "log";
-export const LOGGED = "is logged instead of a stop; {r9}, {lamps} give values";
+export const EDIT = "Edit";
+/** @type {(where: string) => string} */
+export const editBreakpoint = (where) => `edit the breakpoint at ${where}`;
 export const REMOVE_BREAKPOINT = "remove this breakpoint";
 export const REMOVES_IT = "removes it";
 /** @type {(count: string) => string} */
 export const moreNotes = (count) => `${count} more`;
+
+// --- machine/breakpoint_row.js ---
+export const WORDS_OF_BREAKPOINT = "Breakpoint";
+export const CONDITION = "Condition";
+/** @type {(fault: string) => string} */
+export const stopsEachTime = (fault) => `It stops at each arrival, because of an error: ${fault}.`;
+export const STOPS_WHERE = "stops where this is true, as in: R5 >= 8 and cy = 1, count = 9 or lamp 3 on, display 42";
+export const SUCH_AS_CONDITION = "such as r9 = 9";
+export const HIT_COUNT = "Hit count";
+export const STOPS_FROM_HIT = "stops from this hit on";
+export const SUCH_AS_NOTE = "such as R4 is {r4}";
+export const LOG_MESSAGE = "Log message";
+export const LOGGED = "is logged instead of a stop; {r9}, {lamps} give values";
+export const APPLY = "Apply";
+export const LEAVE = "Cancel";
+
+// --- machine/breakpoints_controller.js ---
+export const LINE = "Line";
+export const ADDS_BREAKPOINT = "Add breakpoint";
+export const REMOVES_BREAKPOINT = "Remove breakpoint";
+export const DISABLE = "Disable breakpoint";
+export const ENABLE = "Enable breakpoint";
+export const RUN_TO_LINE = "Run to this line";
 
 // --- machine/cell_editor.js ---
 export const NOT_HEXADECIMAL = "Type hexadecimal digits, as they are shown: 0 to 9, A to F.";
@@ -104,6 +120,9 @@ export const RAM_PORTS_STAY = "No line changes the output of a RAM chip's port: 
 export const registerOfChip = (bank, chip, register) => `bank ${bank}, chip ${chip}, register ${register}`;
 export const NO_RAM = "This board has no RAM.";
 export const CHARACTERS = "characters 0 to F";
+export const PORT = "port ";
+/** @type {(bank: number) => string} */
+export const bankOf = (bank) => `bank ${bank}`;
 /** @type {(register: string, character: number, source: string) => string} */
 export const characterTitle = (register, character, source) => `${register}, character ${character}: SRC byte ${source}`;
 /** @type {(register: string, character: number) => string} */
@@ -112,7 +131,7 @@ export const statusTitle = (register, character) => `${register}, status charact
 export const portTitle = (bank, chip) => `bank ${bank}, chip ${chip}: what its output port holds`;
 
 // --- machine/returns.js ---
-export const LEFT_OVER = "left over";
+export const LEFT_OVER = "stale";
 export const NO_CALL_WAITS = "No call waits for a BBL with this address.";
 /** @type {(line: number) => string} */
 export const callInLine = (line) => `call in line ${line}`;
@@ -137,13 +156,19 @@ export const noRomAt = (address, line) => `The board has no ROM at ${address}, w
 /** @type {(address: string, line: number) => string} */
 export const differsAt = (address, line) => `The source differs from ROM at ${address}, line ${line}: assemble it.`;
 
+// --- machine/source_places.js ---
+/** @type {(address: string) => string} */
+export const notInSource = (address) => `${address}, which the source does not fill`;
+/** @type {(address: string, line: number, code: string) => string} */
+export const inSource = (address, line, code) => `${address}, line ${line}: ${code}`;
+
 // --- machine/stack_view.js ---
 export const COUNTER_AND_RETURNS = "Counter and return addresses";
 
 // --- machine/usual_view.js ---
 /** @type {(fault: string) => string} */
 export const stopsBefore = (fault) => `time stops before ${fault}`;
-export const STOP_AT_THIS = " stop at this";
+export const STOP_AT_THIS = " Break on this";
 
 // --- machine/watched_view.js ---
 /** @type {(most: number) => string} */

@@ -1,7 +1,7 @@
 // What people read of the page as a whole: lines that are served, questions, notices, what the browser lacks.
 
 // --- lines/lines_view.js ---
-export const LINES_HINT = "Enter sends, Shift and Enter begin another line, the up arrow brings back what was sent. help lists all lines.";
+export const LINES_HINT = "Enter runs, Shift+Enter adds a line, the up arrow recalls. Type help for commands.";
 
 // --- lines/log_view.js ---
 /** @type {(line: string, count: number) => string} */
@@ -12,7 +12,7 @@ export const notKept = (fault) => `not kept: ${fault}`;
 // --- lines/serving.js ---
 export const SENDING_LINES = "Sending the lines.";
 export const LINES_TOO_LONG = "Not all lines were done: at most 16,777,216 bytes are read at once.";
-export const RESET_RUNNING = "Time runs. The board was reset.";
+export const RESET_RUNNING = "Running. The board was reset.";
 /** @type {(counter: string) => string} */
 export const wasReset = (counter) => `The board was reset; it is at ${counter}.`;
 
@@ -26,6 +26,12 @@ export const FOLDS = "folds or unfolds this panel";
 // --- ui/notice.js ---
 export const DISMISS = "Dismiss";
 export const DISMISS_NOTICE = "Dismiss the notice";
+/** @type {(word: string, words: string) => string} */
+export const ofNotice = (word, words) => `${word}: ${words}`;
+
+// --- ui/notice_list.js ---
+export const NOTICES = "Notices";
+export const CLOSE = "Close";
 
 // --- ui/work_view.js ---
 export const CANCELLING = "Cancelling.";
@@ -39,6 +45,10 @@ export const NOTHING_RECORDED = "It was cancelled, and nothing was recorded.";
 export const notSet = (why) => `Not set: ${why}`;
 export const NOT_DONE = "It was not done.";
 
+// --- page.js ---
+/** The name of a session whose board has no title. */
+export const MY_BOARD = "my board";
+
 // --- main.js ---
 export const NO_STORE = "This browser keeps nothing for this page: its store (IndexedDB) is missing, is blocked by the settings, or does "
   + "not answer. All works, but save the session to a file before you leave.";
@@ -49,6 +59,12 @@ export const hasNo = (what, needs) => `This browser has no ${what}. ${needs}`;
 /** @type {(why: string, needs: string) => string} */
 export const cannotStart = (why, needs) => `The bench could not be started: ${why}. ${needs}`;
 
+// --- ui/status_view.js ---
+export const ROM_MATCHES = "ROM matches source";
+export const ROM_DIFFERS = "ROM differs from source";
+/** Whether the session is saved. */
+export const SAVED = { example: "Not saved", saved: "Saved in this browser", failed: "Not saved" };
+
 // --- print_view.js ---
 /** @type {(name: string) => string} */
 export const sourceOf = (name) => `${name}: source`;
@@ -56,16 +72,17 @@ export const sourceOf = (name) => `${name}: source`;
 export const boardOf = (name) => `${name}: board`;
 
 // --- recovery.js ---
-export const STOPPED = "Stopped.";
+export const STOPPED = "Paused.";
 export const WORKER_RESTARTED = "The bench's worker has stopped and was started again. The session is as it was before.";
 /** @type {(why: string) => string} */
 export const cannotRestart = (why) => `The bench has stopped and could not be started again: ${why}. Save the session to a file.`;
 
 // --- session_ties.js ---
-export const TAKE_FROM_ROM = "Take it from ROM";
+export const TAKE_FROM_ROM = "Disassemble ROM";
 
 // --- text_ties.js ---
 export const RUNNING_TESTS = "Running the tests.";
+export const KEY_SCAN_INSERTED = "A routine that scans the keys is at the end of the source.";
 export const HAS_TEST = "Tests has it already.";
 export const TEST_ADDED = "A test was added.";
-export const TEST_AT_END = "It is at the end of Tests, where Run the tests runs it.";
+export const TEST_AT_END = "It is at the end of Tests, where Run tests runs it.";

@@ -1,4 +1,4 @@
-// What people read at the prompt of tools/debug.
+// What people read at the prompt of mcs4 debug.
 
 // --- prompt/breakpoint_commands.js ---
 export const WHICH_ONE = "which one? info breakpoints has their numbers";
@@ -19,12 +19,46 @@ export const notWatched = (place) => `${place} is not watched`;
 export const byContinue = (place) => `${place}, by continue`;
 export const NOTHING_WATCHED = "nothing is watched";
 
+// --- prompt/stop_commands.js ---
+/** @type {(condition: string) => string} a condition, and a note, as `break` reads them */
+export const ifCondition = (condition) => (condition && ` if ${condition}`);
+/** @type {(note: string) => string} */
+export const logNote = (note) => (note && ` log "${note}"`);
+export const CONDITION_FORM = "it is written as condition N CONDITION, as condition 1 r4 = 7";
+export const IGNORE_FORM = "it is written as ignore N COUNT, as ignore 1 5";
+export const COMMANDS_FORM = "it is written as commands N, and lines up to end";
+export const SAVE_FORM = "it is written as save breakpoints FILE";
+/** The first line of a file of breakpoints. */
+export const SAVED_HEAD = "# Breakpoints of mcs4 debug";
+export const TEMPORARY = ", temporary";
+/** @type {(id: number) => string} */
+export const stopsAlways = (id) => `Breakpoint ${id} has no condition now.`;
+/** @type {(most: string, text: string) => string} */
+export const ignoredIs = (most, text) => `a count of hits is 0 to ${most}, not ${text}`;
+/** @type {(id: number, count: number) => string} */
+export const willPass = (id, count) => {
+  if (count === 0) return `Breakpoint ${id} stops at its next hit.`;
+  return `Breakpoint ${id} lets the next ${count === 1 ? "hit" : `${count.toLocaleString("en")} hits`} pass.`;
+};
+/** @type {(most: number) => string} */
+export const tooManyCommands = (most) => `a breakpoint has at most ${most} commands; these are dropped`;
+/** @type {(id: number) => string} */
+export const commandsDropped = (id) => `the commands of breakpoint ${id} are dropped`;
+/** @type {(id: number) => string} */
+export const temporaryGone = (id) => `Breakpoint ${id} was temporary, and is deleted.`;
+/** @type {(name: string, count: number) => string} */
+export const savedIn = (name, count) => `${count} ${count === 1 ? "breakpoint" : "breakpoints"} saved in ${name}.`;
+
+// --- prompt/formats.js ---
+/** @type {(address: string, name: string) => string} */
+export const addressIs = (address, name) => `0x${address}${name && ` <${name}>`}`;
+/** @type {(format: string, formats: string) => string} */
+export const noFormat = (format, formats) => `${format || "nothing"} is not a format; formats are ${formats}`;
+/** @type {(what: string) => string} */
+export const noNumberOf = (what) => `${what} is not a number, so it has no format`;
+
 // --- prompt/change_commands.js ---
-export const SET_PLACES = "r4, p2, acc, cy, pc, dcl, test, ram.0.0x12, st.0.1.2 and rom.0x00F";
 export const BENCH_FORM = "it is written as bench LINE, as bench state";
-export const SET_FORM = "it is written as set PLACE = VALUE, as set r4 = 7";
-/** @type {(place: string, places: string) => string} */
-export const cannotBeSet = (place, places) => `${place} cannot be set: there are ${places}`;
 export const NO_FILE = "there is no file of the source to read";
 export const SOURCE_IN_ROM = "The source is in ROM.";
 
@@ -64,6 +98,13 @@ export const SESSION_FILE = "a session file, which has at each stop what was don
 export const IN_MEMORY = "in memory: nothing is kept";
 /** @type {(kinds: string) => string} */
 export const infoShows = (kinds) => `info shows ${kinds}`;
+/** @type {(kind: string) => string} */
+export const infoAlone = (kind) => `info ${kind} stands alone`;
+export const SYMBOL_FORM = "it is written as info symbol PLACE, as info symbol 0x00F";
+export const NO_LOCALS = "a 4004 has no local variables; info registers shows the registers, info names the names of the program";
+/** @type {(line: number, first: string, name: string, last: string) => string} */
+export const lineIs = (line, first, name, last) => (
+  `${line > 0 ? `Line ${line}` : "No line of the source"} is at 0x${first}${name && ` (${name})`}${last && ` and 0x${last}`}.`);
 
 // --- prompt/looks.js ---
 export const NO_RAM = "the board has no RAM";
@@ -76,10 +117,9 @@ export const noPlaceOfRam = (place) => `${place} is no place of RAM, as ram.0.0x
 export const noRamAt = (place) => `the board has no RAM at ${place}`;
 
 // --- prompt/move_commands.js ---
-export const UNTIL_FORM = "it is written as until PLACE, as until show";
+export const UNTIL_FORM = "it is written as until PLACE or until CONDITION, as until show, until r5 > 8";
 export const REVERSE_FORM = "reverse-continue stands alone; reverse-step N goes back so many instructions";
 export const FINISH_FORM = "finish stands alone";
-export const NO_CALL_WAITS = "no call waits for its return here";
 export const CONTINUE_FORM = "continue stands alone; run TIME lets a time pass";
 export const NOTHING_STOPS = "nothing would stop it: set a breakpoint, or let a time pass by run 100 ms";
 /** @type {(words: string, left: string) => string} */

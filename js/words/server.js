@@ -1,5 +1,11 @@
 // What people read of the language server, in an editor, and of project files.
 
+// --- server/beside_language.js ---
+/** @type {(file: string) => string} */
+export const nothingBeside = (file) => `there is no ${file} here, so this text is not checked; mcs4.toml can name a board and a program`;
+/** @type {(file: string, line: number) => string} */
+export const besideIsWrong = (file, line) => `${file} has an error${line > 0 ? ` in line ${line}` : ""}, so this text is not checked`;
+
 // --- server/board_language.js ---
 export const NO_BOARD_NAMES = "A board's text has no names that can be changed here.";
 
@@ -36,6 +42,19 @@ export const HEAD_FORM = "a message begins with one line Content-Length: N, and 
 /** @type {(most: number) => string} */
 export const headTooLong = (most) => `the head of a message has more than ${most} bytes`;
 
+/** @type {(got: number, size: number) => string} */
+export const messageIncomplete = (got, size) => `only ${got} of the ${size} bytes that Content-Length announces have arrived`;
+export const HEAD_INCOMPLETE = "only a part of the head of a message has arrived";
+
+/** @type {(size: number, most: number) => string} */
+export const sizeTooLarge = (size, most) => `Content-Length: ${size} is more than a message can have (${most} bytes)`;
+
+// --- server/inlay_hints.js ---
+/** @type {(address: string, cycles: string) => string} */
+export const hintOfInstruction = (address, cycles) => `0x${address}, ${cycles} cycle${cycles === "1" ? "" : "s"}`;
+/** @type {(address: string, bytes: number) => string} */
+export const hintOfData = (address, bytes) => `0x${address}, ${bytes} byte${bytes === 1 ? "" : "s"}`;
+
 // --- server/kinds.js ---
 /** @type {(key: string, path: string) => string} */
 export const noFile = (key, path) => `${key}: there is no file ${path}`;
@@ -47,6 +66,19 @@ export const CHANGES_ARE = "contentChanges is a list";
 export const TEXT_OF_CHANGE = "the text of a change";
 /** @type {(uri: string, why: string) => string} */
 export const faultsOf = (uri, why) => `the faults of ${uri}: ${why}`;
+
+// --- server/program_calls.js ---
+export const PROGRAM_BEGIN = "(start of the program)";
+/** @type {(count: number, what: string) => string} */
+const countOf = (count, what) => `${count} ${what}${count === 1 ? "" : "s"}`;
+/** @type {(calls: number, others: number) => string} */
+export const usesOf = (calls, others) => (
+  calls === 0 ? countOf(others, "reference") : `${countOf(calls, "call")}${others === 0 ? "" : `, ${countOf(others, "other reference")}`}`);
+
+// --- server/program_hover.js ---
+export const HEAD_OF_INSTRUCTIONS = ["Instruction", "Code", "Words", "Cycles", "What it does"];
+/** @type {(value: number, words: string) => string} */
+export const conditionIs = (value, words) => `condition ${value}: ${words}`;
 
 // --- server/program_language.js ---
 /** @type {(cycles: string) => string} */
@@ -60,11 +92,35 @@ export const NO_NAME_HERE = "No name of the program stands here.";
 export const isText = (what) => `${what} is a text`;
 export const POSITION_IS = "a position has a line and a character, whole numbers from 0";
 
+// --- server/requests.js ---
+/** @type {(what: string) => string} */
+export const isList = (what) => `${what} is a list`;
+/** @type {(command: string) => string} */
+export const noCommand = (command) => `there is no command ${command} here`;
+
+// --- server/test_language.js ---
+export const RUN_TEST = "Run test";
+
+// --- server/test_runs.js ---
+/** @type {(file: string) => string} */
+export const noFileBeside = (file) => `There is no ${file}, so nothing was run; mcs4.toml can name a board and a program.`;
+/** @type {(name: string) => string} */
+export const noTest = (name) => `There is no test ${name}.`;
+/** @type {(name: string) => string} */
+export const testPassed = (name) => `The test ${name} passed.`;
+/** @type {(name: string, line: number, words: string) => string} */
+export const testFailed = (name, line, words) => `The test ${name} failed in line ${line}: ${words}.`;
+/** @type {(file: string, line: number, words: string) => string} */
+export const notRun = (file, line, words) => `Nothing was run: ${file}${line > 0 ? `:${line}` : ""}: ${words}.`;
+
 // --- project/project_folder.js ---
 export const EMPTY = "it is empty; it names the files of the project, as board = \"board.toml\"";
 /** @type {(size: number, most: number) => string} */
 export const tooLong = (size, most) => `it has ${size} bytes, more than a project file can have (${most})`;
 export const ZERO_BYTES = "it has zero bytes; it is not a text";
+
+/** @type {(path: string) => string} */
+export const leadsOut = (path) => `${path} is a link that leads out of the project's folder`;
 
 // --- project/project_toml.js ---
 export const BOARD_IS = "board is the path of a file: board = \"board.toml\"";

@@ -11,7 +11,7 @@ export const notDeleted = (name, why) => `The session "${name}" was not deleted:
 export const notBroughtBack = (name, why) => `The session "${name}" was not brought back: ${why}.`;
 
 // --- session/current_session.js ---
-export const STOPPED = "Stopped.";
+export const STOPPED = "Paused.";
 /** @type {(name: string) => string} */
 export const titleOfPage = (name) => `${name} - Fethsaim`;
 /** @type {(why: string) => string} */
@@ -80,7 +80,6 @@ export const opens = (why) => (
   + "properties (.props), lines (.txt) and ROM (.hex, .bin)");
 export const NAMES_FILES = "it names files of a project: drop its folder on the page, or choose all of them";
 export const NOT_A_KIND = "not a kind of text that the bench has";
-export const S_RECORDS = "S-records are not read: make Intel HEX of them (srec_cat FILE -o image.hex -intel)";
 /** @type {(size: string, most: string) => string} */
 export const tooLong = (size, most) => `a text of ${size} characters, and ${most} is the most`;
 export const NOT_A_TEXT = "not a text, a session or a project";
@@ -89,8 +88,8 @@ export const EMPTY = "it is empty";
 // --- session/project_file.js ---
 /** The second line of a project file. */
 export const ABOUT_PROJECT =
-  "# A board, its program and a session of the bench Fethsaim. Its page opens this file; tools/project takes it apart.";
-export const ONE_OF_HEAD = "one of the head: `name`, `unended`, `break`, `#`, or `wire`, which begins the board's text";
+  "# A board, its program and a session of the bench Fethsaim. Its page opens this file; mcs4 project takes it apart.";
+export const ONE_OF_HEAD = "one of the head: `name`, `unended`, `break`, `value`, `#`, or `wire`, which begins the board's text";
 export const BOARD_TEXT = "the board's text";
 export const SOURCE_TEXT = "the source";
 export const TESTS_TEXT = "the tests' text";
@@ -103,7 +102,7 @@ export const hasToBe = (line, wanted) => `line ${line} of the project has to be 
 export const noEnd = (word) => `the text after \`${word}\` has no end, a line with a dot alone`;
 export const NO_PROJECT = "not a project of Fethsaim";
 /** @type {(version: string) => string} */
-export const otherVersion = (version) => `a project of version ${version}, which this page does not know`;
+export const otherVersion = (version) => `a project of version ${version}, which is not known here`;
 /** @type {(line: string) => string} */
 export const cutOff = (line) => `the project is cut off: its last line, \`${line}\`, is missing`;
 export const OTHER_CHECKSUM = "the project is damaged, or was changed by hand: its checksum is another one. "
@@ -114,6 +113,19 @@ export const TOO_MANY_BYTES = "the file has more bytes than a project can have";
 export const END_OF_FILE = "the end of the file";
 export const NOT_UTF8 = "the project is damaged: it is not a text in UTF-8";
 
+export const HAS_ZERO_BYTES = "the project has zero bytes; it is not a text";
+
+// --- session/project_parts.js ---
+/** The first line of the project file of a folder. */
+export const ABOUT_PROJECT_FILE = "# The project of this folder: what commands, editors and the page use when nothing else is named.";
+export const UNNAMED = "session";
+/** @type {(line: number) => string} */
+export const noBreakpoint = (line) => `line ${line} is no breakpoint, as \`break line 14\` or \`break at 0x00F\``;
+/** @type {(count: number, most: number) => string} */
+export const tooManyBreakpoints = (count, most) => `it has ${count} breakpoints, more than a project can have (${most})`;
+/** @type {(line: number) => string} */
+export const emptyValue = (line) => `line ${line} is empty; a value is a line such as \`count = R5\``;
+
 // --- session/rom_files.js ---
 /** @type {(chip: number, address: string) => string} */
 export const lacksRom = (chip, address) => (
@@ -123,6 +135,7 @@ export const bytesInRom = (bytes, name, stand, first) => `${bytes} of ${name} ${
 
 // --- session/session_manager.js ---
 export const IN_ANOTHER_TAB = "This session is open in another tab. Go on there, close that tab, or open a copy of it.";
+export const OPEN_A_COPY = "Open a copy";
 /** @type {(why: string) => string} */
 export const cannotReadKept = (why) => `The sessions that are kept could not be read: ${why}.`;
 export const NO_LONGER_KEPT = "it is no longer kept here";
@@ -136,7 +149,8 @@ export const aCopy = (name) => `${name}, a copy`;
 export const fileNotOpened = (name, why) => `${name} was not opened: ${why}. The session that is shown is as it was.`;
 export const THE_FOLDER = "the folder";
 /** @type {(why: string) => string} */
-export const noProjectSaved = (why) => `No project was saved: ${why}. Shorten it first; "Save .mcs" saves the session without its texts.`;
+export const noProjectSaved = (why) => (
+  `No project was saved: ${why}. Shorten it first; "Save session for mcs4" saves the session without its texts.`);
 
 // --- session/sessions_controller.js ---
 export const KEPT_HERE = "They are kept in this browser, on this machine. To have one elsewhere, or to be safe when the browser forgets, "
@@ -149,6 +163,9 @@ export const sessionLeft = (name, isKept) => (
 export const BACK_TO_IT = "Back to it";
 /** @type {(name: string) => string} */
 export const noSuchExample = (name) => `The address names an example, "${name}", that this page does not have.`;
+/** @type {(hash: string) => string} */
+export const namesNothing = (hash) => (
+  `The address ends with ${hash}, which names nothing here. It can end with #example= and a name, or with a link that *Share* has made.`);
 /** @type {(names: string) => string} */
 export const deleted = (names) => `Deleted ${names}.`;
 /** @type {(name: string) => string} */
@@ -226,31 +243,30 @@ export const WHICH_TEXT = {
 };
 /** Where a text stands that is for the board and the program as they are, and what is done with it. */
 export const BESIDE = {
-  tests: "stands in Tests. Run the tests runs it on Board and Source as they stand.",
+  tests: "stands in Tests. Run tests runs it on Board and Source as they stand.",
   properties: "stands in Properties. Explore looks for what breaks it, on Board and Source as they stand.",
 };
-/** @type {(name: string) => string} */
-export const boardReplaced = (name) => `The board's text was replaced by ${name}.`;
-/** @type {(name: string) => string} */
-export const sourceReplaced = (name) => `The source was replaced by ${name}.`;
 export const SOURCE = "Source";
 export const ASSEMBLES = "Assemble and run puts it into ROM";
 export const BOARD = "Board";
-export const WIRES = "Wire makes it the board";
+export const WIRES = "Apply board puts it on the bench";
 export const BOARD_AND_SOURCE = "Board and Source";
 /** @type {(name: string, where: string, what: string, then: string) => string} */
 export const textIsIn = (name, where, what, then) => `${name} is in ${where}. ${what}${then}.`;
 export const THEN_ASSEMBLE = ", then Assemble and run";
-/** @type {(what: string, name: string) => string} */
-export const textReplaced = (what, name) => `${what} was replaced by ${name}.`;
 export const SAME_AS_ROM = "The source is the same as ROM already.";
 export const TAKEN_FROM_ROM = "The source was taken from ROM.";
 export const REPLACE_SOURCE = "Replace the source?";
 /** @type {(old: string, found: string) => string} */
 export const sizesOfSources = (old, found) => `The source has ${old}. What is in ROM gives ${found}, without comments and names.`;
+/** @type {(name: string) => string} */
+export const replaceByOdd = (name) => `Replace the source by ${name}?`;
+/** @type {(name: string) => string} */
+export const eachLineWrong = (name) => `Each line of ${name} has an error, so it is probably not a program.`;
 export const REPLACE_IT = "Replace it";
 export const LEAVE_AS_IS = "Leave it as it is";
 /** @type {(what: string) => string} */
 export const textIsBack = (what) => `${what} is back as it was.`;
+export const TEXTS_ARE_BACK = "The board's text and the source are back as they were.";
 /** @type {(name: string) => string} */
 export const inOtherSession = (name) => `That was in the session "${name}". Open it first; then it can be undone.`;

@@ -20,6 +20,9 @@ export const REASONS = {
   recorded: "where the waves after the trigger are recorded",
 };
 
+/** Out of a subroutine goes only who is in one. */
+export const NO_CALL_WAITS = "no call waits for its return here";
+
 /** @type {(line: number) => string} a line of a text, by its number */
 export const wordsOfLine = (line) => `line ${line}`;
 
@@ -56,6 +59,7 @@ export function wordsOfGone(goal, gone, where, breakpoint) {
   }
   if (end === "beginning") return `Back at ${where}${before}, where what is remembered begins: no breakpoint was passed since.`;
   const who = line ? `the line ${line}` : "this instruction";
+  if (goal.kind === "when") return `Back at ${where}${before}: ${who} makes ${goal.condition} true.`;
   return `Back at ${where}${before}: ${who} changes ${gone.place} from ${from} to ${to}.`;
 }
 
@@ -67,6 +71,7 @@ function whyNot(goal, why) {
   if (goal.kind === "forward") return "forward leads where going back came from, until something else is done";
   if (goal.kind === "stop") return "no stop before this one is remembered";
   if (goal.kind === "instruction" || why === "short" && goal.kind === "arrival") return "what is remembered reaches no further back";
+  if (goal.kind === "when") return `${goal.condition} has not become true as far back as is remembered`;
   if (why === "lacks") return `this board has no ${goal.place}`;
   return `${goal.place} has not changed as far back as is remembered`;
 }
@@ -92,6 +97,7 @@ export function wordsOfGoal(goal) {
   if (goal.kind === "here") return `the address ${hex(goal.address, 3)}`;
   if (goal.kind === "count") return `the end of ${goal.count.toLocaleString("en")} instructions`;
   if (goal.kind === "change") return `a change of ${goal.place}`;
+  if (goal.kind === "when") return `the condition ${goal.condition}`;
   return "the return from the subroutine";
 }
 
@@ -100,7 +106,7 @@ export function wordsOfGoal(goal) {
  * @param {Goal} goal
  */
 export function wordsOfMove(goal) {
-  return `Time runs, up to ${wordsOfGoal(goal)}.`;
+  return `Running to ${wordsOfGoal(goal)}.`;
 }
 
 /**
@@ -109,8 +115,9 @@ export function wordsOfMove(goal) {
  * @param {string} where
  */
 function reached(goal, returns, where) {
-  if (goal.kind === "here") return `Stopped at ${where}, as wanted`;
-  if (goal.kind === "change") return `Stopped at ${where}, after ${goal.place} changed`;
+  if (goal.kind === "here") return `Paused at ${where}, as wanted`;
+  if (goal.kind === "change") return `Paused at ${where}, after ${goal.place} changed`;
+  if (goal.kind === "when") return `Paused at ${where}, after ${goal.condition} became true`;
   if (goal.kind === "count") return `${goal.count.toLocaleString("en")} instruction${goal.count === 1 ? " was" : "s were"} done`;
   return returns ? `Returned to ${where}` : `At ${where}`;
 }
@@ -123,26 +130,27 @@ function reached(goal, returns, where) {
  */
 export function wordsOfStop(goal, { why, cycles, returns }, where, when = "") {
   if (why === "lacks") return `Nothing was done: this board has no ${goal && goal.kind === "change" ? goal.place : "such place"}.`;
+  if (why === "outside") return `Nothing was done: ${NO_CALL_WAITS}.`;
   const after = `after ${wordsOfCycles(cycles)}`;
   if (goal && why === "goal") return `${reached(goal, returns, where)}, ${after}.`;
   const reason = (REASONS[why] || why) + (why === "break" ? when : "");
-  return goal ? `Stopped at ${where}, ${reason}, ${after}; ${wordsOfGoal(goal)} was not reached.` : `Stopped at ${where}, ${reason}.`;
+  return goal ? `Paused at ${where}, ${reason}, ${after}; ${wordsOfGoal(goal)} was not reached.` : `Paused at ${where}, ${reason}.`;
 }
 
 /**
  * When a breakpoint stops: `, where r9 = 9`, `, at hit 5`.
  * @param {{ condition: string, from: number, hits: number } | undefined} breakpoint
+ * @param {string} [fault] why it cannot be read: it stops at each arrival then
  */
-export function wordsOfWhen(breakpoint) {
+export function wordsOfWhen(breakpoint, fault = "") {
   if (!breakpoint) return "";
+  if (fault !== "") return ` that has an error, ${fault}`;
   const { condition, from, hits } = breakpoint;
   return (condition.trim() ? `, where ${condition.trim()}` : "") + (from > 1 ? `, at hit ${hits.toLocaleString("en")}` : "");
 }
 
 /** @type {(where: string) => string} */
-export const standsAt = (where) => `Stands at ${where}.`;
-/** @type {(where: string) => string} */
-export const stoppedAt = (where) => `Stopped at ${where}.`;
+export const stoppedAt = (where) => `Paused at ${where}.`;
 
 /**
  * Time was stopped by a hand before its goal.
@@ -151,7 +159,7 @@ export const stoppedAt = (where) => `Stopped at ${where}.`;
  * @param {string} where
  */
 export function wordsOfHalt(goal, cycles, where) {
-  return goal ? `Stopped at ${where}, after ${wordsOfCycles(cycles)}; ${wordsOfGoal(goal)} was not reached.` : stoppedAt(where);
+  return goal ? `Paused at ${where}, after ${wordsOfCycles(cycles)}; ${wordsOfGoal(goal)} was not reached.` : stoppedAt(where);
 }
 
 /**
@@ -162,5 +170,5 @@ export function wordsOfHalt(goal, cycles, where) {
  */
 export function wordsOfBroken(goal, ran, where) {
   const what = `${wordsOfGoal(goal)} was ${ran ? "not reached" : "looked for, and nothing was done"}`;
-  return `Stopped at ${where}: ${what}, as the page was loaded again or another session was shown.`;
+  return `Paused at ${where}: ${what}, as the page was loaded again or another session was shown.`;
 }

@@ -5,8 +5,18 @@
 export const covered = ([run, all, waysRun, ways], percent, percentOfWays) => (
   `${run} of ${all} instructions were run${percent}, ${waysRun} of ${ways} ways of conditional jumps${percentOfWays}`);
 
+// --- testing/coverage_text.js ---
+export const NEVER = "never";
+/** @type {(from: number, to: number) => string} */
+export const fromTo = (from, to) => `${from} to ${to}`;
+/** @type {(line: number, isTaken: boolean) => string} */
+export const wayOf = (line, isTaken) => `${line} (${isTaken ? "always" : "never"} taken)`;
+/** @type {(lines: string, areMany: boolean) => string} */
+export const neverRun = (lines, areMany) => `never run: ${areMany ? "lines" : "line"} ${lines}`;
+/** @type {(lines: string, areMany: boolean) => string} */
+export const oneWayAlone = (lines, areMany) => `one way alone: ${areMany ? "lines" : "line"} ${lines}`;
+
 // --- testing/last_instructions.js ---
-export const SECOND_CYCLE = "(the second cycle)";
 /** @type {(row: string) => string} */
 export const comesNext = (row) => `${row}comes next`;
 
@@ -21,17 +31,36 @@ export const wasPassed = (last, what, when) => `${last}; ${what} was ${when}`;
 export const passedLast = (ago) => `passed last ${ago}`;
 export const NOT_PASSED = "not passed in this test";
 
-// --- testing/setting.js ---
-/** @type {(word: string) => string} */
-export const noRomAt = (word) => `the board has no ROM at ${word}`;
-export const SET_FORM = "it is written as `set PLACE VALUE`, as in: set test 0, set ram.0.0x12 7";
-export const AND_ROM = " and rom.A";
+// --- testing/profile_text.js ---
+/** @type {(time: string) => string} */
+export const inMilliseconds = (time) => `${time} ms`;
+/** @type {(cycles: number, time: string) => string} */
+export const cyclesInTime = (cycles, time) => `${cycles} cycles, ${time}`;
+export const PROFILE_HEAD = ["label", "at", "own", "own %", "calls", "with calls", "longest"];
+export const KEYS_HEAD = ["key", "presses", "answered", "longest to a lamp", "to the last lamp"];
+
+// --- testing/tap.js ---
+/** @type {(text: string) => string} */
+export const tapMessage = (text) => `message: ${text}`;
+/** @type {(text: string) => string} */
+export const tapPlace = (text) => `at: ${text}`;
+/** @type {(text: string) => string} */
+export const tapLine = (text) => `line: ${text}`;
+/** @type {(cycles: number) => string} */
+export const tapCycles = (cycles) => `cycles: ${cycles}`;
+/** @type {(text: string) => string} */
+export const tapLamps = (text) => `lamps: ${text}`;
+/** @type {(text: string) => string} */
+export const tapRegisters = (text) => `registers: ${text}`;
+export const TAP_TRACE = "trace: |";
 
 // --- testing/test_run.js ---
 /** @type {(state: string, test: string) => string} */
 export const stateNotThere = (state, test) => `the state ${state} is not there, since the test \`${test}\` did not come to save it`;
-/** @type {(name: string, line: number) => string} */
-export const stepsOfLine = (name, line) => `the steps ${name} of line ${line}`;
+/** @type {(line: number, file: string) => string} a line of this text, or of another file */
+const placeOf = (line, file) => (file ? `${file}:${line}` : `line ${line}`);
+/** @type {(name: string, line: number, file: string) => string} */
+export const stepsOfLine = (name, line, file) => `the steps ${name} of ${placeOf(line, file)}`;
 /** @type {(turn: number, times: number, line: number) => string} */
 export const turnOf = (turn, times, line) => `turn ${turn} of ${times} of line ${line}`;
 /** @type {(cycles: number, why: string) => string} */
@@ -52,6 +81,8 @@ export const runStoppedAt = (cycles, why, told) => `the run stopped after ${cycl
 export const didNotCome = (cycles, told, passed) => `it did not come within ${cycles} cycles: ${told}${passed}`;
 
 // --- testing/test_text.js ---
+/** @type {(word: string) => string} */
+export const noRomAt = (word) => `the board has no ROM at ${word}`;
 export const RUN_FORM = "it is written as `run TIME`, as in: run 500, run 20 ms, run 1.5 s";
 export const REPEAT_FORM = "it is written as `repeat COUNT`, 1 to 100,000: the lines down to its `end` are done so often";
 export const CHOICE_FORM =
@@ -63,8 +94,8 @@ export const NOT_ASCII = "a byte that is neither a tab nor a printing character 
 export const beginsWithTest = (line) => `a text of tests begins with \`test NAME\`, and this is: ${line}`;
 export const TEST_NAME = "a test has a name: test NAME";
 export const STEPS_NAME = "shared steps have a name, one word: steps NAME";
-/** @type {(name: string, line: number) => string} */
-export const stepsAlready = (name, line) => `the steps ${name} stand at line ${line} already`;
+/** @type {(name: string, line: number, file: string) => string} */
+export const stepsAlready = (name, line, file) => `the steps ${name} stand at ${placeOf(line, file)} already`;
 export const NO_END = "this `repeat` has no `end`";
 export const END_FORM = "`end` stands alone";
 export const NO_REPEAT = "there is no `repeat` for this `end`";
@@ -106,8 +137,6 @@ export const NO_CYCLES = "cycles are no condition of `until`; use `run` or `expe
 export const PACE_FORM = "it is written as `pace TIME TIME`: how long a key is down, and how long it is up after it";
 
 // --- testing/tests_tab.js ---
-export const FIRST_TEST = "# What has to be, line by line. F1 has the words; Ctrl and Space completes them.\n\n"
-  + "test it has run for 100 cycles\n  run 100\n  expect cycles 100\n";
 export const WAS_CANCELLED = "It was cancelled; what is shown is from before.";
 
 // --- testing/tests_view.js ---

@@ -2,6 +2,9 @@
 
 // --- text/alike.js ---
 export const OR = " or ";
+/** @type {(words: string[], end?: string) => string} what is meant by a mistyped word, behind the sentence that rejects it */
+export const didYouMean = (words, end = "") => (
+  words.length > 0 ? `; did you mean ${words.join(OR)}?${end && ` ${end}`}` : end && `; ${end}`);
 
 // --- text/assembling.js ---
 /** @type {(bytes: string, isOne: boolean, first: string) => string} */
@@ -59,6 +62,8 @@ export const noValue = (text) => `a value stands here, not ${text}`;
 export const numberForm = (text) => `a number has no 0 before it; a text stands in quotes: "${text}"`;
 /** @type {(text: string) => string} */
 export const textForm = (text) => `${text} is a text, so it stands in quotes: "${text}"`;
+/** @type {(most: number) => string} */
+export const tooDeep = (most) => `more than ${most} brackets and braces are open here`;
 export const NO_BRACKET = "the closing ] is missing";
 export const COMMA_OF_VALUES = "a comma stands between two values, ] after the last";
 export const NO_BRACE = "the closing } is missing in this line";
@@ -113,7 +118,11 @@ export const sizeOf = (size, most, unit) => `${size} of ${most} ${unit}`;
 export const MAY_BE_MORE = "There may be more.";
 /** @type {(bytes: string) => string} */
 export const assembledAll = (bytes) => `${bytes} assembled, the rest of ROM is 0. It runs from 000 on.`;
-export const BOARD_WIRED = "The board is wired.";
+/** @type {Record<string, string>} the texts, by their names */
+const TEXTS = { program: "Source", board: "Board", tests: "Tests", properties: "Properties" };
+/** @type {(name: string, line: number) => string} */
+export const problemAt = (name, line) => `${TEXTS[name]}, line ${line}: `;
+export const BOARD_WIRED = "Board applied.";
 export const FIRST_BOARD = "The first board's text is in Board.";
 /** @type {(line: number, words: string, more: number) => string} */
 export const firstFault = (line, words, more) => `line ${line}: ${words}${more > 0 ? `, and ${more} more` : ""}`;
@@ -153,6 +162,10 @@ export const lineIs = (last) => `A line is a number from 1 to ${last}.`;
 /** @type {(chip: number, address: string) => string} */
 export const noRomForLine = (chip, address) => (
   `the board has no ROM ${chip}, where this line stands (${address}): wire a [[rom]] with chip = ${chip}`);
+
+// --- text/program_format.js ---
+/** @type {(most: string, size: string) => string} */
+export const layoutTooLong = (most, size) => `in columns the program would have ${size} characters; at most ${most} are accepted`;
 
 // --- text/program_words.js ---
 /** What other assemblers call it, and what does it here. */
@@ -259,7 +272,16 @@ export const replaced = (count) => `${count} replaced`;
 export const foundOf = (at, count) => `${at} of ${count}`;
 
 // --- text/test_words.js ---
+export const ABOUT_TESTS = "# What has to be, line by line. F1 has the words; Ctrl and Space completes them.\n\n";
+/** @type {(key: string, lamp: string) => string} */
+export const testOfKey = (key, lamp) => `test the key ${key} turns on ${lamp}\n  press ${key}\n  run 50 ms\n  expect lamp ${lamp} on\n`;
+/** @type {(key: string) => string} */
+export const testOfKeyAlone = (key) => `test the key ${key} turns on a lamp\n  press ${key}\n  run 50 ms\n  expect not lamps none\n`;
+/** @type {(lamp: string) => string} */
+export const testOfLamp = (lamp) => `test ${lamp} is on within a second\n  until lamp ${lamp} on within 1 s\n`;
+export const TEST_OF_CYCLES = "test it has run for 100 cycles\n  run 100\n  expect cycles 100\n";
 export const LINES_OF_TEST = "The lines of a test";
+export const CONDITIONS = "Conditions";
 
 // --- text/text_editor.js ---
 export const TAB_INDENTS = "Tab indents. Escape and then Tab leaves the text.";

@@ -6,44 +6,56 @@ export const inMilliseconds = (time) => `${time} ms`;
 /** @type {(time: string) => string} */
 export const inSeconds = (time) => `${time} s`;
 
+// --- time/run_times.js ---
+/** @type {(cycles: number, time: string) => string} */
+export const cyclesAndMicroseconds = (cycles, time) => `${cycles} cycle${cycles === 1 ? "" : "s"}, ${time} microseconds`;
+/** @type {(line: number, answer: string) => string} */
+export const isRefusal = (line, answer) => `line ${line} is a refusal: ${answer}; mcs4 explain says why`;
+/** @type {(lines: number) => string} */
+export const onlyAnswers = (lines) => `there are only ${lines} lines of answers`;
+export const NO_RUN = "none of these lines shows a run, as `ok 5 ran 100 end` does";
+/** @type {Record<string, string>} */
+export const WHY_STOPPED = {
+  end: "", break: ", to a breakpoint", watch: ", to a change of a watched character", code: ", to a code that is not an instruction",
+};
+/** @type {(place: string) => string} */
+export const toPlace = (place) => `, to ${place}`;
+
 // --- time/cycles_view.js ---
 export const MARKS_CYCLE = "marks this cycle; a second press shows how many cycles are in between";
 export const MARK = "Mark";
 export const OR_SINCE_BEGUN = "or since this session was begun or opened here";
 export const SINCE_RESET = "since reset ";
 export const LAST_STRETCH = "in the last time that ran without a stop";
-export const SINCE_STOP = "since the last stop ";
+export const SINCE_STOP = "since pause ";
 export const SINCE_MARK = "since the mark ";
 export const BETWEEN_MARKS = "between the marks ";
 
 // --- time/history_view.js ---
 /** @type {(most: string) => string} */
 export const giveCount = (most) => `Nothing was done: give a number of instructions, 1 to ${most}.`;
-/** @type {(places: string) => string} */
-export const giveChange = (places) => `Nothing was done: give a place whose change is wanted: ${places}.`;
+export const GIVE_CHANGE = "Nothing was done: enter a place such as r5, lamp 3 or rom0.2, or a condition such as r5 > 8.";
+/** @type {(fault: string) => string} */
+export const cannotBeSought = (fault) => `Nothing was done: ${fault}.`;
 
 // --- time/running.js ---
 /** @type {(rate: string) => string} */
 export const cyclesASecond = (rate) => `${rate} cycles a second`;
-export const STOP = "Stop";
-export const TIME_RUNS = "Time runs.";
+/** @type {(name: string, errors: number) => string} of a session; how many of its breakpoints cannot be read */
+export const timeRuns = (name, errors) => `Running "${name}". F5 pauses it.${errors === 0 ? "" : errorsIn(errors)}`;
+/** @type {(errors: number) => string} */
+const errorsIn = (errors) => (
+  ` ${errors === 1 ? "A breakpoint has an error: it stops" : `${errors} breakpoints have errors: they stop`} at each arrival.`);
 /** @type {(time: string, isHidden: boolean) => string} */
 export const timeStood = (time, isHidden) => (
-  `Time runs. It was stopped for ${time} ${isHidden ? "while the page was hidden" : "while the page could not work"}.`);
-export const RUN = "Run";
+  `Running. Paused for ${time} while ${isHidden ? "the page was hidden" : "the tab was busy"}.`);
 /** @type {(answer: string, why: string) => string} */
-export const stoppedBy = (answer, why) => `Stopped: ${answer}: ${why}.`;
+export const stoppedBy = (answer, why) => `Paused: ${answer}: ${why}.`;
 
 // --- time/speeds.js ---
 export const REAL_TIME = "real time";
 export const ONE_A_SECOND = "an instruction a second";
 export const FULL_SPEED = "full speed";
-
-// --- time/stepping.js ---
-export const OVER = "Over";
-export const OVER_TITLE = "F10: one instruction; a subroutine that it calls runs as a whole";
-export const OUT = "Out";
-export const OUT_TITLE = "Shift and F11: up to the return from this subroutine";
 
 // --- time/travel.js ---
 export const LOOKING_FOR_GOAL = "Looking for the goal.";

@@ -42,10 +42,39 @@ export const NO_LINE_CHOSEN = "No line is chosen: choose the lines for the file.
 
 // --- waves/trigger.js ---
 /** @type {(name: string) => string} */
-export const noSuchName = (name) => `nothing here is called ${name}; the list "Lines and values" has the names`;
+export const noSuchName = (name) => `nothing here is called ${name}; Rows lists the names`;
 export const LABEL_FORM = "a place of the program is written as @LABEL";
 /** @type {(name: string) => string} */
 export const numberForm = (name) => `${name} is a number: it is written as ${name} changes, or as ${name} = 5`;
+
+// --- waves/wave_view.js ---
+export const ROW = "Row";
+export const RENAME = "Rename";
+export const NAME = "Name";
+/** @type {(name: string) => string} */
+export const nameOf = (name) => `Name of ${name}`;
+export const GROUP = "Group";
+/** @type {(name: string) => string} */
+export const groupOf = (name) => `Group of ${name}`;
+export const LEAVE_GROUP = "Leave the group";
+export const UNGROUP = "Ungroup";
+export const FOLD = "Fold or unfold";
+export const MOVE_UP = "Move up";
+export const MOVE_DOWN = "Move down";
+export const HIDE = "Hide";
+export const COLOURS = { "": "Usual colour", "red": "Red", "amber": "Amber", "green": "Green", "blue": "Blue", "violet": "Violet" };
+/** @type {(name: string) => string} */
+export const groupIs = (name) => `group ${name}, `;
+
+// --- waves/measuring.js ---
+/** @type {(value: string, isWhole: boolean, time: string) => string} */
+export const hasValueFor = (value, isWhole, time) => `${value} for ${isWhole ? "" : "at least "}${time}`;
+/** @type {(told: string, time: string, frequency: string) => string} */
+export const withPeriod = (told, time, frequency) => `${told}; period ${time}, ${frequency}`;
+/** @type {(hertz: string) => string} */
+export const inHertz = (hertz) => `${hertz} Hz`;
+/** @type {(kilohertz: string) => string} */
+export const inKilohertz = (kilohertz) => `${kilohertz} kHz`;
 
 // --- waves/wave_catalog.js ---
 /** @type {(name: string) => string} */
@@ -115,3 +144,10 @@ export const recordedSpan = (cycles, microseconds) => `${cycles} recorded, ${mic
 export const thenNoInstruction = (told) => `${told} Then comes a code that is no instruction.`;
 /** @type {(told: string) => string} */
 export const noFurtherBack = (told) => `${told} The past reaches no further back.`;
+
+// --- waves/line_choice.js ---
+/** @type {(name: string) => string} */
+export const noSuchLine = (name) => `the board has no line ${name}; mcs4 wave --lines SESSION prints the names of its lines`;
+export const LABEL_NEEDS_PROGRAM = "`label` needs the program that is in ROM: --names PROGRAM";
+/** @type {(name: string) => string} */
+export const lineTwice = (name) => `the line ${name} is given twice`;

@@ -1,13 +1,15 @@
 # Which program is started: need_program. A script reads this by `.`, after it has set `top`, the folder of the repository.
 # shellcheck shell=sh disable=SC2034
 
-# The program that was proved and built here, and a line with the checksums of its sources and its bytes.
+# The program that was proved and built here.
 built=$top/crates/mcs4/out/mcs4
-built_from=$top/crates/mcs4/out/mcs4.from
 # The program that is shipped, the same for systems with another C library or an older one, that for aarch64, and their checksums.
 shipped=$top/shipped/mcs4
 static=$top/shipped/mcs4-static
 aarch64=$top/shipped/mcs4-aarch64
+# The program that searches for `mcs4 prove`: the one that was proved and built here, and the shipped one, for Linux on x86-64 with any C library.
+built_prover=$top/crates/mcs4_prove/out/mcs4_prove
+prover=$top/shipped/mcs4-prove
 sums=$top/shipped/SUMS
 
 # To compare all sources takes a tenth of a second. So what was found is remembered with the size and the times of each file that was
@@ -32,6 +34,9 @@ names=$remembered/$names$rest.names
 seen=${names%.names}.seen
 more=${names%.names}.more
 seen_more=$seen'_more'
+# A line for each program that this user built, with the checksums of its sources and of its bytes. It is kept outside of the tree, which may
+# have come from somebody else with a program and any file beside it.
+built_from=$remembered/built
 
 # A line for the folder of what is remembered, and one for each file and folder that is there of those whose names stand in a file behind
 # its first line.
@@ -102,14 +107,24 @@ runs_here() {
     [ "$status" -eq 2 ]
 }
 
-# Finds what is installed, which has no sources to compare with.
+# Whether this is what ./install or a package has installed: it has no sources to compare with, but the checksum of its program. A file of
+# that name in a clone is none of theirs.
+is_installed() {
+    [ -f "$top/installed" ] && [ ! -e "$top/crates.txt" ]
+}
+
+# Finds a program that is installed: its file, and the name of its checksum.
 find_installed() {
-    if [ ! -x "$shipped" ]; then
+    if [ ! -x "$1" ]; then
         fault="it is not there; install it again"
-    elif [ ! -e /lib64/ld-linux-x86-64.so.2 ] && ! runs_here "$shipped"; then
+    elif ! command -v sha256sum > /dev/null; then
+        fault="there is no sha256sum (Debian's package coreutils) to compare its checksum with"
+    elif [ "$(sha256sum < "$1")" != "$(sed -n "s/^$2 //p" "$top/installed")  -" ]; then
+        fault="it is damaged: its checksum is not the one in $top/installed; install it again"
+    elif [ ! -e /lib64/ld-linux-x86-64.so.2 ] && ! runs_here "$1"; then
         fault="it does not run on this system, $(uname -s) on $(uname -m); install it again"
     else
-        program=$shipped
+        program=$1
     fi
 }
 
@@ -123,12 +138,15 @@ find_by_sources() {
         if [ -z "$fault" ]; then program=$aarch64; fi
     else
         fault=$(fault_of_shipped "$sources" "$shipped" program x86_64)
-        if [ -z "$fault" ]; then
-            program=$shipped
-        elif [ -f "$static" ] && [ -z "$(fault_of_shipped "$sources" "$static" static x86_64)" ]; then
-            program=$static
-            fault=
-        fi
+        case $fault in
+        '') program=$shipped ;;
+        "$does_not_run"*)
+            if [ -f "$static" ] && [ -z "$(fault_of_shipped "$sources" "$static" static x86_64)" ]; then
+                program=$static
+                fault=
+            fi
+            ;;
+        esac
     fi
 }
 
@@ -137,8 +155,8 @@ find_by_sources() {
 find_program() {
     program=
     fault=
-    if [ -f "$top/installed" ]; then
-        find_installed
+    if is_installed; then
+        find_installed "$shipped" program
         return
     fi
     if recall; then return; fi
@@ -158,19 +176,37 @@ find_program() {
     fi
 }
 
+# Finds the program that searches for `mcs4 prove`, as find_program does. It is not remembered: a search takes longer than to compare the sources.
+find_prover() {
+    program=
+    fault=
+    if is_installed; then
+        find_installed "$prover" prover
+        return
+    fi
+    . "$top/tools/lib/sums.sh"
+    sources=$(sum_of_crate mcs4_prove)
+    if is_built "$sources" "$built_prover"; then
+        program=$built_prover
+    else
+        fault=$(fault_of_shipped "$sources" "$prover" prover x86_64)
+        if [ -z "$fault" ]; then program=$prover; fi
+    fi
+}
+
 # The program that is to be started: finds it, or says why there is none and proves and builds it first. That it is the shipped one is
-# told once to each user.
+# said once to each user.
 need_program() {
     find_program
-    if [ -n "$fault" ] && [ -f "$top/installed" ]; then
-        echo "mcs4: $shipped is not started: $fault" >&2
+    if [ -n "$fault" ] && is_installed; then
+        echo "mcs4: $shipped is not started: $fault" >&2 || :
         exit 126
     elif [ -n "$fault" ]; then
-        echo "mcs4: the program in shipped/ is not started: $fault. It is proved and built here first" >&2
+        echo "mcs4: the program in shipped/ is not started: $fault. It is proved and built here first" >&2 || :
         "$top/tools/build" >&2
         program=$built
-    elif [ "$program" != "$built" ] && [ ! -f "$top/installed" ] && [ -n "$remembered" ] && [ ! -e "$remembered/told" ] && make_remembered && { : > "$remembered/told"; } 2> /dev/null; then
+    elif [ "$program" != "$built" ] && ! is_installed && [ -n "$remembered" ] && [ ! -e "$remembered/told" ] && make_remembered && { : > "$remembered/told"; } 2> /dev/null; then
         echo "mcs4: this is the program in shipped/. It was proved and built from these very sources, but not on this machine; tools/build" \
-            "proves and builds it here. This is said once" >&2
+            "proves and builds it here. This is said once" >&2 || :
     fi
 }

@@ -8,9 +8,11 @@ if ! command -v sha256sum > /dev/null; then
 fi
 
 . "$top/tools/lib/start.sh"
+# What is installed of the commands beside their modules.
+commands=$top/shipped/commands
 # The page, and what else in its folder is no source of it.
 page=$top/page/fethsaim.html
-page_made='page/(from_npm/.*|fethsaim\.(html|png)|test/.*|check|package\.json|tsconfig\.json|\.eslintrc\.json)'
+page_made='page/(from_npm/.*|fethsaim\.(html|png)|check|tsconfig\.json)'
 
 # The lines of crates.txt for a crate and the crates of this repository that it stands on, without comments.
 lines_of() {
@@ -103,7 +105,7 @@ names_of_start() {
     lines=$(lines_of mcs4)
     {
         # shellcheck disable=SC2086
-        printf '%s\n' crates.txt "${built#"$top/"}" "${built_from#"$top/"}" "${shipped#"$top/"}" "${static#"$top/"}" "${aarch64#"$top/"}" "${sums#"$top/"}" \
+        printf '%s\n' crates.txt "${built#"$top/"}" "$built_from" "${shipped#"$top/"}" "${static#"$top/"}" "${aarch64#"$top/"}" "${sums#"$top/"}" \
             tools/lib/sums.sh tools/lib/start.sh $made_for_aarch64 /lib64/ld-linux-x86-64.so.2
         echo "$lines" | crates_of_lines | sed 's|^|crates/|'
         names_of_crates "$lines" d
@@ -116,16 +118,28 @@ shipped_sum() {
     awk -v name="$1" '$1 == name { print $2 }' < "$sums"
 }
 
-# Takes note of the program that was just built from sources of this checksum.
+# Notes a program, ./mcs4's where none is named, that was just built from sources of this checksum. Without a folder for the note, no later start takes it.
 note_built() {
-    echo "$1 $(sum_of_input < "$built")" > "$built_from.new"
-    mv "$built_from.new" "$built_from"
+    line="$1 $(sum_of_input < "${2:-$built}")"
+    if make_remembered && (umask 077 && {
+        if is_own_note; then grep -vxF -- "$line" "$built_from" | tail -n 99; fi
+        echo "$line"
+    } > "$built_from.$$" && mv -f -- "$built_from.$$" "$built_from") 2> /dev/null; then return; fi
+    echo "mcs4: cannot note in ${remembered:-a home} that this program was built here; the next start does not take it" >&2 || :
 }
 
-# There is a program here that was built from sources of this checksum.
-is_built() {
-    [ -x "$built" ] && [ -f "$built_from" ] && [ "$(cat "$built_from")" = "$1 $(sum_of_input < "$built")" ]
+# Whether the note of programs that were built is this user's alone.
+is_own_note() {
+    [ -n "$remembered" ] && [ -O "$remembered" ] && [ -f "$built_from" ] && [ ! -h "$built_from" ] && [ -O "$built_from" ]
 }
+
+# Whether a program, ./mcs4's where none is named, was built here by this user from sources of this checksum.
+is_built() {
+    [ -x "${2:-$built}" ] && is_own_note && grep -qxF -- "$1 $(sum_of_input < "${2:-$built}")" "$built_from"
+}
+
+# Begins the words about a program that is whole and of these sources, but not for this system.
+does_not_run="it does not run on this system"
 
 # Why a shipped program is not to be started on this system over sources of this checksum; nothing where it is. Its file, its name in
 # shipped/SUMS, and the machine that it is for, as `uname -m` names it.
@@ -139,7 +153,7 @@ fault_of_shipped() {
     elif [ "$(sum_of_input < "$2")" != "$(shipped_sum "$3")" ]; then
         echo "it is damaged, since its checksum is not the one in shipped/SUMS"
     elif ! runs_here "$2"; then
-        echo "it does not run on this system ($(echo "$said" | tail -n 1))"
+        echo "$does_not_run ($(echo "$said" | tail -n 1))"
     fi
 }
 
@@ -151,11 +165,21 @@ sum_of_module() {
     } | sum_of_input
 }
 
-# The checksum of what the page is made from: its module, the page's folder but for what is made or tested there, the examples, the texts
+# The checksum of what the page is made from: its module, the page's folder but for what is made there, the modules of js that it joins, the examples, the texts
 # that tools and page share, and the manual, whose tables the page shows.
 sum_of_page() {
     {
         sum_of_module
-        (cd "$top" && find page examples tools/lib/*.txt docs/MANUAL.md -type f -print) | grep -vxE "$page_made" | sums_of_files
+        (cd "$top" && find page js/core js/page js/words examples tools/lib/*.txt docs/MANUAL.md -type f -print) | grep -vxE "$page_made" | sums_of_files
     } | sum_of_input
+}
+
+# The checksum of what tools/ship has made of the commands.
+sum_of_commands() {
+    (cd "$top" && find shipped/commands -type f) | sums_of_files | sum_of_input
+}
+
+# The checksum of the modules that that is made from.
+sum_of_command_sources() {
+    (cd "$top" && find js/core js/words js/node -type f) | sums_of_files | sum_of_input
 }

@@ -82,11 +82,10 @@ ok 10 - the number of \#
 status 1
 told
 tested() {
-    verdict "$(outcome tools/test $three/board.toml $three/three_lamps.asm "$folder/lamps.test" 2>&1 | sed -n '/^TAP/p; /^1\.\./p; /ok [0-9]/p; /^  message/p; /^status/p')" \
+    verdict "$(outcome ./mcs4 test $three/board.toml $three/three_lamps.asm "$folder/lamps.test" 2>&1 | sed -n '/^TAP/p; /^1\.\./p; /ok [0-9]/p; /^  message/p; /^status/p')" \
         "$(cat "$folder/told")" "$1"
 }
 tested "conditions and failures"
-page_too $three/board.toml $three/three_lamps.asm "$folder/lamps.test"
 # Whatever awk is there says the same; mawk reads a pipe line by line where it is told so.
 for other in gawk mawk original-awk "busybox awk"; do
     if command -v "${other%% *}" > /dev/null; then
@@ -95,7 +94,7 @@ for other in gawk mawk original-awk "busybox awk"; do
         chmod +x "$folder/bin/awk"
         (
             PATH=$folder/bin:$PATH
-            outcome tools/test $three/board.toml $three/three_lamps.asm "$folder/lamps.test" |
+            outcome ./mcs4 test $three/board.toml $three/three_lamps.asm "$folder/lamps.test" |
                 sed -n '/^TAP/p; /^1\.\./p; /ok [0-9]/p; /^  message/p; /^status/p'
         ) > "$folder/other"
         verdict "$(cat "$folder/other")" "$(cat "$folder/told")" "the same by $other"
@@ -150,8 +149,7 @@ awk 'BEGIN {
     print "test the other half\n run 1\n until owed 0 within 10\n expect cycles 2"
     print "test TEST\n until test 0 within 10"
 }' > "$folder/kinds.test"
-page_too "$folder/kinds.toml" "$folder/kinds.asm" "$folder/kinds.test"
-verdict "$(outcome tools/test "$folder/kinds.toml" "$folder/kinds.asm" "$folder/kinds.test" | sed -n '/^not ok/p; /^  message/p; /^status/p')" \
+verdict "$(outcome ./mcs4 test "$folder/kinds.toml" "$folder/kinds.asm" "$folder/kinds.test" | sed -n '/^not ok/p; /^  message/p; /^status/p')" \
     "not ok 58 - never
   message: \"it did not come within 40 cycles: rom1 in is 8, and has to be 10; the label passed last is end, 1 cycle ago\"
 not ok 59 - too late
@@ -162,8 +160,7 @@ status 1" "each kind of condition"
 
 # The last instructions before a failure, with keys that were pressed.
 printf 'test t\npress 5\nrun 12\nexpect lamps open\n' > "$folder/one.test"
-page_too $lock/board.toml $lock/lock.asm "$folder/one.test"
-verdict "$(outcome tools/test $lock/board.toml $lock/lock.asm "$folder/one.test" | sed -n '/trace/,$p')" \
+verdict "$(outcome ./mcs4 test $lock/board.toml $lock/lock.asm "$folder/one.test" | sed -n '/trace/,$p')" \
     "  trace: |
               press 1 1
            0  000 40 2C JUN start        acc 0 cy 0

@@ -1,8 +1,7 @@
-# tools/cover: the counts are those of a step for each instruction; LCOV's format; a report by hand.
+# mcs4 cover: the counts are those of a step for each instruction; LCOV's format; a report by hand.
 # shellcheck shell=sh
 
 make_count
-page_too $three/board.toml "$folder/count.asm" "$folder/count.test"
 cat > "$folder/covered" <<'covered'
                           two = 2
          1                        FIM P0, 0xE0    ; R0: two turns
@@ -23,7 +22,7 @@ status 0
 covered
 # FIM 2, twice JMS 2, CLC 1, BBL 1, ISZ 2, then JCN 2 and JUN 2: 18 cycles, and 11 times 2 up to 40.
 sed 's/^        10 /        11 /' < "$folder/covered" > "$folder/covered_by_hand"
-verdict "$(outcome tools/cover --lcov "$folder/count.info" $three/board.toml "$folder/count.asm" "$folder/count.test")" \
+verdict "$(outcome ./mcs4 cover --lcov "$folder/count.info" $three/board.toml "$folder/count.asm" "$folder/count.test")" \
     "$(cat "$folder/covered_by_hand")" "coverage by hand"
 verdict "$(cat "$folder/count.info")" "TN:
 SF:$folder/count.asm
@@ -50,17 +49,36 @@ LF:9
 LH:8
 end_of_record" "LCOV's format by hand"
 
+# A jump that is always taken: eight turns of CLC 1, JCN 2 and JUN 2 are 40 cycles.
+cat > "$folder/always.asm" <<'program'
+turn:   CLC
+        JCN 10, next    ; if the carry is 0
+        NOP
+next:   JUN turn
+program
+verdict "$(outcome ./mcs4 cover --lcov "$folder/always.info" $three/board.toml "$folder/always.asm" "$folder/count.test")" \
+    "         8                turn:   CLC
+         8 8/0                    JCN 10, next    ; if the carry is 0
+     never                        NOP
+         8                next:   JUN turn
+
+3 of 4 instructions were run (75.0 %), 1 of 2 ways of conditional jumps (50.0 %)
+never run: line 3
+one way alone: line 2 (always taken)
+status 0" "coverage of a jump that is always taken"
+verdict "$(sed -n '/^BR/p' "$folder/always.info" | tr '\n' ' ')" "BRDA:2,0,0,8 BRDA:2,0,1,0 BRF:2 BRH:1 " "LCOV's format of a jump that is always taken"
+
 # Counts of 6,000 cycles of the calculator with a key down, by \`cover\` and by \`step\` and \`regs\`.
-tools/script $calculator/board.toml $calculator/calculator.asm > "$folder/script"
+./mcs4 script $calculator/board.toml $calculator/calculator.asm > "$folder/script"
 {
     cat "$folder/script"
     echo 'press 1 2'
 } | begins calc
 cp "$folder/calc.mcs" "$folder/copy.mcs"
-outcome tools/cover --lcov "$folder/calc.info" --session "$folder/calc.mcs" 6000 $calculator/calculator.asm > "$folder/report"
+outcome ./mcs4 cover --lcov "$folder/calc.info" --session "$folder/calc.mcs" 6000 $calculator/calculator.asm > "$folder/report"
 verdict "$(tail -n 1 "$folder/report"; cmp "$folder/calc.mcs" "$folder/copy.mcs" && echo same)" "status 0
 same" "the coverage of a session"
-tools/listing $calculator/calculator.asm > "$folder/listing"
+./mcs4 listing $calculator/calculator.asm > "$folder/listing"
 awk 'BEGIN { for (i = 0; i < 6000; i++) print "regs\nstep" }' | goes_on calc
 verdict "$(sed -n 's/^DA://p' "$folder/calc.info")" "$(awk '
     FNR == 1 { file++ }
@@ -75,12 +93,13 @@ verdict "$(sed -n 's/^DA://p' "$folder/calc.info")" "$(awk '
     }
 ' "$folder/answers" "$folder/listing" $calculator/calculator.asm)" "counts by \`count\` and by steps"
 refuses 1 "cover: the session has another program than $lock/lock.asm: at 001 stands 24, and line 16 makes 2C" \
-    tools/cover --session "$folder/calc.mcs" 100 $lock/lock.asm
-refuses 1 "cover: cannot write $folder/none/x.info: its folder is not there, or cannot be written" tools/cover --lcov "$folder/none/x.info" --session "$folder/calc.mcs" 10 $calculator/calculator.asm
-refuses 1 "cover: CYCLES is a decimal number, 1 to 100000000" tools/cover --session "$folder/calc.mcs" 0 $calculator/calculator.asm
+    ./mcs4 cover --session "$folder/calc.mcs" 100 $lock/lock.asm
+refuses 1 "cover: cannot write $folder/none/x.info: its folder is not there, or cannot be written" ./mcs4 cover --lcov "$folder/none/x.info" --session "$folder/calc.mcs" 10 $calculator/calculator.asm
+misuses "CYCLES is a decimal number, 1 to 100000000" ./mcs4 cover --session "$folder/calc.mcs" 0 $calculator/calculator.asm
 refuses 2 "cover: PROGRAM is missing
-usage: cover [-C FOLDER] [--lcov FILE] [BOARD PROGRAM] [TEST ..], cover [--lcov FILE] --session SESSION CYCLES PROGRAM" \
-    tools/cover --session "$folder/calc.mcs" 100
+usage: mcs4 cover [-C FOLDER] [--lcov FILE] [BOARD PROGRAM] [TEST ..]
+       mcs4 cover [--lcov FILE] --session SESSION CYCLES PROGRAM" \
+    ./mcs4 cover --session "$folder/calc.mcs" 100
 if command -v genhtml > /dev/null; then
     genhtml -q --branch-coverage -o "$folder/html" "$folder/count.info" > "$folder/words" 2>&1 || cat "$folder/words" >&2
     find "$folder/html" -name 'count.asm.gcov.html' -exec cat {} + > "$folder/page"
@@ -102,17 +121,18 @@ stays() {
 }
 cp $three/board.toml "$folder/mine.toml"
 cp "$folder/count.asm" "$folder/mine.asm"
-cover_usage="usage: cover [-C FOLDER] [--lcov FILE] [BOARD PROGRAM] [TEST ..], cover [--lcov FILE] --session SESSION CYCLES PROGRAM"
+cover_usage="usage: mcs4 cover [-C FOLDER] [--lcov FILE] [BOARD PROGRAM] [TEST ..]
+       mcs4 cover [--lcov FILE] --session SESSION CYCLES PROGRAM"
 stays "$folder/mine.toml" 2 "cover: TEST is missing
-$cover_usage" tools/cover --lcov "$folder/mine.toml" "$folder/count.asm" "$folder/count.test"
+$cover_usage" ./mcs4 cover --lcov "$folder/mine.toml" "$folder/count.asm" "$folder/count.test"
 stays "$folder/mine.toml" 1 "cover: $folder/mine.toml is there, and does not begin as a file of LCOV's format does (TN:); name another file, or move it away" \
-    tools/cover --lcov "$folder/mine.toml" $three/board.toml "$folder/count.asm" "$folder/count.test"
+    ./mcs4 cover --lcov "$folder/mine.toml" $three/board.toml "$folder/count.asm" "$folder/count.test"
 stays "$folder/mine.asm" 1 "cover: $folder/mine.asm is read here, so it is not written; name another file" \
-    tools/cover --lcov "$folder/mine.asm" $three/board.toml "$folder/mine.asm" "$folder/count.test"
+    ./mcs4 cover --lcov "$folder/mine.asm" $three/board.toml "$folder/mine.asm" "$folder/count.test"
 printf ' LDX 5\n' > "$folder/wrong.asm"
 stays "$folder/count.info" 1 "cover: $folder/wrong.asm: line 1: no 30: the line has no form that the assembler knows
-cover:      LDX 5" tools/cover --lcov "$folder/count.info" $three/board.toml "$folder/wrong.asm" "$folder/count.test"
+cover:      LDX 5" ./mcs4 cover --lcov "$folder/count.info" $three/board.toml "$folder/wrong.asm" "$folder/count.test"
 stays "$folder/calc.mcs" 1 "cover: $folder/calc.mcs is read here, so it is not written; name another file" \
-    tools/cover --lcov "$folder/calc.mcs" --session "$folder/calc.mcs" 10 $calculator/calculator.asm
-verdict "$(outcome tools/cover --lcov /dev/stdout $three/board.toml "$folder/count.asm" "$folder/count.test" | sed -n '/^TN:/,$p' | tail -n 2)" "end_of_record
+    ./mcs4 cover --lcov "$folder/calc.mcs" --session "$folder/calc.mcs" 10 $calculator/calculator.asm
+verdict "$(outcome ./mcs4 cover --lcov /dev/stdout $three/board.toml "$folder/count.asm" "$folder/count.test" | sed -n '/^TN:/,$p' | tail -n 2)" "end_of_record
 status 0" "LCOV's format to a pipe"

@@ -2,8 +2,7 @@
 # shellcheck shell=sh
 
 proves() {
-    page_too "$1" "$2" "$3"
-    verdict "$(outcome prove --exec "tools/test $1 $2" "$3" | sed -n '/^All tests/p; /^status/p')" "All tests successful.
+    verdict "$(outcome prove --exec "./mcs4 test $1 $2" "$3" | sed -n '/^All tests/p; /^status/p')" "All tests successful.
 status 0" "the tests of $3"
 }
 proves $calculator/board.toml $calculator/calculator.asm $calculator/calculator.test
@@ -17,7 +16,7 @@ proves examples/music_box/board.toml examples/music_box/music_box.asm examples/m
 proves examples/pictures/board.toml examples/pictures/pictures.asm examples/pictures/pictures.test
 proves examples/printing_calculator/board.toml examples/printing_calculator/printing_calculator.asm examples/printing_calculator/printing_calculator.test
 
-verdict "$(tools/keys --down 9 --up 8 examples/traffic_light.txt WALK)" "test 0
+verdict "$(./mcs4 keys --down 9 --up 8 examples/traffic_light.txt WALK)" "test 0
 run 9
 test 1
 run 8
@@ -35,8 +34,7 @@ plant() {
 
 # The tests that fail with the bug: the board, the text of tests, the names.
 finds() {
-    page_too "$1" "$folder/planted" "$2"
-    verdict "$(outcome tools/test "$1" "$folder/planted" "$2" | sed -n 's/^not ok [0-9]* - //p; /^status/p')" "$3
+    verdict "$(outcome ./mcs4 test "$1" "$folder/planted" "$2" | sed -n 's/^not ok [0-9]* - //p; /^status/p')" "$3
 status 1" "a bug found by $2"
 }
 # A division by zero is told as an overflow.

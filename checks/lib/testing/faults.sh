@@ -26,27 +26,26 @@ test
   expect cycles about 3
   pace 10
 end_of_tests
-page_too $lock/board.toml $lock/lock.asm "$folder/bad.test"
 refuses 1 "test: $folder/bad.test:2: the board has no key x; it has: 1 2 3 4 5 6 7 8 9 * 0 #
-test: $folder/bad.test:3: the board has no lamp blue; it has: locked open alarm
-test: $folder/bad.test:4: the program has no label nowhere
+test: $folder/bad.test:3: the board has no lamp blue; it has: locked open alarm (column 10)
+test: $folder/bad.test:4: the program has no label nowhere (column 9)
 test: $folder/bad.test:5: it is written as \`run TIME\`, as in: run 500, run 20 ms, run 1.5 s
-test: $folder/bad.test:6: a condition is missing
-test: $folder/bad.test:7: a pattern of 4 lamps; the board has 3
-test: $folder/bad.test:8: the board has no RAM chip for ram.0.0x40
-test: $folder/bad.test:9: the registers are r0 to r15, not r16
-test: $folder/bad.test:10: r1 holds 0 to 15, not 16
+test: $folder/bad.test:6: a condition is missing (column 8)
+test: $folder/bad.test:7: a pattern of 4 lamps; the board has 3 (column 10)
+test: $folder/bad.test:8: the board has no RAM chip for ram.0.0x40 (column 10)
+test: $folder/bad.test:9: r16: no such place; the registers are r0 to r15 (column 7)
+test: $folder/bad.test:10: r1 holds 0 to 15, not 16 (column 13)
 test: $folder/bad.test:11: no line of a test begins with \`foo\`; they begin with test, steps, from, save, press, release, keys, pace, run, until, expect, mark, set, reset, do, repeat or end
 test: $folder/bad.test:12: \`from\` stands right below \`test\`
 test: $folder/bad.test:13: the board has no key z, nor 12z; it has: 1 2 3 4 5 6 7 8 9 * 0 #
 test: $folder/bad.test:14: it is written as \`until CONDITION within TIME\`
 test: $folder/bad.test:17: no test before it saves a state b; there is: a
 test: $folder/bad.test:18: a test has a name: test NAME
-test: $folder/bad.test:19: chain 0 has 10 bits, each 0, 1, or ? for any
-test: $folder/bad.test:20: the board has no ROM 2
-test: $folder/bad.test:21: it is written as \`cycles TIME\`, \`cycles at most TIME\` or \`cycles at least TIME\`
+test: $folder/bad.test:19: chain 0 has 10 bits, each 0, 1, or ? for any (column 10)
+test: $folder/bad.test:20: the board has no ROM 2 (column 10)
+test: $folder/bad.test:21: it is written as \`cycles TIME\`, \`cycles at most TIME\` or \`cycles at least TIME\` (column 10)
 test: $folder/bad.test:22: it is written as \`pace TIME TIME\`: how long a key is down, and how long it is up after it" \
-    tools/test $lock/board.toml $lock/lock.asm "$folder/bad.test"
+    ./mcs4 test $lock/board.toml $lock/lock.asm "$folder/bad.test"
 cat > "$folder/bad_steps.test" <<'end_of_tests'
 steps
   run 5
@@ -76,7 +75,6 @@ test a
     end
     save y
 end_of_tests
-page_too $lock/board.toml $lock/lock.asm "$folder/bad_steps.test"
 refuses 1 "test: $folder/bad_steps.test:1: shared steps have a name, one word: steps NAME
 test: $folder/bad_steps.test:4: the steps one cannot do themselves
 test: $folder/bad_steps.test:5: shared steps have no states: \`save\` stands in a test
@@ -88,7 +86,7 @@ test: $folder/bad_steps.test:11: it is written as \`repeat COUNT\`, 1 to 100,000
 test: $folder/bad_steps.test:14: there is no \`repeat\` for this \`end\`
 test: $folder/bad_steps.test:15: it is written as \`do STEPS\`, the name of shared steps
 test: $folder/bad_steps.test:16: there are no steps three before this line; there are: one
-test: $folder/bad_steps.test:17: the registers are r0 to r15, not r16
+test: $folder/bad_steps.test:17: r16: no such place; the registers are r0 to r15
 test: $folder/bad_steps.test:18: the board has no key x; it has: 1 2 3 4 5 6 7 8 9 * 0 #
 test: $folder/bad_steps.test:19: a key by a value is written as \`{PLACE}\` or \`{PLACE:KEY,KEY}\`; places are acc, cy, dcl, r0 to r15, ram.B.S and st.B.H.K
 test: $folder/bad_steps.test:20: a key by a value is written as \`{PLACE}\` or \`{PLACE:KEY,KEY}\`; places are acc, cy, dcl, r0 to r15, ram.B.S and st.B.H.K
@@ -96,9 +94,8 @@ test: $folder/bad_steps.test:21: the board has no RAM chip for ram.0.0x40
 test: $folder/bad_steps.test:24: what is repeated here comes to more than 1,000,000 lines
 test: $folder/bad_steps.test:27: a state is saved once: \`save\` stands in no \`repeat\`
 test: $folder/bad_steps.test:22: this \`repeat\` has no \`end\`" \
-    tools/test $lock/board.toml $lock/lock.asm "$folder/bad_steps.test"
+    ./mcs4 test $lock/board.toml $lock/lock.asm "$folder/bad_steps.test"
 printf 'test b\n do one more\n end 3\n repeat 100001\n from a\n repeat 9\ntest c\n press {r4:1,,2}\n keys {r1 4}\n keys {}\n' > "$folder/no.test"
-page_too $lock/board.toml $lock/lock.asm "$folder/no.test"
 refuses 1 "test: $folder/no.test:2: it is written as \`do STEPS\`, the name of shared steps
 test: $folder/no.test:3: \`end\` stands alone
 test: $folder/no.test:4: it is written as \`repeat COUNT\`, 1 to 100,000: the lines down to its \`end\` are done so often
@@ -108,54 +105,56 @@ test: $folder/no.test:6: this \`repeat\` has no \`end\`
 test: $folder/no.test:8: the board has no key ; it has: 1 2 3 4 5 6 7 8 9 * 0 #
 test: $folder/no.test:9: the board has no key {, nor {r1; it has: 1 2 3 4 5 6 7 8 9 * 0 #
 test: $folder/no.test:10: the board has no key {, nor {}; it has: 1 2 3 4 5 6 7 8 9 * 0 #" \
-    tools/test $lock/board.toml $lock/lock.asm "$folder/no.test"
+    ./mcs4 test $lock/board.toml $lock/lock.asm "$folder/no.test"
 printf 'hello\n' > "$folder/no.test"
-page_too $lock/board.toml $lock/lock.asm "$folder/no.test"
 refuses 1 "test: $folder/no.test:1: a text of tests begins with \`test NAME\`, and this is: hello" \
-    tools/test $lock/board.toml $lock/lock.asm "$folder/no.test"
+    ./mcs4 test $lock/board.toml $lock/lock.asm "$folder/no.test"
 printf '# nothing\n' > "$folder/no.test"
-page_too $lock/board.toml $lock/lock.asm "$folder/no.test"
-refuses 1 "test: $folder/no.test:1: there is no line \`test NAME\`" tools/test $lock/board.toml $lock/lock.asm "$folder/no.test"
+refuses 1 "test: $folder/no.test:1: there is no line \`test NAME\`" ./mcs4 test $lock/board.toml $lock/lock.asm "$folder/no.test"
 printf 'test t\nexpect display 3\n' > "$folder/no.test"
-page_too $lock/board.toml $lock/lock.asm "$folder/no.test"
-refuses 1 "test: $folder/no.test:2: the board's text names no display (\`# display 0: 4 digits\`)" \
-    tools/test $lock/board.toml $lock/lock.asm "$folder/no.test"
+refuses 1 "test: $folder/no.test:2: the board's text names no display (\`# display 0: 4 digits\`) (column 8)" \
+    ./mcs4 test $lock/board.toml $lock/lock.asm "$folder/no.test"
 printf 'test t\nexpect printed 3\n' > "$folder/no.test"
-page_too $lock/board.toml $lock/lock.asm "$folder/no.test"
-refuses 1 "test: $folder/no.test:2: the board's text names no printer (\`# printer rom0.2: ram0.2 0 1 2 + feed\`)" \
-    tools/test $lock/board.toml $lock/lock.asm "$folder/no.test"
+refuses 1 "test: $folder/no.test:2: the board's text names no printer (\`# printer rom0.2: ram0.2 0 1 2 + feed\`) (column 8)" \
+    ./mcs4 test $lock/board.toml $lock/lock.asm "$folder/no.test"
 printing=examples/printing_calculator
 printf 'test t\nexpect printed\ntest u\nuntil not printed within 9\n' > "$folder/no.test"
-page_too $printing/board.toml $printing/printing_calculator.asm "$folder/no.test"
-refuses 1 "test: $folder/no.test:2: it is written as \`printed TEXT\`, the last lines of the paper, as in: printed 12+ 30= 42
-test: $folder/no.test:4: it is written as \`printed TEXT\`, the last lines of the paper, as in: printed 12+ 30= 42" \
-    tools/test $printing/board.toml $printing/printing_calculator.asm "$folder/no.test"
+refuses 1 "test: $folder/no.test:2: it is written as \`printed TEXT\`, the last lines of the paper, as in: printed 12+ 30= 42 (column 8)
+test: $folder/no.test:4: it is written as \`printed TEXT\`, the last lines of the paper, as in: printed 12+ 30= 42 (column 11)" \
+    ./mcs4 test $printing/board.toml $printing/printing_calculator.asm "$folder/no.test"
 printf 'test \303\244\n' > "$folder/no.test"
 refuses 1 "test: $folder/no.test:1: a byte that is neither a tab nor a printing character of ASCII" \
-    tools/test $lock/board.toml $lock/lock.asm "$folder/no.test"
+    ./mcs4 test $lock/board.toml $lock/lock.asm "$folder/no.test"
 : > "$folder/empty"
-refuses 1 "test: $folder/empty is empty" tools/test $lock/board.toml $lock/lock.asm "$folder/empty"
-refuses 1 "test: cannot read none" tools/test $lock/board.toml $lock/lock.asm none
-refuses 1 "test: cannot read none" tools/test none $lock/lock.asm "$folder/one.test"
+refuses 1 "test: $folder/empty is empty" ./mcs4 test $lock/board.toml $lock/lock.asm "$folder/empty"
+refuses 1 "test: cannot read none: there is no such file" ./mcs4 test $lock/board.toml $lock/lock.asm none
+refuses 1 "test: cannot read none: there is no such file" ./mcs4 test none $lock/lock.asm "$folder/one.test"
 refuses 2 "test: TEST is missing
-usage: test [-C FOLDER] [BOARD PROGRAM] [TEST ..]" tools/test $lock/board.toml $lock/lock.asm
+usage: mcs4 test [-C FOLDER] [BOARD PROGRAM] [TEST ..]" ./mcs4 test $lock/board.toml $lock/lock.asm
 sed 's/JMS key/JMS kez/' < $lock/lock.asm > "$folder/faulty.asm"
 refuses 1 "test: $folder/faulty.asm: line 31: no 32: a name that no line defines
-test:     digit:  JMS kez" tools/test $lock/board.toml "$folder/faulty.asm" "$folder/one.test"
+test:     digit:  JMS kez" ./mcs4 test $lock/board.toml "$folder/faulty.asm" "$folder/one.test"
 sed 's/ISZ R4, digit/ISZ R4, digits/' < examples/stopwatch.txt > "$folder/faulty.txt"
 line=$(grep -n 'ISZ R4, digits' "$folder/faulty.txt" | sed 's/:.*//')
 refuses 1 "test: $folder/faulty.txt: line $line: no 32: a name that no line defines
-test:             ISZ R4, digits" tools/test "$folder/faulty.txt" "$folder/faulty.txt" "$folder/one.test"
+test:             ISZ R4, digits" ./mcs4 test "$folder/faulty.txt" "$folder/faulty.txt" "$folder/one.test"
 printf '#!/bin/sh\necho no such thing\n' > "$folder/no_bench"
 chmod +x "$folder/no_bench"
-verdict "$(MCS4=$folder/no_bench outcome tools/test $lock/board.toml $lock/lock.asm "$folder/one.test")" \
+verdict "$(MCS4=$folder/no_bench outcome ./mcs4 test $lock/board.toml $lock/lock.asm "$folder/one.test")" \
     "test: $folder/no_bench does not answer; MCS4 names the program where it is not the mcs4 at the top
 status 1" "a program that is none"
-verdict "$(MCS4=$folder/none outcome tools/names $lock/lock.asm | sed '1,$s/.*not found/not found/')" "not found
-names: $folder/none cannot be started; MCS4 names the program where it is not the mcs4 at the top
+verdict "$(MCS4=$folder/none outcome ./mcs4 names $lock/lock.asm)" "names: $folder/none does not answer; MCS4 names the program where it is not the mcs4 at the top
 status 1" "a program that is not there"
-# Where the program is built first, its words come while it is built.
-printf '#!/bin/sh\nif [ "$1" = --version ]; then\necho "mcs4: mcs_nibble is proved and built, 91 s so far" >&2\nsleep 1\nexit 2\nfi\nexec "%s" "$@"\n' "$mcs4" > "$folder/slow"
-chmod +x "$folder/slow"
-verdict "$(MCS4=$folder/slow outcome tools/keys $lock/board.toml 1 | sed -n '1p; $p')" "mcs4: mcs_nibble is proved and built, 91 s so far
+# In a clone: a tree whose program has to be built first: the words of tools/build come while it is built. (Here it builds nothing.)
+if [ -e tools/lib/sums.sh ]; then
+    tree=$folder/tree
+    mkdir -p "$tree/tools" "$tree/crates/mcs4/out"
+    cp -R mcs4 js "$tree"
+    cp -R tools/lib "$tree/tools"
+    echo 'mcs4:' > "$tree/crates.txt"
+    printf '#!/bin/sh\necho "mcs4: mcs_nibble is proved and built, 91 s so far"\ncp -- "%s" "%s"\n' "$mcs4" "$tree/crates/mcs4/out/mcs4" > "$tree/tools/build"
+    chmod +x "$tree/tools/build"
+    verdict "$(outcome env -u MCS4 XDG_CACHE_HOME="$folder/cache" "$tree/mcs4" keys $lock/board.toml 1 | sed -n '1,2p; $p')" "mcs4: the program in shipped/ is not started: it is not there. It is proved and built here first
+mcs4: mcs_nibble is proved and built, 91 s so far
 status 0" "a program that is built first"
+fi

@@ -1,8 +1,8 @@
-# tools/profile: where the cycles go, by hand.
+# mcs4 profile: where the cycles go, by hand.
 # shellcheck shell=sh
 
 make_count
-verdict "$(outcome tools/profile $three/board.toml "$folder/count.asm" "$folder/count.test")" \
+verdict "$(outcome ./mcs4 profile $three/board.toml "$folder/count.asm" "$folder/count.test")" \
     "40 cycles, 0.4 ms
 
 label             at          own  own %     calls with calls    longest
@@ -35,8 +35,7 @@ look:   SRC P1
 program
 # 100 cycles are 16 turns of 6 and 4 more; then JUN and those 4 up to the lamp: 106.
 printf 'test t\nrun 9\npress a\nrun 100\nrelease a\nrun 100\n' > "$folder/key.test"
-page_too "$folder/key.toml" "$folder/key.asm" "$folder/key.test"
-verdict "$(outcome tools/profile "$folder/key.toml" "$folder/key.asm" "$folder/key.test" | tail -n 3)" \
+verdict "$(outcome ./mcs4 profile "$folder/key.toml" "$folder/key.asm" "$folder/key.test" | tail -n 3)" \
     "key                 presses  answered        longest to a lamp         to the last lamp
 a                         1         1          4,       0.0 ms        106,       1.1 ms
 status 0" "from a key to a lamp by hand"

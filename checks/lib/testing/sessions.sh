@@ -2,12 +2,12 @@
 # shellcheck shell=sh
 
 # FIM, SRC, LDM, XCH, LD, WMP are 7 cycles, JMS and FIM 4 more: 011 is in the middle of the first ISZ R3, which has jumped.
-tools/script $three/board.toml $three/three_lamps.asm | sed 's/^run 2000$/run 12/' | begins inside
-verdict "$(outcome tools/cover --session "$folder/inside.mcs" 4 $three/three_lamps.asm | sed -n '/[0-9] .*ISZ/p; /^status/p')" \
+./mcs4 script $three/board.toml $three/three_lamps.asm | sed 's/^run 2000$/run 12/' | begins inside
+verdict "$(outcome ./mcs4 cover --session "$folder/inside.mcs" 4 $three/three_lamps.asm | sed -n '/[0-9] .*ISZ/p; /^status/p')" \
     "         2 2/0            turn:   ISZ R3, turn
      never 0/0                    ISZ R2, turn
 status 0" "what an instruction has done that the last cycle has begun"
-verdict "$(outcome tools/profile --session "$folder/inside.mcs" 4 $three/three_lamps.asm)" "4 cycles, 0.0 ms
+verdict "$(outcome ./mcs4 profile --session "$folder/inside.mcs" 4 $three/three_lamps.asm)" "4 cycles, 0.0 ms
 
 label             at          own  own %     calls with calls    longest
 turn              016           3   75.0
@@ -15,8 +15,7 @@ turn              016           3   75.0
 status 0" "the cycles of a session that begins and ends within instructions"
 printf 'test t\nrun 5\nrun 4\n' > "$folder/odd.test"
 printf 'y: NOP\n NOP\nx: JUN x\n' > "$folder/odd.asm"
-page_too $three/board.toml "$folder/odd.asm" "$folder/odd.test"
-verdict "$(outcome tools/profile $three/board.toml "$folder/odd.asm" "$folder/odd.test")" "9 cycles, 0.1 ms
+verdict "$(outcome ./mcs4 profile $three/board.toml "$folder/odd.asm" "$folder/odd.test")" "9 cycles, 0.1 ms
 
 label             at          own  own %     calls with calls    longest
 x                 002           7   77.8
@@ -24,17 +23,16 @@ y                 000           2   22.2
 status 0" "the cycles of a test that ends within an instruction"
 # Calls that leave the return addresses as they are count, too. The oldest of the three that are open was entered at 6.
 printf 'here: JMS here\n' > "$folder/odd.asm"
-page_too $three/board.toml "$folder/odd.asm" "$folder/odd.test"
-verdict "$(outcome tools/profile $three/board.toml "$folder/odd.asm" "$folder/odd.test" | sed -n '4p; $p')" "here              000           9  100.0         5          3          3
+verdict "$(outcome ./mcs4 profile $three/board.toml "$folder/odd.asm" "$folder/odd.test" | sed -n '4p; $p')" "here              000           9  100.0         5          3          3
 status 0" "calls that change no return address"
-tools/script $three/board.toml $three/three_lamps.asm | begins free
+./mcs4 script $three/board.toml $three/three_lamps.asm | begins free
 cp "$folder/free.mcs" "$folder/stopped.mcs"
 printf 'break 0x014\nbreak 0x016\nbreak 0x005\nwatch 0 0\nwatch 7 0xFF\n' | goes_on stopped
 for words in "cover --session SESSION 5000 $three/three_lamps.asm" "profile --session SESSION 5000 $three/three_lamps.asm" \
     "trace SESSION 1200" "wave SESSION 3000 lamps pc"; do
     before=${words%%SESSION*}
     behind=${words#*SESSION}
-    verdict "$(outcome tools/$before"$folder/stopped.mcs"$behind)" "$(outcome tools/$before"$folder/free.mcs"$behind)" "a session with breakpoints and watches: $words"
+    verdict "$(outcome ./mcs4 $before"$folder/stopped.mcs"$behind)" "$(outcome ./mcs4 $before"$folder/free.mcs"$behind)" "a session with breakpoints and watches: $words"
 done
 # One that may not be written is read all the same.
 chmod 755 "$whole" "$folder"
@@ -47,7 +45,7 @@ for words in "trace SESSION 3" "trace --source $three/three_lamps.asm SESSION 3"
     before=${words%%SESSION*}
     behind=${words#*SESSION}
     # shellcheck disable=SC2086
-    verdict "$(outcome env TMPDIR="$folder/anyone" $reader tools/$before"$folder/stopped.mcs"$behind)" "$(outcome tools/$before"$folder/stopped.mcs"$behind)" "a session that may not be written: $words"
+    verdict "$(outcome env TMPDIR="$folder/anyone" $reader ./mcs4 $before"$folder/stopped.mcs"$behind)" "$(outcome ./mcs4 $before"$folder/stopped.mcs"$behind)" "a session that may not be written: $words"
 done
 
 # A program that ends before it has answered.
@@ -60,7 +58,7 @@ exit 3
 program
 chmod +x "$folder/ending"
 for tool in test cover profile; do
-    verdict "$(outcome env ANSWERING="$mcs4" MCS4="$folder/ending" timeout 20 tools/$tool $three/board.toml $three/three_lamps.asm $three/three_lamps.test | tail -n 2)" \
+    verdict "$(outcome env ANSWERING="$mcs4" MCS4="$folder/ending" timeout 20 ./mcs4 $tool $three/board.toml $three/three_lamps.asm $three/three_lamps.test | tail -n 2)" \
         "$tool: the session has ended; the program said: nothing
-status 1" "tools/$tool of a program that ends"
+status 1" "mcs4 $tool of a program that ends"
 done

@@ -58,7 +58,7 @@ test not in this test
     run 1
     until @first within 1
 end_of_tests
-verdict "$(outcome tools/test $three/board.toml $three/three_lamps.asm "$folder/shared.test" | results)" "ok 1 - it goes round
+verdict "$(outcome ./mcs4 test $three/board.toml $three/three_lamps.asm "$folder/shared.test" | results)" "ok 1 - it goes round
 not ok 2 - once more
   message: \"it did not come within 1609 cycles: pc is 003 (first), within an instruction, and has to be @first; the label passed last is turn, 13 cycles ago; @first was passed last 1613 cycles ago\"
   at: \"$folder/shared.test:26\"
@@ -81,7 +81,6 @@ not ok 8 - not in this test
   message: \"it did not come within 1 cycles: pc is 002, and has to be @first; @first was not passed in this test\"
   at: \"$folder/shared.test:53\"
 status 1" "what is done more than once"
-page_too $three/board.toml $three/three_lamps.asm "$folder/shared.test"
 
 # Keys that values name: RAM that the lock does not use holds them; its code is 4711.
 cat > "$folder/chosen.test" <<'end_of_tests'
@@ -114,7 +113,7 @@ test no such key of one
     set r5 2
     press {r5:1}
 end_of_tests
-verdict "$(outcome tools/test $lock/board.toml $lock/lock.asm "$folder/chosen.test" | results)" "ok 1 - values name keys
+verdict "$(outcome ./mcs4 test $lock/board.toml $lock/lock.asm "$folder/chosen.test" | results)" "ok 1 - values name keys
 ok 2 - press and release
 not ok 3 - no such key
   message: \"ram.0.0x21 is 10, and the board has no key 10, nor A\"
@@ -126,4 +125,3 @@ not ok 5 - no such key of one
   message: \"r5 is 2, and {r5:1} has 1 key\"
   at: \"$folder/chosen.test:28\"
 status 1" "keys that values name"
-page_too $lock/board.toml $lock/lock.asm "$folder/chosen.test"

@@ -4,59 +4,70 @@
 # A state belongs to its text.
 printf 'test a\n press 1 2 ; keys\n run 5   # a moment\n save begun ; here\ntest b # 1\n from begun\n release 1 2\n' > "$folder/first.test"
 printf 'test c\n press #\n release # ; the key #\n save begun\ntest d\n from begun\n run 54 us\n expect cycles 54us # five\n' > "$folder/second.test"
-verdict "$(outcome tools/test $lock/board.toml $lock/lock.asm "$folder/first.test" "$folder/second.test")" "TAP version 13
+verdict "$(outcome ./mcs4 test $lock/board.toml $lock/lock.asm "$folder/first.test" "$folder/second.test")" "TAP version 13
 1..4
 ok 1 - a
 ok 2 - b \\# 1
 ok 3 - c
 ok 4 - d
 status 0" "two texts that save a state of one name"
-page_too $lock/board.toml $lock/lock.asm "$folder/first.test"
-page_too $lock/board.toml $lock/lock.asm "$folder/second.test"
 printf 'test e\n from begun\n' > "$folder/third.test"
-refuses 1 "test: $folder/third.test:2: no test before it saves a state begun" tools/test $lock/board.toml $lock/lock.asm "$folder/first.test" "$folder/third.test"
+refuses 1 "test: $folder/third.test:2: no test before it saves a state begun" ./mcs4 test $lock/board.toml $lock/lock.asm "$folder/first.test" "$folder/third.test"
+
+# A test whose state was not saved fails, also where it is the last one.
+printf 'test a\n expect acc 1\n save begun\ntest b\n from begun\n' > "$folder/unsaved.test"
+verdict "$(outcome ./mcs4 test $lock/board.toml $lock/lock.asm "$folder/unsaved.test" | results)" "not ok 1 - a
+  message: \"acc is 0, and has to be 1\"
+  at: \"$folder/unsaved.test:2\"
+not ok 2 - b
+  message: \"the state begun is not there, since the test \`a\` did not come to save it\"
+  at: \"$folder/unsaved.test:5\"
+status 1" "a state that was not saved"
+# A text that is not UTF-8 is read as Latin 1, and shown in UTF-8.
+printf 'loop: JUN loop ; \344\n' > "$folder/latin.asm"
+verdict "$(outcome ./mcs4 cover $lock/board.toml "$folder/latin.asm" "$folder/unsaved.test" | sed -n 's/.*loop:/loop:/p')" \
+    "loop: JUN loop ; $(printf '\303\244')" "a program in Latin 1"
 
 # Shared steps of one text are known in those after it; where one of them fails, its text and line are told, and who does them.
 printf 'steps opened\n expect lamps open\nsteps enter # the code\n keys 4711#\n do opened\n' > "$folder/steps.test"
 printf 'test it opens\n run 100 ms\n do enter\ntest it does not\n run 100 ms\n keys 3\n do enter\n' > "$folder/opens.test"
-verdict "$(outcome tools/test $lock/board.toml $lock/lock.asm "$folder/steps.test" "$folder/opens.test" | results)" "ok 1 - it opens
+verdict "$(outcome ./mcs4 test $lock/board.toml $lock/lock.asm "$folder/steps.test" "$folder/opens.test" | results)" "ok 1 - it opens
 not ok 2 - it does not
   message: \"lamps are *.., and have to be .*.; lit: locked; in the steps opened of line 5, in the steps enter of $folder/opens.test:7\"
   at: \"$folder/steps.test:2\"
 status 1" "shared steps of another text"
-refuses 1 "test: $folder/steps.test:1: there is no line \`test NAME\`" tools/test $lock/board.toml $lock/lock.asm "$folder/steps.test"
-page_too $lock/board.toml $lock/lock.asm "$folder/steps.test"
+refuses 1 "test: $folder/steps.test:1: there is no line \`test NAME\`" ./mcs4 test $lock/board.toml $lock/lock.asm "$folder/steps.test"
 refuses 1 "test: $folder/opens.test:3: there are no steps enter before this line; \`steps enter\` begins them
 test: $folder/opens.test:7: there are no steps enter before this line; \`steps enter\` begins them" \
-    tools/test $lock/board.toml $lock/lock.asm "$folder/opens.test" "$folder/steps.test"
-verdict "$(outcome tools/cover $lock/board.toml $lock/lock.asm "$folder/steps.test" "$folder/opens.test" | sed -n '/^status/p; /instructions were run/s/ (.*//p')" \
+    ./mcs4 test $lock/board.toml $lock/lock.asm "$folder/opens.test" "$folder/steps.test"
+verdict "$(outcome ./mcs4 cover $lock/board.toml $lock/lock.asm "$folder/steps.test" "$folder/opens.test" | sed -n '/^status/p; /instructions were run/s/ (.*//p')" \
     "$(cat "$folder/steps.test" "$folder/opens.test" > "$folder/joined.test"
-    outcome tools/cover $lock/board.toml $lock/lock.asm "$folder/joined.test" | sed -n '/^status/p; /instructions were run/s/ (.*//p')" "what two texts cover"
+    outcome ./mcs4 cover $lock/board.toml $lock/lock.asm "$folder/joined.test" | sed -n '/^status/p; /instructions were run/s/ (.*//p')" "what two texts cover"
 cp "$folder/steps.test" "$folder/again.test"
 refuses 1 "test: $folder/again.test:1: the steps opened stand at $folder/steps.test:1 already
 test: $folder/again.test:3: the steps enter stand at $folder/steps.test:3 already" \
-    tools/test $lock/board.toml $lock/lock.asm "$folder/steps.test" "$folder/again.test" "$folder/opens.test"
+    ./mcs4 test $lock/board.toml $lock/lock.asm "$folder/steps.test" "$folder/again.test" "$folder/opens.test"
 
 # Pipes, and standard input, where a text is read.
 mkfifo "$folder/board.pipe" "$folder/test.pipe"
 cat $lock/board.toml > "$folder/board.pipe" &
 cat "$folder/first.test" > "$folder/test.pipe" &
-verdict "$(outcome tools/test "$folder/board.pipe" - "$folder/test.pipe" < $lock/lock.asm)" "TAP version 13
+verdict "$(outcome ./mcs4 test "$folder/board.pipe" - "$folder/test.pipe" < $lock/lock.asm)" "TAP version 13
 1..2
 ok 1 - a
 ok 2 - b \\# 1
 status 0" "texts from pipes"
-verdict "$(outcome tools/test - - examples/stopwatch.test < examples/stopwatch.txt | sed '1d;$!d')" "status 0" "one standard input that is board and program"
+verdict "$(outcome ./mcs4 test - - examples/stopwatch.test < examples/stopwatch.txt | sed '1d;$!d')" "status 0" "one standard input that is board and program"
 sed 's/JMS key/JMS kez/' < $lock/lock.asm > "$folder/faulty.asm"
-verdict "$(outcome tools/test $lock/board.toml - "$folder/first.test" < "$folder/faulty.asm")" "test: -: line 31: no 32: a name that no line defines
+verdict "$(outcome ./mcs4 test $lock/board.toml - "$folder/first.test" < "$folder/faulty.asm")" "test: -: line 31: no 32: a name that no line defines
 test:     digit:  JMS kez
 status 1" "a fault on standard input"
 echo "first line" > "$folder/first.pipe.test"
 cat "$folder/first.pipe.test" > "$folder/test.pipe" &
-verdict "$(outcome tools/test $lock/board.toml $lock/lock.asm "$folder/test.pipe")" \
+verdict "$(outcome ./mcs4 test $lock/board.toml $lock/lock.asm "$folder/test.pipe")" \
     "test: $folder/test.pipe:1: a text of tests begins with \`test NAME\`, and this is: first line
 status 1" "a fault in a pipe"
-refuses 1 "test: - is empty" tools/test $lock/board.toml - "$folder/first.test"
+refuses 1 "test: - is empty" ./mcs4 test $lock/board.toml - "$folder/first.test"
 
 # With a display, its lamps do not matter where lamps are named, but for those that have a name.
 cat > "$folder/display.toml" <<'board'
@@ -69,7 +80,7 @@ lamp = [{ line = "rom0.3" }, { line = "rom0.2" }, { line = "rom0.1" }, { line = 
 board
 printf ' FIM P0, 0\n SRC P0\n LDM 7\n WRR\n LDM 2\n WMP\nhere: JUN here\n' > "$folder/display.asm"
 printf 'test a\n run 9\n expect lamps go\n expect display 7 go\n expect not lamps none\ntest b\n run 9\n expect lamps none\ntest c\n set acc 8\n run 9\n expect not lamps first go\n' > "$folder/display.test"
-verdict "$(outcome tools/test "$folder/display.toml" "$folder/display.asm" "$folder/display.test" | grep '^ok\|^not\|message\|^status')" "ok 1 - a
+verdict "$(outcome ./mcs4 test "$folder/display.toml" "$folder/display.asm" "$folder/display.test" | grep '^ok\|^not\|message\|^status')" "ok 1 - a
 not ok 2 - b
   message: \"lamps are .***.*, and have to be .???..; lit: go\"
 ok 3 - c

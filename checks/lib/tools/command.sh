@@ -1,4 +1,4 @@
-# The tools as commands of mcs4, with their help and manual pages, and started through links.
+# The commands of mcs4, with their help and manual pages, started through links, and without Node.
 # shellcheck shell=sh
 
 cp $lock/lock.asm "$folder/program.asm"
@@ -10,24 +10,21 @@ apart() {
     echo "$(wc -l < "$folder/output") $(wc -l < "$folder/errors") $status" | tr -s ' '
 }
 
-# Each tool that names itself for `help` is a command, but for tools/package, which makes what is installed and is not; and each command has its
-# help, which names it and its exit status, and fits. (Where the tools are installed, they stand here as links.)
-commands=$(sed -n 's/^\([a-z]*\)	.*/\1/p' tools/lib/commands.txt)
-verdict "$(printf '%s\n' "$commands" | LC_ALL=C sort)" "$(find -L tools -maxdepth 1 -type f ! -name package -exec sed -n 's/^tool=//p' {} + | LC_ALL=C sort)" "tools/lib/commands.txt"
+# Each module of a command is one, and each command has its help, which names it and its exit statuses, and fits.
+commands=$(./mcs4 help | sed -n 's/^  \([a-z]\{3,9\}\) .*/\1/p' | LC_ALL=C sort)
+verdict "$(ls js/node/commands | sed 's/\.mjs//; /^table$/d' | LC_ALL=C sort)" "$commands" "mcs4 help"
+node js/node/command_pages.mjs "$folder/pages" > /dev/null
 for each in $commands; do
     verdict "$(apart ./mcs4 help "$each" | sed 's/^[0-9]*/some/')" "some 0 0" "mcs4 help $each"
-    verdict "$(head -n 1 "$folder/output" | cut -d ' ' -f 1-3); $(grep -c '^Status' "$folder/output")" "usage: mcs4 $each; 1" "what mcs4 help $each tells"
-    verdict "$(sed 's/mcs4 \([a-z]\)/\1/g; s/  */ /g' "$folder/output" | tr '\n' ' ')" "$(outcome "tools/$each" --help | sed '$d; s/tools\///g; s/\.\/mcs4/mcs4/g; s/mcs4 \([a-z]\)/\1/g; s/  */ /g' | tr '\n' ' ')" "tools/$each --help"
+    verdict "$(head -n 1 "$folder/output" | cut -d ' ' -f 1-3); $(awk 'length > 79' "$folder/output" | grep -c '^[^ u]\|^ \{6\}[^ ]' || :)" "usage: mcs4 $each; 0" "what mcs4 help $each tells"
     verdict "$(apart ./mcs4 "$each" --none --none --none --none --none --none --none | sed 's/^0 [0-9]* /0 some /'): $(sed 's/^\(usage: mcs4 \).*/\1/; 2q' "$folder/errors")" "0 some 2: $each: there is no option --none
 usage: mcs4 " "mcs4 $each with words that are none"
-    verdict "$(./mcs4 help | grep -c "^    $each ")" 1 "$each in mcs4 help"
     if command -v man > /dev/null; then
-        awk -v by=mcs4 -v form=man -v commands=tools/lib/commands.txt -f tools/lib/help.awk < "tools/$each" > "$folder/page.1"
-        verdict "$(man --warnings -l "$folder/page.1" 2>&1 > "$folder/page.txt")" "" "the manual page of $each"
-        verdict "$(grep -c '^\(NAME\|SYNOPSIS\|DESCRIPTION\|EXIT STATUS\|SEE ALSO\)$' "$folder/page.txt")" 5 "what stands in the manual page of $each"
+        verdict "$(man --warnings -l "$folder/pages/man/mcs4-$each.1" 2>&1 > "$folder/page.txt")" "" "the manual page of $each"
+        verdict "$(grep -cE '^(NAME|SYNOPSIS|DESCRIPTION|EXIT STATUS|SEE ALSO)$' "$folder/page.txt")" 5 "what stands in the manual page of $each"
     fi
 done
-for word in help --help -h "help new" "help version"; do
+for word in help --help -h "help version"; do
     # shellcheck disable=SC2086
     verdict "$(apart ./mcs4 $word)" "$(./mcs4 help | wc -l | tr -d ' ') 0 0" "mcs4 $word"
 done
@@ -39,29 +36,58 @@ usage: mcs4 new FILE
        mcs4 COMMAND ..
        mcs4 help [COMMAND]
        mcs4 version" "mcs4 without words"
-for word in frob build lib ../mcs4 "" Test speed; do
+for word in frob build lib ../mcs4 "" speed table constructor; do
     refuses 2 "mcs4: there is no command $word; mcs4 help shows which there are" ./mcs4 help "$word"
     if [ -n "$word" ]; then refuses 2 "mcs4: there is no command $word; mcs4 help shows which there are" ./mcs4 "$word" x; fi
 done
-ln -s "$top/mcs4" "$folder/command"
-verdict "$(cd "$folder" && outcome ./command listing --names program.asm)" "$(outcome tools/listing --names "$folder/program.asm")" "a listing by mcs4, through a link"
-verdict "$(outcome ./mcs4 test $lock/board.toml $lock/lock.asm $lock/lock.test)" \
-    "$(outcome tools/test $lock/board.toml $lock/lock.asm $lock/lock.test)" "tests by mcs4"
-
-# Each tool by a symbolic link, and by a link to a link in a folder that is a link.
-mkdir "$folder/links" "$folder/more"
-ln -s "$folder/more" "$folder/linked"
-for each in $commands; do
-    ln -s "$top/tools/$each" "$folder/more/$each"
-    ln -s "../linked/$each" "$folder/links/$each"
-    for name in "$folder/more/$each" "$folder/links/$each"; do
-        verdict "$(outcome "$name" --none | sed 's/^usage: [a-z]*.*/usage/')" "${name##*/}: there is no option --none
-usage
-status 2" "$name"
+# If standard output takes nothing, mcs4 says so; wrong arguments have their status whatever standard error takes.
+for stream in "> /dev/full" ">&-"; do
+    for words in help --help "help refusals" "help new" "help open" "help help" "help version" "help cover" version --version; do
+        verdict "$(outcome sh -c "./mcs4 $words $stream" | sed 's/standard output is closed/not all was written; is there room where it goes to?/')" "mcs4: not all was written; is there room where it goes to?
+status 1" "mcs4 $words $stream"
+    done
+    for words in "" frob "help frob" "version 4" "help listing rom" "''"; do
+        verdict "$(outcome sh -c "./mcs4 $words 2$stream")" "status 2" "mcs4 $words 2$stream"
+        verdict "$(outcome sh -c "./mcs4 $words $stream" | sed -n '/^status/p')" "status 2" "mcs4 $words $stream"
     done
 done
-verdict "$(cd "$folder" && outcome links/listing --names program.asm)" "$(outcome tools/listing --names "$folder/program.asm")" "a listing by a link"
+# By a symbolic link, and by a link to a link in a folder that is a link.
+mkdir "$folder/links" "$folder/more"
+ln -s "$folder/more" "$folder/linked"
+ln -s "$top/mcs4" "$folder/more/command"
+ln -s "../linked/command" "$folder/links/command"
+for name in more/command links/command; do
+    verdict "$(cd "$folder" && outcome $name listing --names program.asm)" "$(outcome ./mcs4 listing --names "$folder/program.asm")" "a listing by the link $name"
+done
 refuses 2 "mcs4: there is too much behind version
 $(./mcs4 2>&1 || :)" ./mcs4 version 4
 refuses 2 "mcs4: there is too much behind help
 $(./mcs4 2>&1 || :)" ./mcs4 help listing rom
+
+# Without Node: help, version, new and open are there; other commands say what they need.
+mkdir "$folder/no_node"
+for each in sh sed awk cat env grep tr cut sort uname sha256sum stat xargs find readlink dirname mkdir rm date cmp head tail id ls mv tee wc; do
+    if command -v $each > /dev/null; then ln -s "$(command -v $each)" "$folder/no_node/$each"; fi
+done
+without_node() { PATH=$folder/no_node outcome ./mcs4 "$@"; }
+verdict "$(without_node version)" "$(outcome ./mcs4 version)" "mcs4 version without Node"
+case $(./mcs4 version) in
+*"none so far"*) echo "not run: mcs4 new without Node, in checks/tools (the program in shipped/ is not of these sources)" ;;
+*)
+    # What is said once to each user is said before.
+    ./mcs4 open "$folder/none.mcs" < /dev/null > "$folder/told" 2>&1 || :
+    verdict "$(echo seq | without_node new "$folder/plain.mcs")" "session 0
+seq 0
+status 0" "mcs4 new without Node"
+    ;;
+esac
+verdict "$(without_node help | sed 1q)" "usage:" "mcs4 help without Node"
+verdict "$(without_node help listing)" "$(cat shipped/commands/help/listing.txt)
+status 0" "mcs4 help listing without Node"
+verdict "$(without_node listing $lock/lock.asm)" "mcs4: listing needs node, 18 or later, which is not found; on Debian: apt-get install nodejs
+status 1" "mcs4 listing without Node"
+for words in "frob" "help frob"; do
+    # shellcheck disable=SC2086
+    verdict "$(without_node $words)" "mcs4: there is no command frob; mcs4 help shows which there are
+status 2" "mcs4 $words without Node"
+done

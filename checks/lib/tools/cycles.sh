@@ -1,4 +1,4 @@
-# tools/cycles.
+# mcs4 cycles.
 # shellcheck shell=sh
 
 # Where runs stopped, by the source.
@@ -7,7 +7,7 @@ printf 'run 1\nregs\nstep\nseq\nstate\nrun 1\nrun 2\nreset\nregs\nrun 5\npoke pc
 cp "$folder/source.mcs" "$folder/ran.mcs"
 goes_on ran < "$folder/runs.txt"
 # LDM, JUN, XCH and two IAC are six cycles; ROM 1 is not there, and reads as NOP.
-verdict "$(outcome tools/cycles --source "$folder/source.asm" "$folder/ran.mcs" < "$folder/answers")" \
+verdict "$(outcome ./mcs4 cycles --source "$folder/source.asm" "$folder/ran.mcs" < "$folder/answers")" \
     "1 cycle, 10.8 microseconds, to 001 (alone), line 3: JUN on
 2 cycles, 21.6 microseconds, to 003 (on), line 5: on: XCH R2
 1 cycle, 10.8 microseconds
@@ -16,27 +16,27 @@ verdict "$(outcome tools/cycles --source "$folder/source.asm" "$folder/ran.mcs" 
 100 cycles, 1080.0 microseconds, to 164, which the source does not fill
 111 cycles, 1198.8 microseconds
 status 0" "where runs stopped, by the source"
-verdict "$(outcome tools/cycles --source "$folder/source.asm" "$folder/ran.mcs" 4 7 < "$folder/answers")" \
+verdict "$(outcome ./mcs4 cycles --source "$folder/source.asm" "$folder/ran.mcs" 4 7 < "$folder/answers")" \
     "2 cycles, 21.6 microseconds, to 003 (on), line 5: on: XCH R2
 1 cycle, 10.8 microseconds
 3 cycles, 32.4 microseconds
 status 0" "where some runs stopped"
 refuses_sources "cycles --source PROGRAM $folder/ran.mcs"
 refuses 1 "cycles: the session $folder/source.txt was refused: no 50: not a session file: its size or the name inside it is another" \
-    tools/cycles --source "$folder/source.asm" "$folder/source.txt"
+    ./mcs4 cycles --source "$folder/source.asm" "$folder/source.txt" < "$folder/answers"
 refuses 2 "cycles: SESSION is missing
-usage: cycles [--source PROGRAM SESSION] [FIRST LAST] < ANSWERS" tools/cycles --source "$folder/source.asm"
+usage: mcs4 cycles [--source PROGRAM SESSION] [FIRST LAST] < ANSWERS" ./mcs4 cycles --source "$folder/source.asm"
 
 # Times: 1 + 4000 + 12 cycles of 10.8 microseconds are 43,340.4; the first two are 43,210.8.
 printf 'session 0\nok 1 ran 1 end\nok 2\nok 3 ran 4000 break\r\nlamps *\nok 4 ran 12 code\n' > "$folder/answers"
-verdict "$(outcome tools/cycles < "$folder/answers")" "4013 cycles, 43340.4 microseconds
+verdict "$(outcome ./mcs4 cycles < "$folder/answers")" "4013 cycles, 43340.4 microseconds
 status 0" "cycles of all lines"
-verdict "$(outcome tools/cycles 2 5 < "$folder/answers")" "4001 cycles, 43210.8 microseconds
+verdict "$(outcome ./mcs4 cycles 2 5 < "$folder/answers")" "4001 cycles, 43210.8 microseconds
 status 0" "cycles of some lines"
-refuses 1 "cycles: there are only 6 lines of answers" tools/cycles 2 7 < "$folder/answers"
-refuses 1 "cycles: none of these lines shows a run, as \`ok 5 ran 100 end\` does" tools/cycles 3 3 < "$folder/answers"
-refuses 1 "cycles: FIRST is from 1 on, and LAST is not before it" tools/cycles 3 2 < "$folder/answers"
+refuses 1 "cycles: there are only 6 lines of answers" ./mcs4 cycles 2 7 < "$folder/answers"
+refuses 1 "cycles: none of these lines shows a run, as \`ok 5 ran 100 end\` does" ./mcs4 cycles 3 3 < "$folder/answers"
+misuses "FIRST is from 1 on, and LAST is not before it" ./mcs4 cycles 3 2 < "$folder/answers"
 refuses 2 "cycles: LAST is missing
-usage: cycles [--source PROGRAM SESSION] [FIRST LAST] < ANSWERS" tools/cycles 3
+usage: mcs4 cycles [--source PROGRAM SESSION] [FIRST LAST] < ANSWERS" ./mcs4 cycles 3
 printf 'session 0\nno 44\n' > "$folder/answers"
-refuses 1 "cycles: line 2 is a refusal: no 44; tools/explain says why" tools/cycles < "$folder/answers"
+refuses 1 "cycles: line 2 is a refusal: no 44; mcs4 explain says why" ./mcs4 cycles < "$folder/answers"

@@ -1,4 +1,4 @@
-# tools/display: digits, signs, points, lamps with names, and digits that are lit by turns.
+# mcs4 display: digits, signs, points, lamps with names, and digits that are lit by turns.
 # shellcheck shell=sh
 
 # A board with so many lamps, whose text has these comments.
@@ -9,31 +9,31 @@ board_of() {
 
 board=$calculator/board.toml
 refuses 2 "display: BOARD is missing, and there is no mcs4.toml here
-usage: display [-C FOLDER] [BOARD] < ANSWERS" tools/display
+usage: mcs4 display [-C FOLDER] [BOARD] < ANSWERS" ./mcs4 display
 echo "session 0" > "$folder/answers"
-refuses 1 "display: no answer shows the lamps" tools/display "$board" < "$folder/answers"
+refuses 1 "display: no answer shows the lamps" ./mcs4 display "$board" < "$folder/answers"
 echo "lamps ..*" > "$folder/answers"
-refuses 1 "display: line 1 of the answers has 3 lamps, and the display of $board needs 43" tools/display "$board" < "$folder/answers"
+refuses 1 "display: line 1 of the answers has 3 lamps, and the display of $board needs 43" ./mcs4 display "$board" < "$folder/answers"
 echo "no 34 line 2" > "$folder/answers"
-refuses 1 "display: line 1 of the answers is a refusal: no 34 line 2; tools/explain says why" tools/display "$board" < "$folder/answers"
+refuses 1 "display: line 1 of the answers is a refusal: no 34 line 2; mcs4 explain says why" ./mcs4 display "$board" < "$folder/answers"
 board_of 8 '# display 0: 2 digits\n' > "$folder/board.toml"
 printf 'session 3\nlamps ...**..*\nlamps **......\n' > "$folder/answers"
-verdict "$(outcome tools/display "$folder/board.toml" < "$folder/answers")" "19
+verdict "$(outcome ./mcs4 display "$folder/board.toml" < "$folder/answers")" "19
 ?0
 status 0" "digits without signs"
 board_of 23 '# lamp 0: minus overflow\n# display 3: 4 digits with points\n' > "$folder/board.toml"
 echo "lamps *..........***......*.." > "$folder/answers"
-verdict "$(outcome tools/display "$folder/board.toml" < "$folder/answers")" "-1.82
+verdict "$(outcome ./mcs4 display "$folder/board.toml" < "$folder/answers")" "-1.82
 status 0" "a display with points"
 
 # Digits that are lit by turns: what trace tells of 30 ms, and not an instant.
-tools/script examples/clock/board.toml examples/clock/clock.asm | sed '/^run /d' > "$folder/clock.txt"
+./mcs4 script examples/clock/board.toml examples/clock/clock.asm | sed '/^run /d' > "$folder/clock.txt"
 begins clock < "$folder/clock.txt"
-verdict "$(outcome tools/keys examples/clock/board.toml SET | tail -n 3)" "run 16000
+verdict "$(outcome ./mcs4 keys examples/clock/board.toml SET | tail -n 3)" "run 16000
 trace 2778 lamps
 status 0" "keys for a display that is scanned"
 for cycles in 1 100 411 926 20000 50000; do printf 'run %s\ntrace 2778 lamps\n' "$cycles"; done | "$mcs4" open "$folder/clock.mcs" > "$folder/answers"
-verdict "$(outcome tools/display examples/clock/board.toml < "$folder/answers")" "1200
+verdict "$(outcome ./mcs4 display examples/clock/board.toml < "$folder/answers")" "1200
 1200
 1200
 1200
@@ -41,52 +41,52 @@ verdict "$(outcome tools/display examples/clock/board.toml < "$folder/answers")"
 12.00
 status 0" "a display that is scanned"
 printf 'session 0\nlamps .**.....*...\n' > "$folder/answers"
-verdict "$(outcome tools/display examples/clock/board.toml < "$folder/answers")" "display: line 2 of the answers has the lamps at an instant, and the digits of examples/clock/board.toml are lit by turns; \`trace 2778 lamps\` asks what is seen in 30 ms
+verdict "$(outcome ./mcs4 display examples/clock/board.toml < "$folder/answers")" "display: line 2 of the answers has the lamps at an instant, and the digits of examples/clock/board.toml are lit by turns; \`trace 2778 lamps\` asks what is seen in 30 ms
 status 1" "an instant of a display that is scanned"
 printf 'trace ran 2778 end lines 2 .**.....*...\n5 000 .**.........\n' > "$folder/answers"
-verdict "$(outcome tools/display examples/clock/board.toml < "$folder/answers")" "display: the answers end within one to \`trace\`
+verdict "$(outcome ./mcs4 display examples/clock/board.toml < "$folder/answers")" "display: the answers end within one to \`trace\`
 status 1" "an answer that is cut"
 printf 'trace ran 2778 end lines 0 .**.\n' > "$folder/answers"
-verdict "$(outcome tools/display examples/clock/board.toml < "$folder/answers")" "display: line 1 of the answers has 4 lamps, and the display of examples/clock/board.toml needs 12
+verdict "$(outcome ./mcs4 display examples/clock/board.toml < "$folder/answers")" "display: line 1 of the answers has 4 lamps, and the display of examples/clock/board.toml needs 12
 status 1" "fewer lamps than a display that is scanned has"
 # What no number hangs on refuses nothing.
 board_of 8 '# display 0: 2 digits\n# colour 0: pink\n# die 0: 9 lamps\n# title:\n' > "$folder/board.toml"
 printf 'lamps .*....*.\n' > "$folder/answers"
-verdict "$(outcome tools/display "$folder/board.toml" < "$folder/answers")" "42
+verdict "$(outcome ./mcs4 display "$folder/board.toml" < "$folder/answers")" "42
 status 0" "a display beside a colour that is none"
 
 board_of 17 '# display 0: 2 digits of 7 segments\n# lamp 14: ready go fault\n' > "$folder/board.toml"
 
 printf 'lamps .**....**.**.*.*.\nlamps .......***..**...\n' > "$folder/answers"
-verdict "$(outcome tools/display "$folder/board.toml" < "$folder/answers")" "12 go
+verdict "$(outcome ./mcs4 display "$folder/board.toml" < "$folder/answers")" "12 go
 9
 status 0" "a display of seven segments, and a lamp with a name"
 board_of 10 '# lamp 0: minus overflow\n# display 2: 2 digits\n' > "$folder/board.toml"
 printf 'session 3\nlamps *....*..*.\nlamps .***......\nlamps ...*.*.*.*\n' > "$folder/answers"
-verdict "$(outcome tools/display "$folder/board.toml" < "$folder/answers")" "-12
+verdict "$(outcome ./mcs4 display "$folder/board.toml" < "$folder/answers")" "-12
 ?0 overflow
 55
 status 0" "a display with signs"
 printf 'lamps *.\n' > "$folder/answers"
-refuses 1 "display: line 1 of the answers has 2 lamps, and the display of $folder/board.toml needs 10" tools/display "$folder/board.toml" < "$folder/answers"
+refuses 1 "display: line 1 of the answers has 2 lamps, and the display of $folder/board.toml needs 10" ./mcs4 display "$folder/board.toml" < "$folder/answers"
 printf 'lamps ..........\nno 44\n' > "$folder/answers"
-refuses 1 "display: line 2 of the answers is a refusal: no 44; tools/explain says why" tools/display "$folder/board.toml" < "$folder/answers"
-refuses 1 "display: $lock/board.toml has no display: a comment \`# display 0: 4 digits\` makes one" tools/display $lock/board.toml < "$folder/answers"
+refuses 1 "display: line 2 of the answers is a refusal: no 44; mcs4 explain says why" ./mcs4 display "$folder/board.toml" < "$folder/answers"
+refuses 1 "display: $lock/board.toml has no display: a comment \`# display 0: 4 digits\` makes one" ./mcs4 display $lock/board.toml < "$folder/answers"
 printf '# display 0: four digits\n' > "$folder/board.toml"
 refuses 1 "display: $folder/board.toml: line 1: no display: it is written as \`# display 3: 8 digits\`, and then \`of 7 segments\`, \`with points\`, \`scanned by 7\`" \
-    tools/display "$folder/board.toml" < "$folder/answers"
+    ./mcs4 display "$folder/board.toml" < "$folder/answers"
 # What a board lacks that its comments name is refused, as `test` refuses it.
 board_of 8 '# display 0: 2 digits\n# printer rom0.1: ram0.0 0 1 feed\n' > "$folder/board.toml"
 echo "start: JUN start" > "$folder/idle.asm"
 printf 'test: dark\nexpect display 00\n' > "$folder/idle.test"
 echo "lamps ........" > "$folder/answers"
 lacks="$folder/board.toml: line 2: the board has no output line ram0.0.0"
-refuses 1 "display: $lacks" tools/display "$folder/board.toml" < "$folder/answers"
-refuses 1 "test: $lacks" tools/test "$folder/board.toml" "$folder/idle.asm" "$folder/idle.test"
+refuses 1 "display: $lacks" ./mcs4 display "$folder/board.toml" < "$folder/answers"
+refuses 1 "test: $lacks" ./mcs4 test "$folder/board.toml" "$folder/idle.asm" "$folder/idle.test"
 board_of 7 '# display 0: 2 digits\n' > "$folder/board.toml"
 lacks="$folder/board.toml: line 1: the display needs lamps up to number 7, and the board has 7"
-refuses 1 "display: $lacks" tools/display "$folder/board.toml" < "$folder/answers"
-refuses 1 "test: $lacks" tools/test "$folder/board.toml" "$folder/idle.asm" "$folder/idle.test"
+refuses 1 "display: $lacks" ./mcs4 display "$folder/board.toml" < "$folder/answers"
+refuses 1 "test: $lacks" ./mcs4 test "$folder/board.toml" "$folder/idle.asm" "$folder/idle.test"
 printf '# display 0: 2 digits\n[[rom]]\nchip = 16\nport = "0000"\n' > "$folder/board.toml"
-refuses 1 "$(outcome tools/test "$folder/board.toml" "$folder/idle.asm" "$folder/idle.test" | sed 's/^test: /display: /; /^status/d')" \
-    tools/display "$folder/board.toml" < "$folder/answers"
+refuses 1 "$(outcome ./mcs4 test "$folder/board.toml" "$folder/idle.asm" "$folder/idle.test" | sed 's/^test: /display: /; /^status/d')" \
+    ./mcs4 display "$folder/board.toml" < "$folder/answers"

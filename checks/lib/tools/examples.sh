@@ -43,14 +43,14 @@ calculates "1/0=C7" 7
 calculates "99/9.9099100=+1=" 10.989999
 calculates "" 0
 begins session < $calculator/quotient.txt
-verdict "$(tools/keys "$board" '*7=' | "$mcs4" open "$folder/session.mcs" | tools/display "$board")" 21.999999 "keys of a session that is taken up"
+verdict "$(./mcs4 keys "$board" '*7=' | "$mcs4" open "$folder/session.mcs" | ./mcs4 display "$board")" 21.999999 "keys of a session that is taken up"
 
-refuses 1 "keys: $top/$board has no key x" examples/calculator/run "12x"
+refuses 1 "script: $top/$board has no key x" examples/calculator/run "12x"
 refuses 2 "usage: run KEYS" examples/calculator/run
 
 # The calculator's `run` with a fault in its program, on a copy: it is told, and nothing is run.
 mkdir "$folder/copy" "$folder/copy/examples"
-ln -s "$top/tools" "$folder/copy/tools"
+ln -s "$top/mcs4" "$folder/copy/mcs4"
 cp -R examples/calculator "$folder/copy/examples"
 for program in "$folder"/copy/examples/calculator/*.asm; do
     { echo " JUN nowhere" && cat "$program"; } > "$folder/faulty"

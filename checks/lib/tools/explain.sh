@@ -1,4 +1,4 @@
-# tools/explain.
+# mcs4 explain.
 # shellcheck shell=sh
 
 # Where addresses of refused lines are, by the source.
@@ -6,7 +6,7 @@ make_source
 cp "$folder/source.mcs" "$folder/ran.mcs"
 printf 'break 0x003\npoke pc 4097\nlist 1 257\npoke rom.5 256\nlist 0x300 0\npress 0 0\nbreak\n' > "$folder/wrong.txt"
 goes_on ran < "$folder/wrong.txt"
-verdict "$(outcome tools/explain --source "$folder/source.asm" "$folder/ran.mcs" "$folder/wrong.txt" < "$folder/answers")" \
+verdict "$(outcome ./mcs4 explain --source "$folder/source.asm" "$folder/ran.mcs" "$folder/wrong.txt" < "$folder/answers")" \
     "line 2: no 11: a word that must be a number is not one, or the number is out of its range
     poke pc 4097
 line 3: no 11: a word that must be a number is not one, or the number is out of its range
@@ -25,7 +25,7 @@ line 7: no 10: not a command: an unknown first word, a wrong number of words, or
 status 1" "addresses of refused lines, by the source"
 refuses_sources "explain --source PROGRAM $folder/ran.mcs $folder/wrong.txt"
 refuses 2 "explain: SCRIPT is missing
-usage: explain [--source PROGRAM SESSION] SCRIPT < ANSWERS" tools/explain --source "$folder/source.asm" "$folder/ran.mcs"
+usage: mcs4 explain [--source PROGRAM SESSION] SCRIPT < ANSWERS" ./mcs4 explain --source "$folder/source.asm" "$folder/ran.mcs"
 
 # What was refused: lines, lines of programs, and the part of a board at fault among others that depend on it or on which it does.
 cat > "$folder/explain.txt" <<'script'
@@ -90,7 +90,7 @@ list 0 2
 board
  
 ram 0
-ports
+state
 press 300 0
 asm now
 asm
@@ -118,26 +118,26 @@ line 65: no 15: input ended inside a text: the line '.' after it is missing
     asm
 status 1
 explained
-verdict "$(outcome tools/explain "$folder/explain.txt" < "$folder/answers")" "$(cat "$folder/explained")" \
+verdict "$(outcome ./mcs4 explain "$folder/explain.txt" < "$folder/answers")" "$(cat "$folder/explained")" \
     "refusals explained"
 printf 'session 0\nok 1\nacc 0\n' > "$folder/answers"
 printf '\nreset\n\nregs\n' > "$folder/two.txt"
-verdict "$(outcome tools/explain "$folder/two.txt" < "$folder/answers")" "status 0" "nothing to explain"
+verdict "$(outcome ./mcs4 explain "$folder/two.txt" < "$folder/answers")" "status 0" "nothing to explain"
 printf 'reset\nseq\n' > "$folder/two.txt"
 printf 'session 0\nok 1\nok 2\n' > "$folder/answers"
 refuses 1 "explain: these are not the answers to this script: line 3 of the answers, \`ok 2\`, is no answer to line 2 of the script, \`seq\`" \
-    tools/explain "$folder/two.txt" < "$folder/answers"
+    ./mcs4 explain "$folder/two.txt" < "$folder/answers"
 printf 'session 0\nok 1\nseq 1\nok 2\n' > "$folder/answers"
 refuses 1 "explain: these are not the answers to this script: line 4 of the answers, \`ok 2\`, comes after the answer to the last line of the script" \
-    tools/explain "$folder/two.txt" < "$folder/answers"
+    ./mcs4 explain "$folder/two.txt" < "$folder/answers"
 refuses 2 "explain: SCRIPT is missing
-usage: explain [--source PROGRAM SESSION] SCRIPT < ANSWERS" tools/explain
+usage: mcs4 explain [--source PROGRAM SESSION] SCRIPT < ANSWERS" ./mcs4 explain
 
 # Answers that do not fit, or are none.
 explains() {
     printf "$1" > "$folder/script"
     printf "$2" > "$folder/answers"
-    verdict "$(outcome tools/explain "$folder/script" < "$folder/answers")" "$3" "explained: $1"
+    verdict "$(outcome ./mcs4 explain "$folder/script" < "$folder/answers")" "$3" "explained: $1"
 }
 explains 'poke r1 1\nwatch 0 0\n' 'session 0\n' "line 1 and those after it were not answered
     poke r1 1
@@ -159,7 +159,7 @@ status 1"
     awk 'BEGIN { for (i = 0; i < 300; i++) printf "x"; print "\n." }'
 } > "$folder/script"
 begins explain < "$folder/script"
-verdict "$(outcome tools/explain "$folder/script" < "$folder/answers" | sed 's/xxx*/x/')" "line 4: no 14, line 2 of the text: a byte that is neither a tab nor a printing character of ASCII: \`$(printf '\303\244')\`
+verdict "$(outcome ./mcs4 explain "$folder/script" < "$folder/answers" | sed 's/xxx*/x/')" "line 4: no 14, line 2 of the text: a byte that is neither a tab nor a printing character of ASCII: \`$(printf '\303\244')\`
      NOP ; $(printf '\303\244')
 line 8: no 42, line 3 of the text: an address in a ROM that the board lacks; of a program, nothing is loaded then
      FIM P0, 0
@@ -167,15 +167,15 @@ line 13: no 12, line 1 of the text: a line of more than 255 bytes
     ; x
 status 1" "lines of texts that no refusal tells"
 printf ' NOP\n NO\303\244P ; \303\244\n' > "$folder/faulty.asm"
-refuses 1 "script: $folder/faulty.asm: line 2: no 14: a byte that is neither a tab nor a printing character of ASCII: \`$(printf '\303\244')\`, which may stand in comments alone
-script:      NO$(printf '\303\244')P ; $(printf '\303\244')" tools/script $three/board.toml "$folder/faulty.asm"
+refuses 1 "script: $folder/faulty.asm: line 2: no 14: $(printf '\303\244') is not a character of ASCII; it may stand in comments alone
+script:      NO$(printf '\303\244')P ; $(printf '\303\244')" ./mcs4 script $three/board.toml "$folder/faulty.asm"
 printf ' NOP\n ORG 0x100\n NOP\n' > "$folder/faulty.asm"
 refuses 1 "script: $folder/faulty.asm: line 3: no 42: an address in a ROM that the board lacks; of a program, nothing is loaded then
-script:      NOP" tools/script $three/board.toml "$folder/faulty.asm"
+script:      NOP" ./mcs4 script $three/board.toml "$folder/faulty.asm"
 
 # A listing ends after address FFF, whatever is asked for.
 printf 'wire\nrom = [{ chip = 15, port = "0000" }]\n.\npoke rom.0xFFE 0x40\nlist 0xFFE 4\nlist 0xFFF 1\npoke r1 1\npoke r99 1\n' > "$folder/script"
 begins other < "$folder/script"
-verdict "$(outcome tools/explain "$folder/script" < "$folder/answers")" "line 8: no 11: a word that must be a number is not one, or the number is out of its range
+verdict "$(outcome ./mcs4 explain "$folder/script" < "$folder/answers")" "line 8: no 11: a word that must be a number is not one, or the number is out of its range
     poke r99 1
 status 1" "listings up to the last address"

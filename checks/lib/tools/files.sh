@@ -11,71 +11,70 @@ if mount -t tmpfs -o size=64k tmpfs "$small" 2> /dev/null; then
     for words in "script $lock/board.toml $lock/lock.asm" "listing $lock/lock.asm" "keys $lock/board.toml 1" "test $lock/board.toml $lock/lock.asm $lock/lock.test" \
         "cover $lock/board.toml $lock/lock.asm $lock/lock.test" "trace $folder/session.mcs 3" "wave $folder/session.mcs 3" \
         "resume $calculator/quotient.txt $folder/session.mcs" "back $folder/session.mcs"; do
-        verdict "$(TMPDIR=$small outcome tools/$words | tail -n 2)" "${words%% *}: $small has no room for temporary files; make some, or name another place: TMPDIR
-status 1" "no room for the temporary files of tools/$words"
+        verdict "$(TMPDIR=$small outcome ./mcs4 $words | tail -n 2)" "${words%% *}: $small has no room for temporary files; make some, or name another place: TMPDIR
+status 1" "no room for the temporary files of $words"
     done
-    umount "$small"
+    # A process that was started may end a moment later.
+    for turn in 1 2 3 4 5 6 7 8 9 10; do if umount "$small" 2> /dev/null; then break; fi; sleep 0.5; done
 else
     echo "not run: a full folder for temporary files (a file system cannot be mounted here)"
 fi
 
-# Files that are none of a tool's: empty, a folder, absent, 100 MB; and a program that refuses the session.
+# Files that are none of a command's: empty, a folder, absent, 100 MB; and a program that refuses the session.
 : > "$folder/empty"
 dd if=/dev/null of="$folder/huge" bs=1 seek=100000000 2> /dev/null
 wrong_files() {
     most=$1
-    what=$2
-    shift 2
+    shift
     for file in empty none huge .; do
         path=$folder/$file
         case $file in
         empty) words="$path is empty" ;;
-        none) words="cannot read $path" ;;
-        huge) words="$path has 100000000 bytes, more than $what can have ($most)" ;;
-        .) words="$path is a folder, not a file" ;;
+        none) words="cannot read $path: there is no such file" ;;
+        huge) words="cannot read $path: it has more than $most bytes" ;;
+        .) words="cannot read $path: it is a folder" ;;
         esac
-        tool=${1##*/}
-        verdict "$(outcome "$@" "$path" $last_word)" "$tool: $words
+        verdict "$(outcome "$@" "$path" $last_word)" "$2: $words
 status 1" "$* with $file"
     done
 }
 printf 'reset\nseq\n' > "$folder/two.txt"
 last_word=
-wrong_files 1048576 "an image" tools/rom load
-wrong_files 16777216 "the text of a board or a program" tools/listing
-wrong_files 16777216 "the input of a session" tools/explain
-wrong_files 1048576 "a session" tools/resume "$folder/two.txt"
-wrong_files 1048576 "a session" tools/panel $lock/board.toml
+wrong_files 1048576 ./mcs4 rom load
+wrong_files 16777216 ./mcs4 listing
+wrong_files 16777216 ./mcs4 explain
+wrong_files 1048576 ./mcs4 resume "$folder/two.txt"
+wrong_files 1048576 ./mcs4 panel $lock/board.toml
 last_word="$folder/session.mcs"
-wrong_files 16777216 "the input of a session" tools/resume
-wrong_files 1048576 "the text of a board" tools/panel
+wrong_files 16777216 ./mcs4 resume
+wrong_files 16777216 ./mcs4 panel
 last_word=10
-wrong_files 1048576 "a session" tools/trace
-refuses 1 "rom: no answers on standard input; it reads what mcs4 has answered, as in: rom .. < ANSWERS" tools/rom save 0 1
-refuses 1 "cycles: no answers on standard input; it reads what mcs4 has answered, as in: cycles .. < ANSWERS" tools/cycles
-refuses 1 "explain: no answers on standard input; it reads what mcs4 has answered, as in: explain .. < ANSWERS" tools/explain "$folder/two.txt"
-refuses 1 "panel: standard input and output have to be a terminal" tools/panel $lock/board.toml "$folder/session.mcs"
+wrong_files 1048576 ./mcs4 trace
+refuses 1 "rom: no answers on standard input; it reads what mcs4 has answered, as in: mcs4 rom save FIRST COUNT < ANSWERS" ./mcs4 rom save 0 1
+refuses 1 "cycles: no answers on standard input; it reads what mcs4 has answered, as in: mcs4 cycles .. < ANSWERS" ./mcs4 cycles
+refuses 1 "explain: no answers on standard input; it reads what mcs4 has answered, as in: mcs4 explain .. < ANSWERS" ./mcs4 explain "$folder/two.txt"
+refuses 1 "panel: standard input and output have to be a terminal" ./mcs4 panel $lock/board.toml "$folder/session.mcs"
 refuses 2 "panel: SESSION is missing
-usage: panel [-C FOLDER] [--stopped] [--source PROGRAM] [BOARD] SESSION" tools/panel $lock/board.toml
-refuses 1 "rom: more than 67,108,864 bytes on standard input; are these answers of mcs4?" tools/rom save 0 1 < "$folder/huge"
-refuses 1 "cycles: more than 67,108,864 bytes on standard input; are these answers of mcs4?" tools/cycles < "$folder/huge"
+usage: mcs4 panel [-C FOLDER] [--stopped] [--source PROGRAM] [BOARD] SESSION" ./mcs4 panel $lock/board.toml
+refuses 1 "rom: cannot read -: it has more than 67108864 bytes" ./mcs4 rom save 0 1 < "$folder/huge"
+refuses 1 "cycles: cannot read -: it has more than 67108864 bytes" ./mcs4 cycles < "$folder/huge"
 printf '#!/bin/sh\necho "no 53"\necho "mcs4: s.mcs: in use by another program" >&2\nexit 3\n' > "$folder/refusing"
 chmod +x "$folder/refusing"
 for words in "resume $folder/two.txt $folder/session.mcs" "trace $folder/session.mcs 1"; do
-    verdict "$(MCS4=$folder/refusing outcome tools/$words)" "mcs4: s.mcs: in use by another program
-${words%% *}: the session $folder/session.mcs was refused: no 53: the device failed, or the host refused the file: is it there, may it be written, is it in use?
+    # It opens a copy, and does not print what the program says of that.
+    verdict "$(MCS4=$folder/refusing outcome ./mcs4 $words)" "${words%% *}: the session $folder/session.mcs was refused: no 53: the device failed, or the host refused the file: is it there, may it be written, is it in use?
 status 1" "a session in use: $words"
 done
 
 # A session that another program has in use: resume tells it as a fault of its own, and answers nothing.
 echo reset | begins held
 if command -v flock > /dev/null; then
-    verdict "$(outcome flock "$folder/held.mcs" tools/resume "$folder/two.txt" "$folder/held.mcs")" \
+    verdict "$(outcome flock "$folder/held.mcs" ./mcs4 resume "$folder/two.txt" "$folder/held.mcs")" \
         "mcs4: $folder/held.mcs: in use by another program; wait until that has ended
 resume: the session $folder/held.mcs was refused: no 53: the device failed, or the host refused the file: is it there, may it be written, is it in use?
 status 1" "a session in use"
 fi
-verdict "$(outcome tools/resume "$folder/two.txt" "$folder/held.mcs")" "session 1
+verdict "$(outcome ./mcs4 resume "$folder/two.txt" "$folder/held.mcs")" "session 1
 seq 1
 status 0" "a session that is in use no more"
 
@@ -83,12 +82,59 @@ status 0" "a session that is in use no more"
 awk 'BEGIN { print "test long"; for (i = 0; i < 400; i++) print " run 5 s" }' > "$folder/long.test"
 mkdir "$folder/interrupted"
 for each in INT:130 TERM:143 HUP:129; do
-    TMPDIR=$folder/interrupted setsid env --default-signal=INT,TERM,HUP tools/test $lock/board.toml $lock/lock.asm "$folder/long.test" > "$folder/answers" 2>&1 &
+    TMPDIR=$folder/interrupted setsid env --default-signal=INT,TERM,HUP ./mcs4 test $lock/board.toml $lock/lock.asm "$folder/long.test" > "$folder/answers" 2>&1 &
     child=$!
-    until ls "$folder/interrupted"/*/test.mcs > /dev/null 2>&1; do sleep 0.05; done
+    until ls "$folder/interrupted"/*/1.mcs > /dev/null 2>&1 || ! kill -0 "$child" 2> /dev/null; do sleep 0.05; done
     # As a terminal does, to all of its group.
     kill -s "${each%:*}" -- "-$child"
     status=0
     wait "$child" || status=$?
     verdict "$status, $(ls "$folder/interrupted" | wc -l | tr -d ' ') left" "${each#*:}, 0 left" "a tool that gets SIG${each%:*}"
+done
+
+# So does a signal at any moment of its start: the shell that starts the program gets it, too.
+for wait in 60 70 80 90 100 105 110 115 120 125 130 135 140 150 160 170 180 200 220 240; do
+    for each in INT:130 TERM:143 HUP:129; do
+        TMPDIR=$folder/interrupted setsid env --default-signal=INT,TERM,HUP timeout --foreground -s KILL 20 \
+            ./mcs4 test $lock/board.toml $lock/lock.asm "$folder/long.test" > "$folder/answers" 2>&1 &
+        child=$!
+        # Until then the shell's own job ignores SIGINT.
+        until { read -r begun < "/proc/$child/comm" && [ "$begun" = timeout ]; } 2> /dev/null || ! kill -0 "$child" 2> /dev/null; do :; done
+        sleep "0.$(printf '%03d' "$wait")"
+        kill -s "${each%:*}" -- "-$child"
+        status=0
+        wait "$child" 2> /dev/null || status=$?
+        if [ "$status" -ne "${each#*:}" ] || [ -s "$folder/answers" ] || [ -n "$(ls "$folder/interrupted")" ]; then
+            echo "$wait ms, SIG${each%:*}: $status $(cat "$folder/answers") $(ls "$folder/interrupted")"
+        fi
+    done
+done > "$folder/started"
+verdict "$(cat "$folder/started")" "" "signals to a tool that starts"
+
+# TERM to a tool alone ends it at once, with all that it has started: one that runs tests, one that serves a script, one that waits for input.
+awk 'BEGIN { print "test longer\nrepeat 100000\nrun 100000\nend" }' > "$folder/longer.test"
+{ cat $calculator/quotient.txt && awk 'BEGIN { for (i = 0; i < 300000; i++) print "run 100000" }'; } > "$folder/longer.txt"
+mkfifo "$folder/silent"
+begins session < $calculator/quotient.txt
+# The processes that have this folder for temporary files.
+started_here() {
+    grep -lzsx "TMPDIR=$folder/interrupted" /proc/[0-9]*/environ | wc -l | tr -d ' '
+}
+for words in "1.mcs test $lock/board.toml $lock/lock.asm $folder/longer.test" \
+    "1.mcs resume $folder/longer.txt $folder/session.mcs" "- display $calculator/board.toml"; do
+    begun=${words%% *}
+    words=${words#* }
+    TMPDIR=$folder/interrupted setsid env --default-signal=TERM timeout 60 ./mcs4 $words <> "$folder/silent" > "$folder/answers" 2>&1 &
+    # While it waits for input it has made nothing yet, but opened its board.
+    case $begun in
+    -) sleep 2 ;;
+    *) until ls "$folder/interrupted"/*/"$begun" > /dev/null 2>&1 || ! kill -0 "$!" 2> /dev/null; do sleep 0.05; done ;;
+    esac
+    # The tool itself is the one that the limit has started.
+    tool=$(sed 's/ .*//' "/proc/$!/task/$!/children")
+    kill -s TERM "$tool"
+    status=0
+    wait $! 2> /dev/null || status=$?
+    for turn in 1 2 3 4 5 6 7 8 9 10; do if [ "$(started_here)" -eq 0 ]; then break; fi; sleep 0.2; done
+    verdict "$status, $(started_here) at work, $(ls "$folder/interrupted" | wc -l | tr -d ' ') left" "143, 0 at work, 0 left" "TERM to ${words%% *} alone"
 done

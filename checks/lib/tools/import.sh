@@ -1,10 +1,10 @@
-# tools/import: programs in the spelling of Intel and of AS.
+# mcs4 import: programs in the spelling of Intel and of AS.
 # shellcheck shell=sh
 
 # The ROM that a program makes.
 rom_of() {
     rm -f "$folder/import.mcs"
-    { roms 16 && echo asm && LC_ALL=C awk -v word=asm -f tools/lib/sent.awk "$1" && echo . && tools/rom ask 0 4096; } | "$mcs4" new "$folder/import.mcs" | sed 1,3d
+    { roms 16 && echo asm && LC_ALL=C sed 's/;.*//; s/[ \t]*$//' "$1" && echo . && ./mcs4 rom ask 0 4096; } | "$mcs4" new "$folder/import.mcs" | sed 1,3d
 }
 cat > "$folder/intel.src" <<'source'
 / Intel's spelling, and AS's
@@ -66,10 +66,10 @@ ADD_:   NOP
 ; END
 ;anything
 source
-verdict "$(outcome tools/import "$folder/intel.src")" "$(cat "$folder/imported")
+verdict "$(outcome ./mcs4 import "$folder/intel.src")" "$(cat "$folder/imported")
 status 0" "a program that is imported"
-verdict "$(tools/import - < "$folder/intel.src")" "$(cat "$folder/imported")" "a program that is imported from standard input"
-verdict "$(outcome tools/import "$folder/imported" | sed 's/ *;.*//' | tr -d ' ' | sed '/^$/d')" "$(sed 's/ *;.*//' "$folder/imported" | tr -d ' ' | sed '/^$/d; s/,12,/,12,/')
+verdict "$(./mcs4 import - < "$folder/intel.src")" "$(cat "$folder/imported")" "a program that is imported from standard input"
+verdict "$(outcome ./mcs4 import "$folder/imported" | sed 's/ *;.*//' | tr -d ' ' | sed '/^$/d')" "$(sed 's/ *;.*//' "$folder/imported" | tr -d ' ' | sed '/^$/d; s/,12,/,12,/')
 status0" "what was imported, imported once more"
 # Bytes that were assembled by hand: a loop that clears a RAM register, one that adds two numbers of sixteen decimal digits, and the AND of
 # two registers, as they are written in the field since the first manuals.
@@ -112,7 +112,7 @@ cat > "$folder/clear.bytes" <<'bytes'
 20 00 22 10 F1 21 E9 23 EB FB E0 61 73 0D C0
 24 C0 B0 F5 B0 12 21 D0 40 22 A1 B6 75 19 40 15
 bytes
-tools/import "$folder/clear.src" > "$folder/clear.asm"
+./mcs4 import "$folder/clear.src" > "$folder/clear.asm"
 verdict "$(rom_of "$folder/clear.asm" | awk '{ print $2; if (substr($0, 8, 1) != " ") print $3 }' | head -n 39 | tr '\n' ' ')" "$(tr '\n' ' ' < "$folder/clear.bytes")" "programs as Intel writes them, by hand"
 verdict "$(sed -n 's/.*; //p' "$folder/clear.asm" | grep -v '^AND-2')" "$(sed -n 's/.*\/ //p' "$folder/clear.src")" "their comments are kept"
 # The examples, in Intel's spelling, make the bytes that they make in ours.
@@ -121,7 +121,7 @@ for example in examples/*/*.asm; do
         s/^\([A-Za-z_][A-Za-z0-9_]*\) *= *0x\([0-9A-Fa-f]*\)/\1 EQU 0\2H/; s/^\([A-Za-z_][A-Za-z0-9_]*\) *= */\1 EQU /; s/^\([A-Za-z_][A-Za-z0-9_]*\):/\1,/
         h; s/ \/.*//; s/0x\([0-9A-Fa-f]*\)/0\1H/g; s/\([^A-Za-z0-9_]\)P\([0-7]\)/\1\2P/g; s/\([^A-Za-z0-9_]\)R\([0-9][0-9]*\)/\1\2/g
         x; /\//!s/.*//; s/^[^\/]*//; x; G; s/\n/ /; s/ *$//' "$example" > "$folder/example.src"
-    verdict "$(outcome tools/import "$folder/example.src" > "$folder/example.asm"; tail -n 1 "$folder/example.asm")" "status 0" "$example in Intel's spelling"
+    verdict "$(outcome ./mcs4 import "$folder/example.src" > "$folder/example.asm"; tail -n 1 "$folder/example.asm")" "status 0" "$example in Intel's spelling"
     sed -i '$d' "$folder/example.asm"
     verdict "$(rom_of "$folder/example.asm" | cksum)" "$(rom_of "$example" | cksum)" "the bytes of $example in Intel's spelling"
     verdict "$(grep -c , "$folder/example.src" | awk '{ print ($1 > 3) }')" 1 "$example is spelled otherwise there"
@@ -130,14 +130,14 @@ done
 while IFS='|' read -r line hint; do
     echo "$line" > "$folder/spelled.asm"
     refuses 1 "listing: $folder/spelled.asm: line 1: no 30: the line has no form that the assembler knows$hint
-listing:     $line" tools/listing "$folder/spelled.asm" < /dev/null
+listing:     $line" ./mcs4 listing "$folder/spelled.asm" < /dev/null
 done <<'lines'
 zero EQU 4 ; none|; a name gets its number by =: zero = 4
- FIM 0P, 0|; tools/import takes programs in Intel's and AS's spelling
- LDM 0AH|; tools/import takes programs in Intel's and AS's spelling
- LDM $A|; tools/import takes programs in Intel's and AS's spelling
-LOOP, NOP|; tools/import takes programs in Intel's and AS's spelling
- NOP / none|; tools/import takes programs in Intel's and AS's spelling
+ FIM 0P, 0|; mcs4 import takes programs in Intel's and AS's spelling
+ LDM 0AH|; mcs4 import takes programs in Intel's and AS's spelling
+ LDM $A|; mcs4 import takes programs in Intel's and AS's spelling
+LOOP, NOP|; mcs4 import takes programs in Intel's and AS's spelling
+ NOP / none|; mcs4 import takes programs in Intel's and AS's spelling
  JMP 4|
 lines
 # What it cannot take is told by line, and nothing is printed.
@@ -163,7 +163,7 @@ START, NOP
        DB
 source
 sed '12s/START, //' "$folder/bad.src" > "$folder/bad2.src"
-refuses 1 "import: $folder/bad.src:12: the name START is defined by line 11, too" tools/import "$folder/bad.src"
+refuses 1 "import: $folder/bad.src:12: the name START is defined by line 11, too" ./mcs4 import "$folder/bad.src"
 refuses 1 "import: $folder/bad2.src:1: \`JMP\` is no instruction, and nothing else that is taken
 import: $folder/bad2.src:2: the value of \`Y\` hangs upon itself
 import: $folder/bad2.src:3: the value of \`X\` hangs upon itself
@@ -180,8 +180,46 @@ import: $folder/bad2.src:15: a bracket is missing
 import: $folder/bad2.src:16: ADD is written with one operand
 import: $folder/bad2.src:17: NOP has no operand
 import: $folder/bad2.src:18: ISZ is written with two operands
-import: $folder/bad2.src:19: DB has no values" tools/import "$folder/bad2.src"
+import: $folder/bad2.src:19: DB has no values" ./mcs4 import "$folder/bad2.src"
 printf ' NOP\n JCN AZ, FAR / too far\n ORG 300H\nFAR, NOP\n' > "$folder/far.src"
 refuses 1 "import: $folder/far.src: line 2: no 34: an address on another page; JCN and ISZ reach the page of the address after their two words
-import:      JCN AZ, FAR / too far" tools/import "$folder/far.src"
-refuses 1 "import: cannot read none.src" tools/import none.src
+import:      JCN AZ, FAR / too far" ./mcs4 import "$folder/far.src"
+refuses 1 "import: cannot read none.src: there is no such file" ./mcs4 import none.src
+# A line that no assembler would take, and brackets that are too deep, are refused at once.
+awk 'BEGIN { printf " LDM 1"; for (i = 0; i < 300000; i++) printf "+1"; print "" }' > "$folder/long.src"
+awk 'BEGIN { printf " LDM 1 ; "; for (i = 0; i < 300000; i++) printf "+1"; print "" }' > "$folder/remark.src"
+awk 'BEGIN { printf " LDM "; for (i = 0; i < 400; i++) printf "("; printf "1"; for (i = 0; i < 400; i++) printf ")"; print "" }' > "$folder/deep.src"
+awk 'BEGIN { printf " LDM "; for (i = 0; i < 45; i++) printf "("; printf "1"; for (i = 0; i < 45; i++) printf ")"; print "" }' > "$folder/less.src"
+awk 'BEGIN { for (i = 0; i < 300000; i++) printf " "; print "x" }' > "$folder/blank.src"
+awk 'BEGIN { for (i = 0; i < 900; i++) printf " "; print "; so far" }' > "$folder/blanks.src"
+{
+    outcome timeout 60 ./mcs4 import "$folder/long.src"
+    outcome timeout 60 ./mcs4 import "$folder/remark.src" | cut -c 1-30
+    outcome timeout 60 ./mcs4 import "$folder/deep.src"
+    outcome timeout 60 ./mcs4 import "$folder/less.src" | cut -c 1-13
+    outcome timeout 60 ./mcs4 import "$folder/blank.src"
+    outcome timeout 60 ./mcs4 import "$folder/blanks.src" | sed 's/ *;/ ;/'
+} > "$folder/told"
+verdict "$(cat "$folder/told")" "import: $folder/long.src:1: the line has more than 1024 bytes before its comment
+status 1
+        LDM 1           ; +1+1
+status 0
+import: $folder/deep.src:1: more than 50 brackets or signs, one in another
+status 1
+        LDM 1
+status 0
+import: $folder/blank.src:1: the line has more than 1024 bytes before its comment
+status 1
+ ; so far
+status 0" "long lines, and deep brackets"
+# Names and lines that are many take no longer than in proportion: names whose first 16 letters are the same, 1 MiB of short lines.
+awk 'BEGIN { for (i = 0; i < 400; i++) printf "SAME_FIRST_LETTERS_%d EQU %d\n", i, i % 16 }' > "$folder/names.src"
+awk 'BEGIN { for (i = 0; i < 40000; i++) print "LABEL" i " EQU (1+2)*3" }' > "$folder/lines.src"
+for many in names lines; do
+    verdict "$(timeout 30 ./mcs4 import "$folder/$many.src" 2>&1 | sed "s/:.*//; 1q")" "$(case $many in names) echo 'SAME_FIRST_LETTE = 0' ;; *) echo import ;; esac)" "many $many"
+done
+# A character that is not of ASCII is no byte of the program; in comments bytes stay as they are.
+printf " DB 'a\\344b' ; a\\344b\n" > "$folder/byte.src"
+refuses 1 "import: $folder/byte.src:1: 'a$(printf '\303\244')b' has a character that is not of ASCII" ./mcs4 import "$folder/byte.src"
+printf " NOP ; a\\344b\n" > "$folder/byte.src"
+verdict "$(./mcs4 import "$folder/byte.src" | od -An -tx1 | tr -d ' \n')" "$(printf '        NOP             ; a\344b\n' | od -An -tx1 | tr -d ' \n')" "bytes of a comment"

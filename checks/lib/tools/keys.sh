@@ -1,40 +1,40 @@
-# tools/keys: the names of keys in a board's comments, and keys up to a stop.
+# mcs4 keys: the names of keys in a board's comments, and keys up to a stop.
 # shellcheck shell=sh
 
-refuses 1 "keys: cannot read none.toml" tools/keys none.toml "1"
+refuses 1 "keys: cannot read none.toml: there is no such file" ./mcs4 keys none.toml "1"
 refuses 2 "keys: KEYS is missing
-usage: keys [-C FOLDER] [--down CYCLES] [--up CYCLES] [--until-stop SESSION] [BOARD] KEYS" tools/keys $calculator/board.toml
+usage: mcs4 keys [-C FOLDER] [--down CYCLES] [--up CYCLES] [--until-stop SESSION] [BOARD] KEYS" ./mcs4 keys $calculator/board.toml
 
 # A board with CRLF: the last key of a row, too.
 printf '# row 0: a b\r\n# row 1: c\r\nrom = [{ chip = 0, port = "00ii" }]\r\nchain = [{ clock = "rom0.2", data = "rom0.3", chips = 1 }]\r\nkeys = { chain = 0, first = 0, rows = 2, columns = ["rom0.0", "rom0.1"] }\r\n' > "$folder/crlf.toml"
-verdict "$(tools/keys "$folder/crlf.toml" "b c" | grep press)" "press 0 1
+verdict "$(./mcs4 keys "$folder/crlf.toml" "b c" | grep press)" "press 0 1
 press 1 0" "keys of a board with CRLF"
 
 sed 's/# row 0: 1 2 3/#Row 0:1 2 3/' < $lock/board.toml > "$folder/board.toml"
-verdict "$(outcome tools/keys --down 10 --up 5 "$folder/board.toml" 2)" "press 0 1
+verdict "$(outcome ./mcs4 keys --down 10 --up 5 "$folder/board.toml" 2)" "press 0 1
 run 10
 release 0 1
 run 5
 lamps
 status 0" "keys of a comment in another spelling"
 sed 's/# row 0: 1 2 3/# row 0: 1 2 3 A/' < $lock/board.toml > "$folder/board.toml"
-refuses 1 "keys: $folder/board.toml: line 8: the key A is in row 0, column 3, and the board has 4 rows and 3 columns" tools/keys "$folder/board.toml" 1
+refuses 1 "keys: $folder/board.toml: line 8: the key A is in row 0, column 3, and the board has 4 rows and 3 columns" ./mcs4 keys "$folder/board.toml" 1
 sed 's/# row 1: 4 5 6/# row 1: 4 1 6/' < $lock/board.toml > "$folder/board.toml"
-refuses 1 "keys: $folder/board.toml: line 9: the key 1 is named in line 8, too" tools/keys "$folder/board.toml" 1
+refuses 1 "keys: $folder/board.toml: line 9: the key 1 is named in line 8, too" ./mcs4 keys "$folder/board.toml" 1
 sed 's/# row 1: 4 5 6/# row 0: 4 5 6/' < $lock/board.toml > "$folder/board.toml"
-refuses 1 "keys: $folder/board.toml: line 9: row 0 has its names in line 8" tools/keys "$folder/board.toml" 1
+refuses 1 "keys: $folder/board.toml: line 9: row 0 has its names in line 8" ./mcs4 keys "$folder/board.toml" 1
 grep -v '^# row' < $lock/board.toml > "$folder/board.toml"
-refuses 1 "keys: $folder/board.toml has no comments \`# row R: NAME ..\` that name its keys" tools/keys "$folder/board.toml" 1
-refuses 1 "keys: down is a decimal number, 1 to 100000" tools/keys --down 0 $lock/board.toml 1
+refuses 1 "keys: $folder/board.toml has no comments \`# row R: NAME ..\` that name its keys" ./mcs4 keys "$folder/board.toml" 1
+misuses "CYCLES of --down is a decimal number, 1 to 100000" ./mcs4 keys --down 0 $lock/board.toml 1
 refuses 2 "keys: KEYS is missing
-usage: keys [-C FOLDER] [--down CYCLES] [--up CYCLES] [--until-stop SESSION] [BOARD] KEYS" tools/keys $lock/board.toml
+usage: mcs4 keys [-C FOLDER] [--down CYCLES] [--up CYCLES] [--until-stop SESSION] [BOARD] KEYS" ./mcs4 keys $lock/board.toml
 # A breakpoint where a digit is taken: the key is still down then, and nothing is done after it.
 {
-    tools/script $lock/board.toml $lock/lock.asm | sed '$d'
-    echo 'break @right' | tools/names $lock/lock.asm
+    ./mcs4 script $lock/board.toml $lock/lock.asm | sed '$d'
+    echo 'break @right' | ./mcs4 names $lock/lock.asm
 } | begins lock
-verdict "$(outcome tools/keys --until-stop "$folder/lock.mcs" $lock/board.toml 47 | sed 's/ran [0-9]* break/ran .. break/')" "session 4
+verdict "$(outcome ./mcs4 keys --until-stop "$folder/lock.mcs" $lock/board.toml 47 | sed 's/ran [0-9]* break/ran .. break/')" "session 4
 ok 5
 ok 6 ran .. break
 status 0" "keys up to a stop"
-verdict "$(echo ports | "$mcs4" open "$folder/lock.mcs" | tail -n 1)" "keys 1.0" "a key that is down at a stop"
+verdict "$(echo state | "$mcs4" open "$folder/lock.mcs" | grep -o 'keys [^ ]*')" "keys 1.0" "a key that is down at a stop"

@@ -1,4 +1,4 @@
-# tools/listing.
+# mcs4 listing.
 # shellcheck shell=sh
 
 # Assembled by hand: CRLF, labels alone and at ORG, a name used before its line, DB over several lines.
@@ -34,22 +34,22 @@ five             005
 start            000
 table            0FE
 listing
-verdict "$(tools/listing "$folder/program.asm")" "$(cat "$folder/listing")" "a listing"
-verdict "$(tools/listing "$folder/crlf.asm")" "$(cat "$folder/listing")" "a listing of a source with CRLF"
-verdict "$(tools/listing --names "$folder/program.asm")" "add_it 103
+verdict "$(./mcs4 listing "$folder/program.asm")" "$(cat "$folder/listing")" "a listing"
+verdict "$(./mcs4 listing "$folder/crlf.asm")" "$(cat "$folder/listing")" "a listing of a source with CRLF"
+verdict "$(./mcs4 listing --names "$folder/program.asm")" "add_it 103
 alone 003
 five 005
 start 000
 table 0FE" "names"
-verdict "$(tools/listing $calculator/calculator.asm | grep -c '^[0-9A-F][0-9A-F][0-9A-F] [0-9A-F][0-9A-F]')" \
-    "$(tools/listing $calculator/calculator.asm | sed -n 's/^[0-9A-F][0-9A-F][0-9A-F] [0-9A-F][0-9A-F]/&/p' | sort -u | wc -l | tr -d ' ')" \
+verdict "$(./mcs4 listing $calculator/calculator.asm | grep -c '^[0-9A-F][0-9A-F][0-9A-F] [0-9A-F][0-9A-F]')" \
+    "$(./mcs4 listing $calculator/calculator.asm | sed -n 's/^[0-9A-F][0-9A-F][0-9A-F] [0-9A-F][0-9A-F]/&/p' | sort -u | wc -l | tr -d ' ')" \
     "no address twice in the listing of the calculator"
 printf 'NOP\n\tJCN 4, far\n ORG 0x300\nfar: NOP\n' > "$folder/bad.asm"
 refuses 1 "listing: $folder/bad.asm: line 2: no 34: an address on another page; JCN and ISZ reach the page of the address after their two words
-listing:     	JCN 4, far" tools/listing "$folder/bad.asm"
-verdict "$(tools/listing --labels "$folder/program.asm")" "add_it 103
+listing:     	JCN 4, far" ./mcs4 listing "$folder/bad.asm"
+verdict "$(./mcs4 listing --labels "$folder/program.asm")" "add_it 103
 alone 003
 start 000
 table 0FE" "labels"
-refuses 2 "listing: there is no option --name
-usage: listing [-C FOLDER] [--names | --labels] [PROGRAM]" tools/listing --name "$folder/bad.asm"
+refuses 2 "listing: there is no option --name; did you mean --names?
+usage: mcs4 listing [-C FOLDER] [--names | --labels] [PROGRAM]" ./mcs4 listing --name "$folder/bad.asm"

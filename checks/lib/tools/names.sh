@@ -1,4 +1,4 @@
-# tools/names.
+# mcs4 names.
 # shellcheck shell=sh
 
 cat > "$folder/named.txt" <<'lines'
@@ -9,7 +9,7 @@ break @next
 list @wait 2
 poke r1 @zero
 lines
-verdict "$(outcome tools/names $three/three_lamps.asm < "$folder/named.txt")" "break 0x005
+verdict "$(outcome ./mcs4 names $three/three_lamps.asm < "$folder/named.txt")" "break 0x005
   asm
  NOP ; @next
 .
@@ -17,6 +17,6 @@ list 0x014 2
 poke r1 0x004
 status 0" "names in lines"
 printf 'reset\nbreak @nowhere\n' > "$folder/named.txt"
-refuses 1 "names: line 2: the program has no name nowhere" tools/names $three/three_lamps.asm < "$folder/named.txt"
+refuses 1 "names: line 2: @nowhere: the program has no such name" ./mcs4 names $three/three_lamps.asm < "$folder/named.txt"
 refuses 2 "names: PROGRAM is missing, and there is no mcs4.toml here
-usage: names [-C FOLDER] [PROGRAM] < LINES" tools/names
+usage: mcs4 names [-C FOLDER] [PROGRAM] < LINES" ./mcs4 names

@@ -1,4 +1,4 @@
-# tools/resume.
+# mcs4 resume.
 # shellcheck shell=sh
 
 # A script that ends early is taken up again; after each of its lines, the rest leads to the same state. And one that is killed.
@@ -34,34 +34,34 @@ script
 lines=0
 while [ "$lines" -lt 22 ]; do
     sed -n "1,${lines}p" "$folder/resume.txt" | begins cut
-    tools/resume "$folder/resume.txt" "$folder/cut.mcs" | tail -n 7 > "$folder/answers" || true
+    ./mcs4 resume "$folder/resume.txt" "$folder/cut.mcs" | tail -n 7 > "$folder/answers" || true
     verdict_of_files "$folder/answers" "$folder/end" "a script resumed after line $lines"
     lines=$((lines + 3))
 done
-verdict "$(tools/resume "$folder/resume.txt" "$folder/cut.mcs" | sed 1q)" "session 6" "a script of which only questions are left"
+verdict "$(./mcs4 resume "$folder/resume.txt" "$folder/cut.mcs" | sed 1q)" "session 6" "a script of which only questions are left"
 echo 'reset' | goes_on cut
 refuses 1 "resume: $folder/cut.mcs has not begun with $folder/resume.txt: it has accepted 7 commands, and the whole script makes 6" \
-    tools/resume "$folder/resume.txt" "$folder/cut.mcs"
+    ./mcs4 resume "$folder/resume.txt" "$folder/cut.mcs"
 printf 'poke r9 8\n' | begins cut
 cp "$folder/cut.mcs" "$folder/copy.mcs"
-verdict "$(outcome tools/resume "$folder/resume.txt" "$folder/cut.mcs" | sed '2,$d')" \
+verdict "$(outcome ./mcs4 resume "$folder/resume.txt" "$folder/cut.mcs" | sed '2,$d')" \
     "resume: $folder/cut.mcs has not begun with $folder/resume.txt: after 1 commands some answers differ (< $folder/cut.mcs, > what $folder/resume.txt leads to)" \
     "a session of another script"
 verdict_of_files "$folder/cut.mcs" "$folder/copy.mcs" "a session that was not resumed"
 refuses 2 "resume: SESSION is missing
-usage: resume SCRIPT SESSION" tools/resume "$folder/resume.txt"
+usage: mcs4 resume SCRIPT SESSION" ./mcs4 resume "$folder/resume.txt"
 rm "$folder/cut.mcs"
 awk 'BEGIN { for (i = 0; i < 400; i++) print "poke r" i % 16 " " int(i / 16) % 16 "\nrun 100000"; print "regs" }' > "$folder/long.txt"
 # Emptied here, since the program's own shell may empty it later than it is looked at.
 : > "$folder/answers"
 "$mcs4" new "$folder/cut.mcs" < "$folder/long.txt" > "$folder/answers" &
 child=$!
-while [ ! -s "$folder/answers" ]; do sleep 0.01; done
+while [ ! -s "$folder/answers" ] && kill -0 "$child" 2> /dev/null; do sleep 0.01; done
 sleep 0.05
 kill -9 "$child" 2> /dev/null || true
 wait "$child" 2> /dev/null || true
 # The last 16 of 400: i from 384 on, which is 24 times 16, and 24 mod 16 = 8. 40,000,000 cycles of NOP, modulo 4,096, are 2,560.
-verdict "$(tools/resume "$folder/long.txt" "$folder/cut.mcs" | tail -n 1)" \
+verdict "$(./mcs4 resume "$folder/long.txt" "$folder/cut.mcs" | tail -n 1)" \
     "acc 0 cy 0 pc A00 owed 0 dcl 0 test 1 r 8888888888888888 ret 000 000 000" "a script that was killed"
 verdict "$(echo seq | "$mcs4" open "$folder/cut.mcs" | tail -n 1)" "seq 800" "the commands of a script that was killed"
 
@@ -70,7 +70,7 @@ differs() {
     printf "$1" > "$folder/script"
     printf "$2" | begins other
     cp "$folder/other.mcs" "$folder/copy.mcs"
-    verdict "$(outcome tools/resume "$folder/script" "$folder/other.mcs" | sed 1d)" "$3
+    verdict "$(outcome ./mcs4 resume "$folder/script" "$folder/other.mcs" | sed '1d; s/^resume: //')" "$3
 status 1" "a session with other $4"
     verdict_of_files "$folder/other.mcs" "$folder/copy.mcs" "a session that was not resumed: $4"
 }
@@ -90,13 +90,13 @@ differs "${keyed}poke acc 2\nrun 4\npoke acc 3\npoke acc 3\npoke acc 3\nreset\n"
 # The bytes of the script are sent as they are: of two carriage returns the bench drops one.
 printf 'poke r1 1\r\npoke r2 2\r\r\npoke r3 3\n' > "$folder/script"
 printf 'poke r1 1\n' | begins other
-verdict "$(outcome tools/resume "$folder/script" "$folder/other.mcs")" "session 1
+verdict "$(outcome ./mcs4 resume "$folder/script" "$folder/other.mcs")" "session 1
 no 14
 ok 2
 status 0" "a script with a carriage return too many"
 # A listing ends after address FFF, whatever is asked for.
 printf 'wire\nrom = [{ chip = 15, port = "0000" }]\n.\npoke rom.0xFFE 0x40\nlist 0xFFE 4\nlist 0xFFF 1\npoke r1 1\npoke r99 1\n' > "$folder/script"
 begins other < "$folder/script"
-verdict "$(outcome tools/resume "$folder/script" "$folder/other.mcs")" "session 3
+verdict "$(outcome ./mcs4 resume "$folder/script" "$folder/other.mcs")" "session 3
 no 11
 status 0" "a script with listings up to the last address"

@@ -1,73 +1,73 @@
-# tools/rom: images of ROM in and out, as bytes, in Intel HEX, S-records and BNPF.
+# mcs4 rom: images of ROM in and out, as bytes, in Intel HEX, S-records and BNPF.
 # shellcheck shell=sh
 
 # Any 4,096 bytes go in and come out unchanged, in both forms; the Intel HEX of a few by hand.
 head -c 4096 /dev/urandom > "$folder/image"
-{ roms 16 && tools/rom load --binary "$folder/image" && tools/rom ask 0 4096; } | begins rom
-tools/rom save 0 4096 < "$folder/answers" > "$folder/saved"
+{ roms 16 && ./mcs4 rom load --binary "$folder/image" && ./mcs4 rom ask 0 4096; } | begins rom
+./mcs4 rom save 0 4096 < "$folder/answers" > "$folder/saved"
 verdict_of_files "$folder/saved" "$folder/image" "a binary image in and out"
-tools/rom save --hex 0 4096 < "$folder/answers" > "$folder/saved.hex"
-{ roms 16 && tools/rom load "$folder/saved.hex" && tools/rom ask 0 4096; } | begins rom
-tools/rom save 0 4096 < "$folder/answers" > "$folder/saved"
+./mcs4 rom save --hex 0 4096 < "$folder/answers" > "$folder/saved.hex"
+{ roms 16 && ./mcs4 rom load "$folder/saved.hex" && ./mcs4 rom ask 0 4096; } | begins rom
+./mcs4 rom save 0 4096 < "$folder/answers" > "$folder/saved"
 verdict_of_files "$folder/saved" "$folder/image" "an image in Intel HEX out and in"
 printf ':03002000010203D7\r\n:0000040000FC\r\n' > "$folder/bad.hex"
 printf ':020000040000FA\r\n:03002000010203d7\r\n:00000001ff\r\n' > "$folder/few.hex"
-verdict "$(tools/rom load "$folder/few.hex" 0x100)" "asm
+verdict "$(./mcs4 rom load "$folder/few.hex" 0x100)" "asm
 ORG 0x120
-DB 0x01, 0x02, 0x03
+DB 1,2,3
 ." "Intel HEX, moved to another address"
 printf '01F D0    LDM 0\r\n020 01    DB 0x01\r\n021 02    DB 0x02\r\n022 03    DB 0x03\r\n' > "$folder/input"
-verdict "$(tools/rom save --hex 0x20 3 < "$folder/input")" ":03002000010203D7
+verdict "$(./mcs4 rom save --hex 0x20 3 < "$folder/input")" ":03002000010203D7
 :00000001FF" "Intel HEX of three bytes"
-verdict "$(tools/rom save 31 4 < "$folder/input" | od -An -tx1)" " d0 01 02 03" "four bytes"
-verdict "$(tools/rom ask 0x10 300)" "list 0x010 256
+verdict "$(./mcs4 rom save 31 4 < "$folder/input" | od -An -tx1)" " d0 01 02 03" "four bytes"
+verdict "$(./mcs4 rom ask 0x10 300)" "list 0x010 256
 list 0x110 44" "questions for 300 bytes"
 hex_fault() {
     printf "$1" > "$folder/bad.hex"
-    refuses 1 "rom: $folder/bad.hex: $2" tools/rom load "$folder/bad.hex"
+    refuses 1 "rom: $folder/bad.hex: $2" ./mcs4 rom load "$folder/bad.hex"
 }
 hex_fault ':03002000010203D7\n:03002000010203D8\n' "line 2: the checksum is D8, and D7 would be right"
 hex_fault ':03002000010203D7\n' "it has no last record (:00000001FF), so a part of it is missing"
 hex_fault ':03002000010203D7\n:03002200010203D5\n' "line 2: the address 022, which an earlier line has"
 hex_fault ':030FFE00010203EA\n' "line 1: past the last address, FFF"
-hex_fault '\n:0300200001020\n' "line 2: cut off: a record has \`:\`, ten digits and two for each byte"
-hex_fault '\n:0400200001020x\n' "line 2: a character that is no hexadecimal digit"
-hex_fault '\n:04002000010203D6\n' "line 2: it says 4 bytes and has 3"
+hex_fault '\n:0300200001020\n' "line 2: a record has \`:\`, ten hexadecimal digits and two for each byte"
+hex_fault '\n:0400200001020x\n' "line 2: a record has \`:\`, ten hexadecimal digits and two for each byte"
+hex_fault '\n:04002000010203D6\n' "line 2: it announces 4 bytes and has 3"
 hex_fault '\n:020000040001F9\n' "line 2: type 04 with another value than 0: an address past FFF"
-hex_fault '\n:0400000600000000F6\n' "line 2: type 06, which has no meaning for a 4004; only 00, 01, 03, 05, and 02 and 04 with 0 are taken"
+hex_fault '\n:0400000600000000F6\n' "line 2: type 06, which has no meaning for a 4004"
 hex_fault '\n:03000005000000F8\n' "line 2: a record of type 05 has four bytes"
 hex_fault ':00000001FF\n:00000001FF\n' "line 2: a record after the last one (type 01)"
 hex_fault ':00000001FF\n' "it has no byte"
-refuses 1 "rom: $folder/image has 4096 bytes, and only 4095 fit from the address 001 on" tools/rom load --binary "$folder/image" 1
-refuses 1 "rom: ADDRESS is 0 to 4095, decimal or with 0x" tools/rom load "$folder/image" 12H
-refuses 1 "rom: FIRST is 0 to 4095, COUNT is from 1 on, and 4096 is the address after the last one" tools/rom ask 4000 97
+refuses 1 "rom: $folder/image: it has 4,096 bytes, and only 4,095 fit from the address 001 on" ./mcs4 rom load --binary "$folder/image" 1
+misuses "ADDRESS is 0 to 4095, decimal or with 0x" ./mcs4 rom load "$folder/image" 12H
+misuses "FIRST is 0 to 4095, COUNT is from 1 on, and 4096 is the address after the last one" ./mcs4 rom ask 4000 97
 echo "no 11" > "$folder/input"
-refuses 1 "rom: line 1 of the answers is a refusal: no 11; tools/explain says why" tools/rom save 0 1 < "$folder/input"
+refuses 1 "rom: line 1 of the answers is a refusal: no 11; mcs4 explain says why" ./mcs4 rom save 0 1 < "$folder/input"
 echo "000 D0    LDM 0" > "$folder/input"
-refuses 1 "rom: no answer shows the byte at 001; tools/rom ask makes the questions" tools/rom save 0 2 < "$folder/input"
+refuses 1 "rom: no answer shows the byte at 001; mcs4 rom ask makes the questions" ./mcs4 rom save 0 2 < "$folder/input"
 
 # S-records by hand: one with a header, two of data, a count, and the end; addresses of three and four bytes, too; each fault by its line.
 srec_sum() {
     awk -v hex="$1" 'BEGIN { for (i = 1; i <= length(hex); i += 2) sum += 16 * (index("0123456789ABCDEF", substr(hex, i, 1)) - 1) + index("0123456789ABCDEF", substr(hex, i + 1, 1)) - 1; printf "%s%02X", hex, 255 - sum % 256 }'
 }
 printf '%s\r\n' "S1$(srec_sum 050010D0E2)" "S2$(srec_sum 0500012010)" "S3$(srec_sum 060000013041)" "S5$(srec_sum 030003)" "S9$(srec_sum 030000)" > "$folder/image.srec"
-verdict "$(outcome tools/rom load "$folder/image.srec")" "asm
+verdict "$(outcome ./mcs4 rom load "$folder/image.srec")" "asm
 ORG 0x010
-DB 0xD0, 0xE2
+DB 208,226
 ORG 0x120
-DB 0x10
+DB 16
 ORG 0x130
-DB 0x41
+DB 65
 .
 status 0" "S-records"
-verdict "$(outcome tools/rom load --srec - 1 < "$folder/image.srec" | sed -n 2p)" "ORG 0x011" "S-records from standard input, moved"
+verdict "$(outcome ./mcs4 rom load --srec - 1 < "$folder/image.srec" | sed -n 2p)" "ORG 0x011" "S-records from standard input, moved"
 srec_fault() {
     printf '%s\n' "$1" "$2" > "$folder/bad.srec"
-    refuses 1 "rom: $folder/bad.srec: $3" tools/rom load "$folder/bad.srec"
+    refuses 1 "rom: $folder/bad.srec: $3" ./mcs4 rom load "$folder/bad.srec"
 }
 srec_fault "S1$(srec_sum 050010D0E2)" "S1050012D0E200" "line 2: the checksum is 00, and $(srec_sum 050012D0E2 | sed 's/.*\(..\)$/\1/') would be right"
-srec_fault "S1$(srec_sum 050010D0E2)" "S1060012D0E236" "line 2: it says 6 bytes and has 5"
-srec_fault "S1$(srec_sum 050010D0E2)" "S1050012D0E2X6" "line 2: no record of Motorola: \`S\`, a digit, and two digits for each byte"
+srec_fault "S1$(srec_sum 050010D0E2)" "S1060012D0E236" "line 2: it announces 6 bytes and has 5"
+srec_fault "S1$(srec_sum 050010D0E2)" "S1050012D0E2X6" "line 2: a record of Motorola has \`S\`, a digit, and two hexadecimal digits for each byte"
 srec_fault "S1$(srec_sum 050010D0E2)" "S1$(srec_sum 050011D0E2)" "line 2: the address 011, which an earlier line has"
 srec_fault "S1$(srec_sum 050010D0E2)" "S1$(srec_sum 050FFFD0E2)" "line 2: past the last address, FFF"
 srec_fault "S1$(srec_sum 050010D0E2)" "" "it has no last record (S9), so a part of it is missing"
@@ -75,63 +75,63 @@ srec_fault "S9$(srec_sum 030000)" "S1$(srec_sum 050010D0E2)" "line 2: a record a
 
 # BNPF by hand: remarks, words over lines; any ROM goes out and in; each fault by its line.
 printf 'BNPF of B, ROM 1\n  0 BNNNNNNNPFBPPPPNNNNF bytes\r\n 2 b nnpn\npnpn f ' > "$folder/few.bnpf"
-verdict "$(outcome tools/rom load "$folder/few.bnpf" 0xFD)" "asm
+verdict "$(outcome ./mcs4 rom load "$folder/few.bnpf" 0xFD)" "asm
 ORG 0x0FD
-DB 0x01, 0xF0, 0x2A
+DB 1,240,42
 .
 status 0" "three words of BNPF"
-tools/rom save --bnpf 256 256 < "$folder/answers" > "$folder/saved.bnpf"
+./mcs4 rom save --bnpf 256 256 < "$folder/answers" > "$folder/saved.bnpf"
 verdict "$(sed 2q "$folder/saved.bnpf" | tr -d 'BNPF'); $(wc -l < "$folder/saved.bnpf" | tr -d ' ')" " 256    
  260    ; 64" "a ROM in BNPF"
-{ roms 16 && tools/rom load "$folder/saved.bnpf" 256 && tools/rom ask 256 256; } | begins rom
-tools/rom save 256 256 < "$folder/answers" > "$folder/saved"
+{ roms 16 && ./mcs4 rom load "$folder/saved.bnpf" 256 && ./mcs4 rom ask 256 256; } | begins rom
+./mcs4 rom save 256 256 < "$folder/answers" > "$folder/saved"
 tail -c +257 "$folder/image" | head -c 256 > "$folder/page_1"
 verdict_of_files "$folder/saved" "$folder/page_1" "a ROM in BNPF out and in"
 bnpf_fault() {
     printf "$1" > "$folder/bad.bnpf"
-    refuses 1 "rom: $folder/bad.bnpf: $2" tools/rom load "$folder/bad.bnpf"
+    refuses 1 "rom: $folder/bad.bnpf: $2" ./mcs4 rom load "$folder/bad.bnpf"
 }
 bnpf_fault 'BNNNNNNNPF\nBNNNNNNPF\n' "line 2: a word of BNPF is B, eight of P and N, and F, as BNNNPNPNNF; this is BNNNNNNPF"
 bnpf_fault 'BNNNNNNNPF\nBNNNNNNNPPF\n' "line 2: a word of BNPF is B, eight of P and N, and F, as BNNNPNPNNF; this is BNNNNNNNPP"
 bnpf_fault 'BNNNNNNNPF\nBNNNNXNNP\n' "line 2: a word of BNPF is B, eight of P and N, and F, as BNNNPNPNNF; this is BNNNNX"
 bnpf_fault 'BNNNNNNNPF\nBNNNN' "line 2: a word without its end, \`F\`: BNNNN"
 bnpf_fault 'none\n' "it has no byte"
-refuses 1 "rom: $folder/few.bnpf: line 2: past the last address, FFF" tools/rom load "$folder/few.bnpf" 4095
+refuses 1 "rom: $folder/few.bnpf: line 2: past the last address, FFF" ./mcs4 rom load "$folder/few.bnpf" 4095
 
 # Texts are no binary images, unless that is said.
 for text in $calculator/calculator.asm "$folder/z.asm"; do
     printf ' NOP ; z\303\244hler\n' > "$folder/z.asm"
-    refuses 1 "rom: $text is a text, and no Intel HEX, S-records or BNPF; where its letters are the bytes of an image: rom load --binary" tools/rom load "$text"
+    refuses 1 "rom: $text is a text, and no Intel HEX, S-records or BNPF; where its letters are the bytes of an image: rom load --binary" ./mcs4 rom load "$text"
 done
 printf 'S0' > "$folder/letters.bin"
-verdict "$(outcome tools/rom load --binary "$folder/letters.bin")" "asm
+verdict "$(outcome ./mcs4 rom load --binary "$folder/letters.bin")" "asm
 ORG 0x000
-DB 0x53, 0x30
+DB 83,48
 .
 status 0" "letters as an image"
 printf '\320' > "$folder/letters.bin"
-verdict "$(outcome tools/rom load "$folder/letters.bin" | sed -n 3p)" "DB 0xD0" "an image of one byte"
+verdict "$(outcome ./mcs4 rom load "$folder/letters.bin" | sed -n 3p)" "DB 208" "an image of one byte"
 
 # An image that is longer than a text is loaded whole or not at all.
-head -c 4096 /dev/urandom > "$folder/image"
+head -c 4096 /dev/zero | tr '\000' '\377' > "$folder/image"
 for chips in 12 16; do
     {
         roms "$chips"
-        tools/rom load --binary "$folder/image"
-        tools/rom ask 0 4096
+        ./mcs4 rom load --binary "$folder/image"
+        ./mcs4 rom ask 0 4096
     } > "$folder/script"
     begins rom < "$folder/script"
     if [ "$chips" -eq 12 ]; then
         verdict "$(sed -n '3,4p' "$folder/answers")" "no 42
 no 42" "an image for ROMs that the board lacks"
     else
-        tools/rom save 0 4096 < "$folder/answers" > "$folder/saved"
+        ./mcs4 rom save 0 4096 < "$folder/answers" > "$folder/saved"
         verdict_of_files "$folder/saved" "$folder/image" "an image of all ROMs"
     fi
 done
 printf ':0400000300000000F9\n:03002000010203D7\n:0400000500000000F7\n:00000001FF\n' > "$folder/entry.hex"
-verdict "$(outcome tools/rom load "$folder/entry.hex")" "asm
+verdict "$(outcome ./mcs4 rom load "$folder/entry.hex")" "asm
 ORG 0x020
-DB 0x01, 0x02, 0x03
+DB 1,2,3
 .
 status 0" "Intel HEX with entry records"

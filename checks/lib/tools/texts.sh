@@ -6,61 +6,42 @@ bytes_of_mark='\357\273\277'
 printf "$bytes_of_mark"'# title: Z\303\244hler \342\202\254 \360\237\230\200\r\n[[rom]] # "\303\244"\nchip = 0\nport = "0000"\n' > "$folder/marked.toml"
 printf "$bytes_of_mark"'; z\303\244hle\n NOP ; \344 in Latin 1\n' > "$folder/marked.asm"
 printf "$bytes_of_mark"'test t\n# \303\244\n run 5\n' > "$folder/marked.test"
-verdict "$(outcome tools/script "$folder/marked.toml" "$folder/marked.asm" | tr '\r' R)" "wire
+verdict "$(outcome ./mcs4 script "$folder/marked.toml" "$folder/marked.asm" | tr '\r' R)" "wire
 # title: Z hler     
 [[rom]] # \" \"
 chip = 0
 port = \"0000\"
 .
 asm
-; z hle
+; z  hle
  NOP ;   in Latin 1
 .
 run 2000
 lamps
 status 0" "texts as they are sent"
-verdict "$(outcome tools/test "$folder/marked.toml" "$folder/marked.asm" "$folder/marked.test")" "TAP version 13
+verdict "$(outcome ./mcs4 test "$folder/marked.toml" "$folder/marked.asm" "$folder/marked.test")" "TAP version 13
 1..1
 ok 1 - t
 status 0" "texts with a byte order mark"
-verdict "$(outcome tools/listing "$folder/marked.asm" | sed 1q)" "                 ; z$(printf '\303\244')hle" "a listing with letters beyond ASCII"
-# The same text by the page: js/core/text/text_fault.js.
-printf 'a = """x\n  # no comment\n""" # one\n  b = 1 # another\n' > "$folder/strings.toml"
-printf '\tNOP ; .\n\t. ; a dot alone\n  . \nx: ;\n ; y\n\n  LDM 1' > "$folder/dots.asm"
-printf '\t[[lamp]] # "x\nline = "a#b" # c\nx = '\''#"'\'' # "d"\ny = "\\"#" # e\nz = "no end # f\n' > "$folder/marks.toml"
-if command -v node > /dev/null; then
-    cat > "$folder/sent.mjs" <<'script'
-import { readFileSync } from "node:fs";
-const { sentText } = await import(process.argv[2]);
-process.stdout.write(sentText(readFileSync(process.argv[3], "utf8").replace(/^\uFEFF/, ""), process.argv[4]));
-script
-    for file in "$folder/marked.toml" "$folder/marked.asm" "$folder/strings.toml" "$folder/dots.asm" "$folder/marks.toml" examples/*/*.toml examples/*/*.asm; do
-        case $file in
-        *.toml) set -- '#' wire ;;
-        *) set -- ';' asm ;;
-        esac
-        iconv -c -f UTF-8 -t UTF-8 < "$file" > "$folder/utf8" || :
-        verdict "$(sed "1s/^$(printf "$bytes_of_mark")//" "$folder/utf8" | LC_ALL=C awk -v word="$2" -f tools/lib/sent.awk)" \
-            "$(node "$folder/sent.mjs" "$top/js/core/text/text_fault.js" "$folder/utf8" "$1")" "$file as the page sends it"
-    done
-fi
+verdict "$(outcome ./mcs4 listing "$folder/marked.asm" | sed 1q)" "                 ; z$(printf '\303\244')hle" "a listing with letters beyond ASCII"
 # Comments and indentation do not count: a text of 20,000 bytes, and a line of 300. The script keeps them where the bench takes them.
 { awk 'BEGIN { for (i = 0; i < 200; i++) { printf "%40s NOP ; ", ""; for (n = 0; n < 50; n++) printf "."; print "" } }' && echo "here: JUN here"; } > "$folder/long.asm"
 awk 'BEGIN { printf " NOP ;"; for (n = 0; n < 300; n++) printf "."; print "" }' >> "$folder/long.asm"
-verdict "$(wc -c < "$folder/long.asm" | tr -d ' '), $(outcome tools/listing --names "$folder/long.asm" | tr '\n' ' ')" "19922, here 0C8 status 0 " "a text that is long by its comments"
-verdict "$(tools/script "$board" "$folder/long.asm" | sed -n '/^asm$/{n;p;}')" NOP "a script of a text that is long by its comments"
-verdict "$(tools/script "$board" "$folder/long.asm" | grep -c '^# row')" "$(grep -c '^# row' "$board")" "the comments of its board"
+verdict "$(wc -c < "$folder/long.asm" | tr -d ' '), $(outcome ./mcs4 listing --names "$folder/long.asm" | tr '\n' ' ')" "19922, here 0C8 status 0 " "a text that is long by its comments"
+verdict "$(./mcs4 script "$board" "$folder/long.asm" | sed -n '/^asm$/{n;p;}')" NOP "a script of a text that is long by its comments"
+verdict "$(./mcs4 script "$board" "$folder/long.asm" | grep -c '^# row')" "$(grep -c '^# row' "$board")" "the comments of its board"
 sed 's/JUN here/JUN there ; not here/' "$folder/long.asm" > "$folder/wrong.asm"
 refuses 1 "listing: $folder/wrong.asm: line 201: no 32: a name that no line defines
-listing:     here: JUN there ; not here" tools/listing "$folder/wrong.asm"
+listing:     here: JUN there ; not here" ./mcs4 listing "$folder/wrong.asm"
 awk 'BEGIN { for (i = 0; i < 1100; i++) print " DB 1, 2, 3, 4 ; four" }' > "$folder/wrong.asm"
 awk 'BEGIN { for (i = 0; i < 100; i++) print "DB 1, 2, 3, 4" }' >> "$folder/wrong.asm"
-refuses 1 "test: $folder/wrong.asm: no 13: a text of more than 16,384 bytes; without its comments and indentation it has 16800" \
-    tools/test "$board" "$folder/wrong.asm" "$folder/marked.test"
+refuses 1 "test: $folder/wrong.asm: line 1171: no 13: a text has at most 16,384 bytes without its comments; this has 16,800, and the limit is passed here
+test:     DB 1, 2, 3, 4" \
+    ./mcs4 test "$board" "$folder/wrong.asm" "$folder/marked.test"
 printf ' NOP\n L\303\204M 1 ; \303\244\n' > "$folder/bad.asm"
-refuses 1 "listing: $folder/bad.asm: line 2: no 14: a byte that is neither a tab nor a printing character of ASCII: \`$(printf '\303\204')\`, which may stand in comments alone
-listing:      L$(printf '\303\204')M 1 ; $(printf '\303\244')" tools/listing "$folder/bad.asm"
+refuses 1 "listing: $folder/bad.asm: line 2: no 14: $(printf '\303\204') is not a character of ASCII; it may stand in comments alone
+listing:      L$(printf '\303\204')M 1 ; $(printf '\303\244')" ./mcs4 listing "$folder/bad.asm"
 printf ' NOP\n \007 ; \007\n' > "$folder/bad.asm"
-verdict "$(outcome tools/listing "$folder/bad.asm" | sed 1q)" "listing: $folder/bad.asm: line 2: no 14: a byte that is neither a tab nor a printing character of ASCII: the byte 07" "a control character"
-verdict "$(tools/listing examples/stopwatch.txt | sed -n 's/^000 //p')" "$(tools/project split examples/a_fault_to_find.mcsp "$folder/split"; awk '/^asm$/ { inside = 1; next } /^\.$/ { inside = 0 } inside' examples/stopwatch.txt > "$folder/alone.asm"; tools/listing "$folder/alone.asm" | sed -n 's/^000 //p')" "the listing of a script"
-verdict "$(outcome tools/listing examples/a_fault_to_find.mcsp)" "$(outcome tools/listing "$folder/split/program.asm")" "the listing of a project"
+verdict "$(outcome ./mcs4 listing "$folder/bad.asm" | sed 1q)" "listing: $folder/bad.asm: line 2: no 14: a control character; only tabs and printing characters of ASCII can be sent" "a control character"
+verdict "$(./mcs4 listing examples/stopwatch.txt | sed -n 's/^000 //p')" "$(./mcs4 project split examples/a_fault_to_find.mcsp "$folder/split"; awk '/^asm$/ { inside = 1; next } /^\.$/ { inside = 0 } inside' examples/stopwatch.txt > "$folder/alone.asm"; ./mcs4 listing "$folder/alone.asm" | sed -n 's/^000 //p')" "the listing of a script"
+verdict "$(outcome ./mcs4 listing examples/a_fault_to_find.mcsp)" "$(outcome ./mcs4 listing "$folder/split/program.asm")" "the listing of a project"

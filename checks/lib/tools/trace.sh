@@ -1,4 +1,4 @@
-# tools/trace.
+# mcs4 trace.
 # shellcheck shell=sh
 
 # Worked by hand: a bank is designated, RAM, a status character and a port are written, a lamp, a subroutine, no instruction.
@@ -50,21 +50,21 @@ cat > "$folder/trace" <<'trace'
 trace
 begins trace < "$folder/trace.txt"
 cp "$folder/trace.mcs" "$folder/copy.mcs"
-verdict "$(tools/trace "$folder/trace.mcs" 100)" "$(cat "$folder/trace")" "a trace"
-verdict "$(tools/trace "$folder/trace.mcs" 4)" "$(sed 3q "$folder/trace")" "a trace of four cycles"
-verdict "$(tools/trace --last 2 "$folder/trace.mcs" 1000000)" "$(tail -n 3 "$folder/trace")" "the last two instructions before the stop"
+verdict "$(./mcs4 trace "$folder/trace.mcs" 100)" "$(cat "$folder/trace")" "a trace"
+verdict "$(./mcs4 trace "$folder/trace.mcs" 4)" "$(sed 3q "$folder/trace")" "a trace of four cycles"
+verdict "$(./mcs4 trace --last 2 "$folder/trace.mcs" 1000000)" "$(tail -n 3 "$folder/trace")" "the last two instructions before the stop"
 verdict_of_files "$folder/trace.mcs" "$folder/copy.mcs" "a traced session"
 echo 'break 0x004' | goes_on trace
-verdict "$(tools/trace --last 1 "$folder/trace.mcs" 1000)" "       1  002 20 65 FIM P0, 0x65     acc 1 cy 0  r0 6 r1 5
+verdict "$(./mcs4 trace --last 1 "$folder/trace.mcs" 1000)" "       1  002 20 65 FIM P0, 0x65     acc 1 cy 0  r0 6 r1 5
        3  004 21    SRC P0           stops before it: break" "the last instruction before a breakpoint"
 echo 'run 2' | goes_on trace
-verdict "$(tools/trace "$folder/trace.mcs" 2)" "       0  (the second cycle)         acc 1 cy 0
+verdict "$(./mcs4 trace "$folder/trace.mcs" 2)" "       0  (the second cycle)         acc 1 cy 0
        1  004 21    SRC P0           acc 1 cy 0" "a trace from the middle of an instruction"
 
 # The same with lines of the source.
 make_source
 cp "$folder/source.mcs" "$folder/copy.mcs"
-verdict "$(outcome tools/trace --source "$folder/source.asm" "$folder/source.mcs" 7)" \
+verdict "$(outcome ./mcs4 trace --source "$folder/source.asm" "$folder/source.mcs" 7)" \
     "       0  000 D1       1          LDM 1               acc 1 cy 0
           alone:
        1  001 40 03    3          JUN on              acc 1 cy 0
@@ -75,38 +75,39 @@ verdict "$(outcome tools/trace --source "$folder/source.asm" "$folder/source.mcs
        6  006 00    NOP                               acc 2 cy 0
 status 0" "a trace with the lines of the source"
 # A script of lines as PROGRAM: the numbers are those of its own lines.
-verdict "$(outcome tools/trace --source "$folder/source.txt" "$folder/source.mcs" 1)" \
+verdict "$(outcome ./mcs4 trace --source "$folder/source.txt" "$folder/source.mcs" 1)" \
     "       0  000 D1       5          LDM 1               acc 1 cy 0
 status 0" "a trace with the lines of a script"
 sed 's/$/\r/' < "$folder/source.asm" > "$folder/source_crlf.asm"
-verdict "$(outcome tools/trace --source "$folder/source_crlf.asm" "$folder/source.mcs" 7)" \
-    "$(outcome tools/trace --source "$folder/source.asm" "$folder/source.mcs" 7)" "a trace with the lines of a source with CRLF"
+verdict "$(outcome ./mcs4 trace --source "$folder/source_crlf.asm" "$folder/source.mcs" 7)" \
+    "$(outcome ./mcs4 trace --source "$folder/source.asm" "$folder/source.mcs" 7)" "a trace with the lines of a source with CRLF"
 verdict_of_files "$folder/source.mcs" "$folder/copy.mcs" "a session that was traced with its source"
 refuses_sources "trace --source PROGRAM $folder/source.mcs 1"
 
 # What is wrong with arguments stands before the use.
-usage="usage: trace [-C FOLDER] [--names PROGRAM | --source PROGRAM] [--last N] SESSION CYCLES"
-refuses 2 "trace: --names and --source: one of them, and once
+usage="usage: mcs4 trace [-C FOLDER] [--names PROGRAM | --source PROGRAM] [--last N] SESSION CYCLES"
+refuses 2 "trace: --names and --source exclude each other
 $usage" \
-    tools/trace --names "$folder/source.asm" --source "$folder/source.asm" "$folder/source.mcs" 1
+    ./mcs4 trace --names "$folder/source.asm" --source "$folder/source.asm" "$folder/source.mcs" 1
 
-refuses 1 "trace: CYCLES is a decimal number, 1 to 100000" tools/trace "$folder/trace.mcs" 100001
-refuses 1 "trace: N is a decimal number, 1 to 10000" tools/trace --last 0 "$folder/trace.mcs" 10
+misuses "CYCLES is a decimal number, 1 to 100000" ./mcs4 trace "$folder/trace.mcs" 100001
+misuses "N is a decimal number, 1 to 10000" ./mcs4 trace --last 0 "$folder/trace.mcs" 10
 refuses 2 "trace: CYCLES is missing
-$usage" tools/trace "$folder/trace.mcs"
+$usage" ./mcs4 trace "$folder/trace.mcs"
 refuses 2 "trace: SESSION and CYCLES are missing
-$usage" tools/trace
-refuses 2 "trace: --source is an option: it stands before all other arguments
-$usage" tools/trace "$folder/source.mcs" 40 --source "$folder/source.asm"
+$usage" ./mcs4 trace
+verdict "$(./mcs4 trace "$folder/source.mcs" 40 --source "$folder/source.asm")" "$(./mcs4 trace --source "$folder/source.asm" "$folder/source.mcs" 40)" "an option behind the arguments"
 refuses 2 "trace: CYCLES is missing
-$usage" tools/trace --last 3 "$folder/trace.mcs"
+$usage" ./mcs4 trace --last 3 "$folder/trace.mcs"
+refuses 2 "trace: --last is given twice
+$usage" ./mcs4 trace --last 3 --last 4 "$folder/trace.mcs" 40
 refuses 2 "trace: N is missing after --last
-$usage" tools/trace --last
+$usage" ./mcs4 trace --last
 refuses 2 "trace: there is no option --first
-$usage" tools/trace --first 3 "$folder/trace.mcs" 40
+$usage" ./mcs4 trace --first 3 "$folder/trace.mcs" 40
 refuses 2 "trace: '50' is one argument too many
-$usage" tools/trace "$folder/trace.mcs" 40 50
-refuses 1 "trace: the session $folder/trace.txt was refused: no 50: not a session file: its size or the name inside it is another" tools/trace "$folder/trace.txt" 1
+$usage" ./mcs4 trace "$folder/trace.mcs" 40 50
+refuses 1 "trace: the session $folder/trace.txt was refused: no 50: not a session file: its size or the name inside it is another" ./mcs4 trace "$folder/trace.txt" 1
 
 cat > "$folder/trace.txt" <<'script'
 wire
@@ -128,7 +129,7 @@ last:   XCH R11
 script
 sed '1,/^asm$/d; /^\.$/d' < "$folder/trace.txt" > "$folder/trace.asm"
 begins trace < "$folder/trace.txt"
-verdict "$(outcome tools/trace --names "$folder/trace.asm" "$folder/trace.mcs" 12)" \
+verdict "$(outcome ./mcs4 trace --names "$folder/trace.asm" "$folder/trace.mcs" 12)" \
     "       0  000 20 00 FIM P0, 0x00     acc 0 cy 0
        2  002 21    SRC P0           acc 0 cy 0
        3  003 D2    LDM 2            acc 2 cy 0
@@ -141,16 +142,16 @@ verdict "$(outcome tools/trace --names "$folder/trace.asm" "$folder/trace.mcs" 1
       10  FFF 40 20 JUN 0x020        acc 0 cy 0
 status 0" "a trace of ports, a chain, and the last address"
 refuses 1 "trace: the session has another program than $three/three_lamps.asm: at 003 stands D2, and line 6 makes D1" \
-    tools/trace --names $three/three_lamps.asm "$folder/trace.mcs" 12
+    ./mcs4 trace --names $three/three_lamps.asm "$folder/trace.mcs" 12
 
 # A chain that a RAM chip's port clocks.
 printf 'wire\nrom = [{ chip = 0, port = "0000" }]\nram = [{ bank = 0, chips = 1 }]\nchain = [{ clock = "ram0.0.0", data = "ram0.0.1", chips = 1 }]\n.\nasm\n FIM P0, 0\n SRC P0\n LDM 3\n WMP\n.\n' > "$folder/clocked.txt"
 begins clocked < "$folder/clocked.txt"
-verdict "$(tools/trace "$folder/clocked.mcs" 5 | tail -n 1)" "       4  004 E1    WMP              acc 3 cy 0  out 0.0 3 chain0 1000000000" "a chain that a RAM chip's port clocks"
+verdict "$(./mcs4 trace "$folder/clocked.mcs" 5 | tail -n 1)" "       4  004 E1    WMP              acc 3 cy 0  out 0.0 3 chain0 1000000000" "a chain that a RAM chip's port clocks"
 # Instructions that jump to themselves, whatever register they count with.
 printf 'wire\nrom = [{ chip = 0, port = "0000" }]\n.\nasm\n FIM P7, 0xE0\none: ISZ R14, one\n FIM P6, 0xE0\ntwo: ISZ R12, two\nend: JUN end\n.\n' > "$folder/stand.txt"
 begins stand < "$folder/stand.txt"
-verdict "$(tools/trace "$folder/stand.mcs" 15 | cut -c 1-13,36-)" "       0  000  acc 0 cy 0  r14 E
+verdict "$(./mcs4 trace "$folder/stand.mcs" 15 | cut -c 1-13,36-)" "       0  000  acc 0 cy 0  r14 E
        2  002  acc 0 cy 0  r14 F
        4  002  acc 0 cy 0  r14 0
        6  004  acc 0 cy 0  r12 E
@@ -161,9 +162,9 @@ verdict "$(tools/trace "$folder/stand.mcs" 15 | cut -c 1-13,36-)" "       0  000
 # What a trace of the calculator tells is what `step` and `state` tell. Of both: the cycles before each instruction, its address, and
 # after it accumulator, carry, registers, return addresses, chains and lamps.
 begins steps < $calculator/quotient.txt
-tools/keys --until-stop "$folder/steps.mcs" $calculator/board.toml "3*" > "$folder/answers"
+./mcs4 keys --until-stop "$folder/steps.mcs" $calculator/board.toml "3*" > "$folder/answers"
 printf 'press 4 3\nrun 899\n' | goes_on steps
-tools/trace "$folder/steps.mcs" 3000 > "$folder/traced"
+./mcs4 trace "$folder/steps.mcs" 3000 > "$folder/traced"
 awk 'BEGIN { for (i = 0; i < 3000; i++) print "state\nstep"; print "state" }' | goes_on steps
 cat > "$folder/beside.awk" <<'program'
 function row() {

@@ -1,14 +1,11 @@
 //! The bench as a program: `mcs4 new FILE` and `mcs4 open FILE`.
 #![tactic(auto)]
 
-use mcs_shell::program::{Ended, run_program};
+use mcs_shell::program::run_program;
 use std::io;
 use std::process::ExitCode;
 
 fn main(rt: HostRuntime) -> io::Result<ExitCode> {
-    let Ended {
-        status,
-        session: _session,
-    } = run_program(&rt);
-    status
+    let ended = run_program(&rt);
+    Ok(ended.status)
 }

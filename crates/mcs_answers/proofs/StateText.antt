@@ -5,7 +5,7 @@ use Rattle.mcs_model.specs.declared.limits.TheConstants.{BANKS, ROMS}
 use Rattle.mcs_model.specs.BenchState.{BenchState}
 use Rattle.mcs_model.specs.Boards.{chain_count}
 use Rattle.mcs_model.specs.QueryText.{address_text, bank_items, chain_item, hex_2, key_items, lamps_text, one_word, ram_items, registers_text, seq_text, state_text, watch_text}
-use Rattle.mcs_answers.specs.PortPieces.{rom_items}
+use Rattle.mcs_model.specs.QueryText.{rom_items}
 
 pub state_is : (s : BenchState) (n1 n2 n3 n4 n5 n6 n7 n8 n9 n10 n11 n12 n13 n14 n15 : List ℕ)
     → n1 ≡ codes "state " ++ seq_text s.seq

@@ -8,7 +8,6 @@ pub mod laws;
 mod lists;
 mod numbers;
 mod port_levels;
-mod ports;
 mod queries;
 mod ram;
 mod registers;

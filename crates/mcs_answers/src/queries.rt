@@ -5,7 +5,6 @@ ghost use Rattle.mcs_answers.specs.AnswerTexts.{board_answer, listing_answer, qu
 use crate::digits::put;
 use crate::lists::{put_breaks, put_lamps, put_watches};
 use crate::numbers::put_number;
-use crate::ports::put_ports;
 use crate::ram::put_ram;
 use crate::registers::put_regs;
 use crate::size::ANSWER_BYTES;
@@ -29,7 +28,6 @@ pub fn put_query(answer: &mut ArrayVec<u8, ANSWER_BYTES>, query: Query, bench: &
         Query::Ram(bank) => put_ram(answer, bench, bank.get()),
         Query::Breaks => put_breaks(answer, bench),
         Query::Watches => put_watches(answer, bench),
-        Query::Ports => put_ports(answer, bench),
         Query::Seq => put_number(answer, b"seq ", u64::from(bench.seq())),
         Query::State => put_state(answer, bench),
     }

@@ -1,17 +1,18 @@
 //! The lists of the answer to `state`, each in one word: its items are added with a comma after
 //! each, and then the last comma is taken off.
-ghost use Rattle.std.specs.Prelude.{◌≡◌, ℕ, ◌+◌, ◌*◌, ◌++◌, ◌<◌, ◌≤◌, List, true, codes, length, map};
+ghost use Rattle.std.specs.Prelude.{◌≡◌, ℕ, ◌+◌, ◌*◌, ◌++◌, ◌<◌, ◌≤◌, List, true, Some, codes, length, map};
+ghost use Rattle.std.specs.Fmt.{decimal};
 ghost use Rattle.std.specs.List.{flat_map, range_with_len};
 ghost use Rattle.arrayvec.specs.ArrayVec.{array_vec_len};
-ghost use Rattle.mcs_model.specs.Boards.{chain_count, has_key};
-ghost use Rattle.mcs_model.specs.QueryText.{address_text, bank_items, chain_item, key_item, key_items, one_word, ram_items, row_items, watch_text};
-ghost use Rattle.mcs_answers.specs.PortPieces.{ram_item, rom_items};
+ghost use Rattle.mcs_model.specs.declared.board.KeyMatrix.{KeyMatrix};
+ghost use Rattle.mcs_model.specs.Boards.{chain_bits, chain_count, chain_part, has_key};
+ghost use Rattle.mcs_model.specs.QueryText.{address_text, bank_items, chain_item, key_item, key_items, one_word, ram_items, rom_items, row_items, watch_text};
+ghost use Rattle.mcs_answers.specs.PortPieces.{ram_item};
 ghost use Rattle.mcs_ahead.specs.Probes.{bits_text};
 ghost use Rattle.mcs_answers.specs.Commas.{with_comma, with_commas};
 
-use crate::digits::{put, put_address, put_byte, put_digit};
+use crate::digits::{put, put_address, put_byte, put_decimal, put_digit};
 use crate::lists::put_watch;
-use crate::ports::{are_within_limits, bits_of, put_small};
 use crate::ram::chips_of;
 use crate::size::{
     ANSWER_BYTES, BANK_LIST_BYTES, CHAIN_ITEM_BYTES, CHAIN_LIST_BYTES, KEY_LIST_BYTES,
@@ -19,8 +20,21 @@ use crate::size::{
 };
 use arrayvec::ArrayVec;
 use mcs_bench::Bench;
-use mcs_model::limits::{BANKS, KEY_COLUMNS, KEY_ROWS, KEYS, ROMS};
+use mcs_model::limits::{
+    BANKS, CHAIN_BITS, CHAIN_CHIPS, CHAINS, KEY_COLUMNS, KEY_ROWS, KEYS, ROMS,
+};
 use mcs_nibble::{Addr, Bit, Nibble};
+
+/// A law: the parts of a bench's board are no more than a board can have.
+fn are_within_limits(bench: &Bench)
+    ensures chains { chain_count bench.now.bus.board ≤ CHAINS }
+    ensures chips { (n : ℕ) → (chain_part bench.now.bus.board n).chips ≤ CHAIN_CHIPS }
+    ensures rows { (m : KeyMatrix) → bench.now.bus.board.keys ≡ Some m → m.rows ≤ KEY_ROWS }
+    ensures columns { (m : KeyMatrix) → bench.now.bus.board.keys ≡ Some m
+        → length m.columns.items ≤ KEY_COLUMNS }
+{
+    bench.show_state_is_valid();
+}
 
 /// Ends a list whose items, each with a comma after it, begin at `start`: the last comma goes, and
 /// a list of nothing becomes a dash.
@@ -121,6 +135,16 @@ pub(crate) fn put_bank_list(answer: &mut ArrayVec<u8, ANSWER_BYTES>, bench: &Ben
     end_list(answer, start);
 }
 
+/// Adds a number below 100 in decimal digits.
+fn put_small(answer: &mut ArrayVec<u8, ANSWER_BYTES>, n: u8)
+    requires small { n < 100 }
+    requires room { array_vec_len answer.old + 2 ≤ ANSWER_BYTES }
+    ensures text { answer.new.items ≡ answer.old.items ++ decimal n }
+    ensures count { length answer.new.items ≤ length answer.old.items + 2 }
+{
+    put_decimal(answer, u64::from(n));
+}
+
 /// Adds the port of a ROM, where the ROM is there: its latch, and what is read there now.
 fn put_rom_item(answer: &mut ArrayVec<u8, ANSWER_BYTES>, bench: &Bench, chip: u8)
     requires chip { chip < 16 }
@@ -130,7 +154,7 @@ fn put_rom_item(answer: &mut ArrayVec<u8, ANSWER_BYTES>, bench: &Bench, chip: u8
     ensures count { length answer.new.items ≤ length answer.old.items + 7 }
 {
     if bench.board().mask(chip).is_some() {
-        put_small(answer, b"", chip);
+        put_small(answer, chip);
         put_digit(answer, b".", bench.rom_port(chip).get());
         put_digit(answer, b".", bench.read_port(Nibble::low_of(chip)).get());
         put(answer, b",");
@@ -194,6 +218,16 @@ pub(crate) fn put_ram_list(answer: &mut ArrayVec<u8, ANSWER_BYTES>, bench: &Benc
         put_ram_items(answer, bench, bank);
     }
     end_list(answer, start);
+}
+
+/// How many bits a chain has.
+fn bits_of(bench: &Bench, n: u8) -> u8
+    requires { n < chain_count bench.now.bus.board }
+    ensures bits { result ≡ chain_bits bench.now.bus.board n }
+    ensures few { result ≤ CHAIN_BITS }
+{
+    are_within_limits(bench);
+    10 * bench.board().chain(usize::from(n)).chips
 }
 
 /// Adds the bits of a chain, with a comma after them.

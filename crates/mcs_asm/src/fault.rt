@@ -5,13 +5,16 @@ ghost use Rattle.mcs_asm.specs.RefusalNumbers.{assembler_fault_number};
 use mcs_model::refusal_numbers;
 pub use mcs_source::fault::SourceFault;
 use std::alloc::AllocError;
+use thiserror::Error;
 
 /// Why a text has no image.
-#[derive(Clone, Copy, Debug, PartialEq, Eq)]
+#[derive(Clone, Copy, Debug, PartialEq, Eq, Error)]
 pub enum FaultKind {
     /// Memory was refused (no 90).
+    #[error("out of memory")]
     NoMemory,
     /// A line has a fault.
+    #[error("{0}")]
     Refused(SourceFault),
 }
 
@@ -28,7 +31,8 @@ impl FaultKind {
 }
 
 /// The first fault of a text, with the number of its line from 1; 0 where memory was refused.
-#[derive(Clone, Copy, Debug)]
+#[derive(Clone, Copy, Debug, Error)]
+#[error("line {line}: {kind}")]
 pub struct AsmFault {
     /// The number of the line.
     pub line: usize,

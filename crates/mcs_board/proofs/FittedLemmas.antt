@@ -1,36 +1,35 @@
 -- The chips of a rig stay those of its board where one of them is replaced by one that is wired as it was.
 use Rattle.std.proofs.Common.{◌≡◌, ℕ, ◌<◌, List, [], Some, None, length, get_or, slice_set, sym, ap, ◌∙◌}
 use Rattle.std.proofs.lemmas.List.{length-set, get_or_default}
-use Rattle.mcs_nibble.specs.Tables.{flat_rows}
 use Rattle.mcs_nibble.proofs.FlatRowsLemmas.{kept-at}
 use Rattle.mcs_ram4002.specs.RamBank.{BankState}
-use Rattle.mcs_rom4001.specs.Roms.{RomState}
-use Rattle.mcs_board.specs.RigState.{RigParts, Fitted, no_bank, masks_of_rom, bytes_of_rom}
+use Rattle.mcs_rom4001.specs.Roms.{PortState}
+use Rattle.mcs_board.specs.RigState.{RigParts, Fitted, no_bank, masks_of_rom}
 
 pub fitted-bank : {p : RigParts} {r k c : ℕ} → Fitted p r k c → (i : ℕ) (e d : BankState) → i < length p.banks → e ≡ get_or p.banks i e → d.wired ≡ e.wired → Fitted (record p { banks = slice_set p.banks i d }) r k c
 fitted-bank {p = p} v i e d l is same = record {
   roms_len = v.roms_len;
   banks_len = length-set p.banks i d ∙ v.banks_len;
   chains_len = v.chains_len;
-  matrix = v.matrix;
   keys_len = v.keys_len;
   chains_fit = v.chains_fit;
-  program = v.program;
+  program_len = v.program_len;
+  absent = v.absent;
   masks = v.masks;
   wired = λ n. kept-at (λ (x : BankState). x.wired) no_bank p.banks i n d l (same ∙ ap (λ (x : BankState). x.wired) (is ∙ get_or_default p.banks i e no_bank l)) ∙ v.wired n;
   bits = v.bits;
   src = v.src;
 }
 
-pub fitted-rom : {p : RigParts} {r k c : ℕ} → Fitted p r k c → (i : ℕ) (e d : RomState) → i < length p.roms → get_or p.roms i None ≡ Some e → d.mask ≡ e.mask → (program : List ℕ) → program ≡ flat_rows 16 256 bytes_of_rom None (slice_set p.roms i (Some d)) → Fitted (record p { roms = slice_set p.roms i (Some d); program = program }) r k c
-fitted-rom {p = p} v i e d l here same program is = record {
+pub fitted-rom : {p : RigParts} {r k c : ℕ} → Fitted p r k c → (i : ℕ) (e d : PortState) → i < length p.roms → get_or p.roms i None ≡ Some e → d.mask ≡ e.mask → Fitted (record p { roms = slice_set p.roms i (Some d) }) r k c
+fitted-rom {p = p} v i e d l here same = record {
   roms_len = length-set p.roms i (Some d) ∙ v.roms_len;
   banks_len = v.banks_len;
   chains_len = v.chains_len;
-  matrix = v.matrix;
   keys_len = v.keys_len;
   chains_fit = v.chains_fit;
-  program = is;
+  program_len = v.program_len;
+  absent = v.absent;
   masks = λ n. kept-at masks_of_rom None p.roms i n (Some d) l (ap Some same ∙ ap masks_of_rom (sym here)) ∙ v.masks n;
   wired = v.wired;
   bits = v.bits;
@@ -42,10 +41,10 @@ fitted-chain {p = p} v i d l same = record {
   roms_len = v.roms_len;
   banks_len = v.banks_len;
   chains_len = length-set p.chains i d ∙ v.chains_len;
-  matrix = v.matrix;
   keys_len = v.keys_len;
   chains_fit = v.chains_fit;
-  program = v.program;
+  program_len = v.program_len;
+  absent = v.absent;
   masks = v.masks;
   wired = v.wired;
   bits = λ n h. kept-at (λ (row : List ℕ). length row) [] p.chains i n d l same ∙ v.bits n h;

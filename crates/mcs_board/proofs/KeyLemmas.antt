@@ -1,62 +1,42 @@
 -- What a rig's keys are to its flat state.
-use Rattle.std.proofs.Common.{◌≡◌, ℕ, ◌+◌, ◌<◌, ◌≤◌, zero, suc, Bool, true, false, List, [], Option, Some, None, length, get_or, refl, sym, ap, ◌∙◌, subst, arith, eqb}
+use Rattle.std.proofs.Common.{◌≡◌, ℕ, ◌+◌, ◌<◌, ◌≤◌, zero, suc, Bool, true, false, List, [], Option, Some, None, length, get_or, refl, sym, ap, ◌∙◌, arith, eqb}
 use Rattle.mcs_nibble.specs.declared.lines.LineMask.{LineMask}
 use Rattle.mcs_nibble.specs.declared.lines.LineMask.TheVariants.{Input, Zero, One}
 use Rattle.mcs_nibble.specs.Bits.{bit_of, nibble_of}
 use Rattle.mcs_nibble.specs.Ports.{read_lines, mask_at}
-use Rattle.mcs_keypad.specs.Keys.{no_matrix}
+use Rattle.mcs_keypad.specs.Keys.{matrix_on, no_matrix}
 use Rattle.mcs_model.specs.declared.board.BoardParts.{BoardParts}
 use Rattle.mcs_model.specs.declared.board.KeyMatrix.{KeyMatrix}
 use Rattle.mcs_model.specs.Boards.{board_fault_of, masks_on, chain_count, chain_bits}
 use Rattle.mcs_model.specs.Bus.{BusState}
 use Rattle.mcs_model.specs.Levels.{is_pulled, is_pulled_by, bit_when, port_at}
-use Rattle.mcs_board.specs.RigState.{RigParts, rig_of, matrix_on}
+use Rattle.mcs_board.specs.RigState.{RigParts, rig_of}
 use Rattle.mcs_board.proofs.BoardLemmas.{keys-chain, keys-rows}
 use Rattle.mcs_board.proofs.ClockLemmas.{chain-read}
 
-matrix-some : (b : BoardParts) (m : KeyMatrix) → b.keys ≡ Some m → matrix_on b ≡ m
+pub matrix-some : (b : BoardParts) (m : KeyMatrix) → b.keys ≡ Some m → matrix_on b ≡ m
 matrix-some b m e = ap (λ (o : Option KeyMatrix). elim o [ Some k ↦ k | None ↦ no_matrix ]) e
 
-matrix-none : (b : BoardParts) → b.keys ≡ None → matrix_on b ≡ no_matrix
-matrix-none b e = ap (λ (o : Option KeyMatrix). elim o [ Some k ↦ k | None ↦ no_matrix ]) e
-
 -- the chain of the rows has a bit for each of them
-pub rows-fit : (b : BoardParts) (chains : List (List ℕ)) (m : KeyMatrix) → board_fault_of b ≡ None → m ≡ matrix_on b → ((i : ℕ) → i < chain_count b → length (get_or chains i []) ≡ chain_bits b i) → m.first + m.rows ≤ length (get_or chains m.chain [])
+pub rows-fit : (b : BoardParts) (chains : List (List ℕ)) (m : KeyMatrix) → board_fault_of b ≡ None → b.keys ≡ Some m → ((i : ℕ) → i < chain_count b → length (get_or chains i []) ≡ chain_bits b i) → m.first + m.rows ≤ length (get_or chains m.chain [])
 rows-fit b chains m v is bits =
-    elim (b.keys) as (λ o. b.keys ≡ o → m.first + m.rows ≤ length (get_or chains m.chain [])) [
-      | Some k ↦ λ e.
-          let same : m ≡ k = is ∙ matrix-some b k e in
-          let fit = keys-rows b k v e in
-          let len = bits k.chain (keys-chain b k v e) in
-          let there : k.first + k.rows ≤ length (get_or chains k.chain []) = omega arith in
-          subst (λ (x : KeyMatrix). x.first + x.rows ≤ length (get_or chains x.chain [])) (sym same) there
-      | None ↦ λ e.
-          let same : m ≡ no_matrix = is ∙ matrix-none b e in
-          let there : 0 + 0 ≤ length (get_or chains 0 []) = omega arith in
-          subst (λ (x : KeyMatrix). x.first + x.rows ≤ length (get_or chains x.chain [])) (sym same) there
-    ] refl
+    let fit = keys-rows b m v is in
+    let len = bits m.chain (keys-chain b m v is) in
+    omega arith
 
 keyed-some : (s : BusState) (m : KeyMatrix) (chip k : ℕ) → s.board.keys ≡ Some m → is_pulled_by (get_or s.chains m.chain []) s.keys m chip k ≡ is_pulled s chip k
 unfolding is_pulled
 keyed-some s m chip k is = rw (is, is_pulled) refl
 
-keyed-none : (s : BusState) (chip k : ℕ) → s.board.keys ≡ None → false ≡ is_pulled s chip k
+pub keyed-none : (s : BusState) (chip k : ℕ) → s.board.keys ≡ None → false ≡ is_pulled s chip k
 unfolding is_pulled
 keyed-none s chip k is = rw (is, is_pulled) refl
 
 -- what the keys pull is what the flat state says
-pub keyed-by : (p : RigParts) (chip k : ℕ) → board_fault_of p.board ≡ None → p.keys.matrix ≡ matrix_on p.board → is_pulled_by (get_or p.chains p.keys.matrix.chain []) p.keys.down p.keys.matrix chip k ≡ is_pulled (rig_of p) chip k
-keyed-by p chip k v is =
-    let down = p.keys.down in
-    elim (p.board.keys) as (λ o. p.board.keys ≡ o → is_pulled_by (get_or p.chains p.keys.matrix.chain []) p.keys.down p.keys.matrix chip k ≡ is_pulled (rig_of p) chip k) [
-      | Some n ↦ λ e.
-          ap (λ (x : KeyMatrix). is_pulled_by (get_or p.chains x.chain []) down x chip k) (is ∙ matrix-some p.board n e)
-          ∙ ap (λ row. is_pulled_by row down n chip k) (sym (chain-read p.board p.chains n.chain (keys-chain p.board n v e)))
-          ∙ keyed-some (rig_of p) n chip k e
-      | None ↦ λ e.
-          ap (λ (x : KeyMatrix). is_pulled_by (get_or p.chains x.chain []) down x chip k) (is ∙ matrix-none p.board e)
-          ∙ keyed-none (rig_of p) chip k e
-    ] refl
+pub keyed-by : (p : RigParts) (m : KeyMatrix) (chip k : ℕ) → board_fault_of p.board ≡ None → p.board.keys ≡ Some m → is_pulled_by (get_or p.chains m.chain []) p.keys m chip k ≡ is_pulled (rig_of p) chip k
+keyed-by p m chip k v is =
+    ap (λ row. is_pulled_by row p.keys m chip k) (sym (chain-read p.board p.chains m.chain (keys-chain p.board m v is)))
+    ∙ keyed-some (rig_of p) m chip k is
 
 pub nibble-same : (f g : ℕ → ℕ) → ((k : ℕ) → f k ≡ g k) → nibble_of f ≡ nibble_of g
 nibble-same f g h = rw (h 0, h 1, h 2, h 3) refl

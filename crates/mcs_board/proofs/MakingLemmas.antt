@@ -1,27 +1,21 @@
 -- The flat state of chips that were made, put on a board or cleared, place by place.
-use Rattle.std.proofs.Common.{◌≡◌, ℕ, ◌*◌, ◌/◌, ◌%◌, ◌<◌, ◌≤◌, inl, inr, List, [], Option, Some, None, is_some, length, get_or, slice_index, replicate, refl, sym, ap, ◌∙◌, arith, if◌then◌else◌}
+use Rattle.std.proofs.Common.{◌≡◌, ℕ, ◌*◌, ◌/◌, ◌<◌, ◌≤◌, inl, inr, List, [], Option, Some, None, is_some, length, get_or, slice_index, replicate, refl, sym, ap, ◌∙◌, arith, if◌then◌else◌}
 use Rattle.std.proofs.lemmas.Bool.{cases_lt}
 use Rattle.std.proofs.lemmas.List.{get_or-replicate, get_or_past, length-replicate, length-map, get_or-map}
 use Rattle.mcs_nibble.specs.declared.lines.LineMask.{LineMask}
 use Rattle.mcs_nibble.specs.Tables.{table_of, column, flat_rows}
-use Rattle.mcs_nibble.proofs.TabledLemmas.{same_tabled, tabled_from}
-use Rattle.mcs_nibble.proofs.FlatRowsLemmas.{length-flat, blank-flat, blank-column}
+use Rattle.mcs_nibble.proofs.TabledLemmas.{length-tabled, get_or-tabled, tabled_from}
+use Rattle.mcs_nibble.proofs.FlatRowsLemmas.{blank-flat, blank-column}
 use Rattle.mcs_ram4002.specs.RamBank.{BankState, blank_bank}
-use Rattle.mcs_rom4001.specs.Roms.{RomState}
+use Rattle.mcs_rom4001.specs.Roms.{PortState}
 use Rattle.mcs_model.specs.declared.board.BoardParts.{BoardParts}
 use Rattle.mcs_model.specs.declared.board.ChainPart.{ChainPart}
 use Rattle.mcs_model.specs.Boards.{masks_on, chain_count, chain_bits, no_chain, key_count, empty_parts}
 use Rattle.mcs_model.specs.Bus.{zero_bus}
 use Rattle.mcs_model.specs.ChipWrites.{kept_rom, blank_chains, after_reset, after_wire}
-use Rattle.mcs_keypad.specs.Keys.{KeyState, no_matrix}
-use Rattle.mcs_board.specs.RigState.{RigParts, matrix_on, no_bank, bytes_of_rom, port_of_rom, masks_of_rom, wired_chains, rig_of, Fitted}
-use Rattle.mcs_board.proofs.RigLemmas.{byte-of}
-use Rattle.mcs_board.specs.Fitting.{FitsCounts, bytes_in, rom_after_wire, rom_after_reset}
+use Rattle.mcs_board.specs.RigState.{RigParts, no_bank, port_of_rom, masks_of_rom, wired_chains, rig_of, Fitted}
+use Rattle.mcs_board.specs.Fitting.{FitsCounts, port_on, port_after_reset}
 use Rattle.mcs_ram4002.proofs.BankLemmas.{slice_index-zeros}
-
-same_flat : {X : Type 0} (n wide : ℕ) (f : X → List ℕ) (d : X) (xs ys : List X) → ((i : ℕ) → f (get_or xs i d) ≡ f (get_or ys i d)) → flat_rows n wide f d xs ≡ flat_rows n wide f d ys
-unfolding flat_rows
-same_flat n wide f d xs ys h = same_tabled (n * wide) _ _ (λ k _. ap (λ zs. slice_index zs (k % wide)) (h (k / wide)))
 
 -- each bank is as it was made
 pub record AllBlank (banks : List BankState) (wired : ℕ → ℕ) : Type 0 where
@@ -65,74 +59,64 @@ chains-blank b chains fit rows =
     (λ k h. get_or-map (λ (c : ChainPart). replicate (10 * c.chips) 0) b.chains.items k no_chain [] h ∙ sym (rows k h)))
 
 -- the latches of ROMs that all are 0
-ports-blank : (roms : List (Option RomState)) → ((k : ℕ) → port_of_rom (get_or roms k None) ≡ 0) → column 16 port_of_rom None roms ≡ replicate 16 0
+ports-blank : (roms : List (Option PortState)) → ((k : ℕ) → port_of_rom (get_or roms k None) ≡ 0) → column 16 port_of_rom None roms ≡ replicate 16 0
 ports-blank roms h = blank-column 16 port_of_rom None roms h
 
-silenced-bytes : (rom : Option RomState) → bytes_of_rom (rom_after_reset rom) ≡ bytes_of_rom rom
-silenced-bytes (Some r) = refl
-silenced-bytes None = refl
-
-silenced-port : (rom : Option RomState) → port_of_rom (rom_after_reset rom) ≡ 0
+silenced-port : (rom : Option PortState) → port_of_rom (port_after_reset rom) ≡ 0
 silenced-port (Some r) = refl
 silenced-port None = refl
 
-silenced-masks : (rom : Option RomState) → masks_of_rom (rom_after_reset rom) ≡ masks_of_rom rom
+silenced-masks : (rom : Option PortState) → masks_of_rom (port_after_reset rom) ≡ masks_of_rom rom
 silenced-masks (Some r) = refl
 silenced-masks None = refl
 
-rewired-masks : (mask : Option (List LineMask)) (rom : Option RomState) → masks_of_rom (rom_after_wire mask rom) ≡ mask
-rewired-masks (Some m) rom = refl
-rewired-masks None rom = refl
+rewired-masks : (mask : Option (List LineMask)) → masks_of_rom (port_on mask) ≡ mask
+rewired-masks (Some m) = refl
+rewired-masks None = refl
 
-rewired-port : (mask : Option (List LineMask)) (rom : Option RomState) → port_of_rom (rom_after_wire mask rom) ≡ 0
-rewired-port (Some m) rom = refl
-rewired-port None rom = refl
-
-bytes-in : (rom : Option RomState) (k : ℕ) → slice_index (bytes_in rom) k ≡ slice_index (bytes_of_rom rom) k
-bytes-in (Some r) k = refl
-bytes-in None k = slice_index-zeros 256 k
-
-rewired-bytes : (mask : Option (List LineMask)) (rom : Option RomState) (k : ℕ) → slice_index (bytes_of_rom (rom_after_wire mask rom)) k ≡ (if is_some mask then slice_index (bytes_of_rom rom) k else 0)
-rewired-bytes (Some m) rom k = bytes-in rom k
-rewired-bytes None rom k = refl
-
--- a byte of the flat list, by its ROM
-pub rom-at : (roms : List (Option RomState)) (at : ℕ) → at < 4096 → slice_index (flat_rows 16 256 bytes_of_rom None roms) at ≡ slice_index (bytes_of_rom (get_or roms (at / 256) None)) (at % 256)
-rom-at roms at h = byte-of roms at (get_or roms (at / 256) None) h refl
+rewired-port : (mask : Option (List LineMask)) → port_of_rom (port_on mask) ≡ 0
+rewired-port (Some m) = refl
+rewired-port None = refl
 
 -- every place for a ROM, on a new board; beyond the places the board has none
-pub rewired-every : (b : BoardParts) (roms roms' : List (Option RomState)) → length roms' ≡ length roms → ((k : ℕ) → k < length roms → get_or roms' k None ≡ rom_after_wire (masks_on b k) (get_or roms k None)) → ((k : ℕ) → length roms ≤ k → masks_on b k ≡ None) → (k : ℕ) → get_or roms' k None ≡ rom_after_wire (masks_on b k) (get_or roms k None)
+pub rewired-every : (b : BoardParts) (roms roms' : List (Option PortState)) → length roms' ≡ length roms → ((k : ℕ) → k < length roms → get_or roms' k None ≡ port_on (masks_on b k)) → ((k : ℕ) → length roms ≤ k → masks_on b k ≡ None) → (k : ℕ) → get_or roms' k None ≡ port_on (masks_on b k)
 rewired-every b roms roms' l h absent k =
     elim (cases_lt k (length roms)) [
       | inl below ↦ h k below
-      | inr beyond ↦ get_or_past roms' k None (omega arith) ∙ sym (ap (λ m. rom_after_wire m (get_or roms k None)) (absent k beyond))
+      | inr beyond ↦ get_or_past roms' k None (omega arith) ∙ sym (ap port_on (absent k beyond))
     ]
 
-pub silenced-every : (roms roms' : List (Option RomState)) → length roms' ≡ length roms → ((k : ℕ) → k < length roms → get_or roms' k None ≡ rom_after_reset (get_or roms k None)) → (k : ℕ) → get_or roms' k None ≡ rom_after_reset (get_or roms k None)
+pub silenced-every : (roms roms' : List (Option PortState)) → length roms' ≡ length roms → ((k : ℕ) → k < length roms → get_or roms' k None ≡ port_after_reset (get_or roms k None)) → (k : ℕ) → get_or roms' k None ≡ port_after_reset (get_or roms k None)
 silenced-every roms roms' l h k =
     elim (cases_lt k (length roms)) [
       | inl below ↦ h k below
-      | inr beyond ↦ get_or_past roms' k None (omega arith) ∙ sym (ap rom_after_reset (get_or_past roms k None beyond))
+      | inr beyond ↦ get_or_past roms' k None (omega arith) ∙ sym (ap port_after_reset (get_or_past roms k None beyond))
     ]
 
-kept-bytes : (b : BoardParts) (roms roms' : List (Option RomState)) → ((k : ℕ) → get_or roms' k None ≡ rom_after_wire (masks_on b k) (get_or roms k None)) → flat_rows 16 256 bytes_of_rom None roms' ≡ kept_rom b (flat_rows 16 256 bytes_of_rom None roms)
+length-kept : (b : BoardParts) (bytes : List ℕ) → length (kept_rom b bytes) ≡ 4096
 unfolding kept_rom
-kept-bytes b roms roms' every =
-    tabled_from 4096 (λ at. if is_some (masks_on b (at / 256)) then slice_index (flat_rows 16 256 bytes_of_rom None roms) at else 0) (flat_rows 16 256 bytes_of_rom None roms') 0 (length-flat 16 256 bytes_of_rom None roms')
-    (λ at h.
-    rom-at roms' at h
-    ∙ ap (λ r. slice_index (bytes_of_rom r) (at % 256)) (every (at / 256))
-    ∙ rewired-bytes (masks_on b (at / 256)) (get_or roms (at / 256) None) (at % 256)
-    ∙ ap (λ x. if is_some (masks_on b (at / 256)) then x else 0) (sym (rom-at roms at h)))
+length-kept b bytes = length-tabled 4096 _
+
+get_or-past-kept : (b : BoardParts) (bytes : List ℕ) (at : ℕ) → 4096 ≤ at → slice_index (kept_rom b bytes) at ≡ 0
+get_or-past-kept b bytes at h = let l = length-kept b bytes in get_or_past (kept_rom b bytes) at 0 (omega arith)
+
+-- what a ROM that a board lacks has left
+absent-kept : (b : BoardParts) (bytes : List ℕ) (at : ℕ) → masks_on b (at / 256) ≡ None → slice_index (kept_rom b bytes) at ≡ 0
+unfolding kept_rom
+absent-kept b bytes at none =
+    elim (cases_lt at 4096) [
+      | inl h ↦ get_or-tabled 4096 (λ k. if is_some (masks_on b (k / 256)) then slice_index bytes k else 0) at 0 h ∙ ap (λ m. if is_some m then slice_index bytes at else 0) none
+      | inr h ↦ get_or-past-kept b bytes at h
+    ]
 
 -- a rig put on a new board: what each place is then
 pub record IsRewired (old new : RigParts) : Type 0 where
-  pub roms : (k : ℕ) → get_or new.roms k None ≡ rom_after_wire (masks_on new.board k) (get_or old.roms k None)
+  pub roms : (k : ℕ) → get_or new.roms k None ≡ port_on (masks_on new.board k)
   pub program : new.program ≡ kept_rom new.board old.program
   pub banks : AllBlank new.banks (slice_index new.board.banks)
   pub fit : chain_count new.board ≤ length new.chains
   pub chains : (k : ℕ) → k < chain_count new.board → get_or new.chains k [] ≡ replicate (chain_bits new.board k) 0
-  pub keys : new.keys ≡ record { matrix = matrix_on new.board; down = replicate (key_count new.board) 0 }
+  pub up : new.keys ≡ replicate (key_count new.board) 0
   pub src : new.rom_src ≡ 0
   pub test : new.test ≡ old.test
 
@@ -141,32 +125,29 @@ pub wire-state : (old new : RigParts) → IsRewired old new → rig_of new ≡ a
 unfolding zero_bus
 wire-state old new w =
     let z = blank-zeros new.banks (slice_index new.board.banks) w.banks in
-    let bytes = kept-bytes new.board old.roms new.roms w.roms in
-    let ports = ports-blank new.roms (λ k. ap port_of_rom (w.roms k) ∙ rewired-port (masks_on new.board k) (get_or old.roms k None)) in
+    let ports = ports-blank new.roms (λ k. ap port_of_rom (w.roms k) ∙ rewired-port (masks_on new.board k)) in
     let cs = chains-blank new.board new.chains w.fit w.chains in
-    let up = ap (λ (x : KeyState). x.down) w.keys in
-    rw (bytes, z.ram, z.status, z.ports, ports, z.src, cs, up, w.src, w.test) refl
+    rw (w.program, z.ram, z.status, z.ports, ports, z.src, cs, w.up, w.src, w.test) refl
 
 -- the state of a rig after a reset
-pub reset-state : (p : RigParts) (roms : List (Option RomState)) (banks : List BankState) (chains : List (List ℕ)) (wired : ℕ → ℕ) → ((k : ℕ) → get_or roms k None ≡ rom_after_reset (get_or p.roms k None)) → AllBlank banks wired → chain_count p.board ≤ length chains → ((k : ℕ) → k < chain_count p.board → get_or chains k [] ≡ replicate (chain_bits p.board k) 0) → rig_of (record p { roms = roms; banks = banks; chains = chains; rom_src = 0 }) ≡ after_reset (rig_of p)
+pub reset-state : (p : RigParts) (roms : List (Option PortState)) (banks : List BankState) (chains : List (List ℕ)) (wired : ℕ → ℕ) → ((k : ℕ) → get_or roms k None ≡ port_after_reset (get_or p.roms k None)) → AllBlank banks wired → chain_count p.board ≤ length chains → ((k : ℕ) → k < chain_count p.board → get_or chains k [] ≡ replicate (chain_bits p.board k) 0) → rig_of (record p { roms = roms; banks = banks; chains = chains; rom_src = 0 }) ≡ after_reset (rig_of p)
 unfolding zero_bus
 reset-state p roms banks chains wired every blank fit rows =
     let z = blank-zeros banks wired blank in
-    let bytes = same_flat 16 256 bytes_of_rom None roms p.roms (λ k. ap bytes_of_rom (every k) ∙ silenced-bytes (get_or p.roms k None)) in
     let ports = ports-blank roms (λ k. ap port_of_rom (every k) ∙ silenced-port (get_or p.roms k None)) in
     let cs = chains-blank p.board chains fit rows in
-    rw (bytes, z.ram, z.status, z.ports, ports, z.src, cs) refl
+    rw (z.ram, z.status, z.ports, ports, z.src, cs) refl
 
 -- the chips of a rig fit its board after a reset
-pub reset-fitted : (p : RigParts) (roms : List (Option RomState)) (banks : List BankState) (chains : List (List ℕ)) (rom_sockets bank_sockets chain_sockets : ℕ) → Fitted p rom_sockets bank_sockets chain_sockets → length roms ≡ length p.roms → length banks ≡ length p.banks → length chains ≡ length p.chains → ((k : ℕ) → get_or roms k None ≡ rom_after_reset (get_or p.roms k None)) → AllBlank banks (λ k. (get_or p.banks k no_bank).wired) → ((k : ℕ) → k < chain_count p.board → get_or chains k [] ≡ replicate (chain_bits p.board k) 0) → Fitted (record p { roms = roms; banks = banks; chains = chains; rom_src = 0 }) rom_sockets bank_sockets chain_sockets
+pub reset-fitted : (p : RigParts) (roms : List (Option PortState)) (banks : List BankState) (chains : List (List ℕ)) (rom_sockets bank_sockets chain_sockets : ℕ) → Fitted p rom_sockets bank_sockets chain_sockets → length roms ≡ length p.roms → length banks ≡ length p.banks → length chains ≡ length p.chains → ((k : ℕ) → get_or roms k None ≡ port_after_reset (get_or p.roms k None)) → AllBlank banks (λ k. (get_or p.banks k no_bank).wired) → ((k : ℕ) → k < chain_count p.board → get_or chains k [] ≡ replicate (chain_bits p.board k) 0) → Fitted (record p { roms = roms; banks = banks; chains = chains; rom_src = 0 }) rom_sockets bank_sockets chain_sockets
 reset-fitted p roms banks chains rom_sockets bank_sockets chain_sockets v rl bl cl every blank rows = record {
   roms_len = rl ∙ v.roms_len;
   banks_len = bl ∙ v.banks_len;
   chains_len = cl ∙ v.chains_len;
-  matrix = v.matrix;
   keys_len = v.keys_len;
   chains_fit = v.chains_fit;
-  program = v.program ∙ same_flat 16 256 bytes_of_rom None p.roms roms (λ k. sym (ap bytes_of_rom (every k) ∙ silenced-bytes (get_or p.roms k None)));
+  program_len = v.program_len;
+  absent = v.absent;
   masks = λ k. ap masks_of_rom (every k) ∙ silenced-masks (get_or p.roms k None) ∙ v.masks k;
   wired = λ k.
       elim (cases_lt k (length banks)) [
@@ -178,16 +159,16 @@ reset-fitted p roms banks chains rom_sockets bank_sockets chain_sockets v rl bl 
 }
 
 -- the chips of a rig fit the board that it was put on
-pub wire-fitted : (old new : RigParts) (rom_sockets bank_sockets chain_sockets chain_size : ℕ) → FitsCounts new.board rom_sockets bank_sockets chain_sockets chain_size → length new.roms ≡ rom_sockets → length new.banks ≡ bank_sockets → length new.chains ≡ chain_sockets → old.program ≡ flat_rows 16 256 bytes_of_rom None old.roms → IsRewired old new → Fitted new rom_sockets bank_sockets chain_sockets
-wire-fitted old new rom_sockets bank_sockets chain_sockets chain_size fits rl bl cl copied w = record {
+pub wire-fitted : (old new : RigParts) (rom_sockets bank_sockets chain_sockets chain_size : ℕ) → FitsCounts new.board rom_sockets bank_sockets chain_sockets chain_size → length new.roms ≡ rom_sockets → length new.banks ≡ bank_sockets → length new.chains ≡ chain_sockets → IsRewired old new → Fitted new rom_sockets bank_sockets chain_sockets
+wire-fitted old new rom_sockets bank_sockets chain_sockets chain_size fits rl bl cl w = record {
   roms_len = rl;
   banks_len = bl;
   chains_len = cl;
-  matrix = ap (λ (x : KeyState). x.matrix) w.keys;
-  keys_len = ap (λ (x : KeyState). length x.down) w.keys ∙ length-replicate {A = ℕ} (key_count new.board) 0;
+  keys_len = ap length w.up ∙ length-replicate {A = ℕ} (key_count new.board) 0;
   chains_fit = fits.chains;
-  program = w.program ∙ ap (kept_rom new.board) copied ∙ sym (kept-bytes new.board old.roms new.roms w.roms);
-  masks = λ k. ap masks_of_rom (w.roms k) ∙ rewired-masks (masks_on new.board k) (get_or old.roms k None);
+  program_len = ap length w.program ∙ length-kept new.board old.program;
+  absent = λ at none. ap (λ xs. slice_index xs at) w.program ∙ absent-kept new.board old.program at none;
+  masks = λ k. ap masks_of_rom (w.roms k) ∙ rewired-masks (masks_on new.board k);
   wired = λ k.
       elim (cases_lt k (length new.banks)) [
         | inl below ↦ ap (λ (x : BankState). x.wired) (w.banks.at k below)
@@ -219,13 +200,10 @@ new_parts rom_sockets bank_sockets chain_sockets = record {
   program = replicate 4096 0;
   banks = replicate bank_sockets (blank_bank 0);
   chains = replicate chain_sockets [];
-  keys = record { matrix = no_matrix; down = replicate 0 0 };
+  keys = replicate 0 0;
   rom_src = 0;
   test = 1;
 }
-
-no-bytes : (rom_sockets : ℕ) → flat_rows 16 256 bytes_of_rom None (replicate rom_sockets None) ≡ replicate 4096 0
-no-bytes rom_sockets = blank-flat 16 256 bytes_of_rom None (replicate rom_sockets None) (λ i k. ap (λ r. slice_index (bytes_of_rom r) k) (same-all rom_sockets i None))
 
 -- the places of a new rig fit the empty board
 pub new-fitted : (rom_sockets bank_sockets chain_sockets : ℕ) → Fitted (new_parts rom_sockets bank_sockets chain_sockets) rom_sockets bank_sockets chain_sockets
@@ -233,10 +211,10 @@ new-fitted rom_sockets bank_sockets chain_sockets = record {
   roms_len = length-replicate rom_sockets None;
   banks_len = length-replicate bank_sockets (blank_bank 0);
   chains_len = length-replicate chain_sockets [];
-  matrix = refl;
   keys_len = refl;
   chains_fit = omega arith;
-  program = sym (no-bytes rom_sockets);
+  program_len = length-replicate {A = ℕ} 4096 0;
+  absent = λ at none. slice_index-zeros 4096 at;
   masks = λ k. ap masks_of_rom (same-all rom_sockets k None) ∙ sym (same-all 16 k None);
   wired = λ k. no-wired bank_sockets k ∙ sym (slice_index-zeros 8 k);
   bits = λ i h. absurd (omega arith);
@@ -249,6 +227,5 @@ unfolding zero_bus table_of
 new-state rom_sockets bank_sockets chain_sockets =
     let blank : AllBlank (replicate bank_sockets (blank_bank 0)) (λ _. 0) = record { at = λ k h. let l = length-replicate bank_sockets (blank_bank 0) in get_or-replicate bank_sockets k (blank_bank 0) no_bank (omega arith) } in
     let z = blank-zeros (replicate bank_sockets (blank_bank 0)) (λ _. 0) blank in
-    let bytes = no-bytes rom_sockets in
     let ports = ports-blank (replicate rom_sockets None) (λ k. ap port_of_rom (same-all rom_sockets k None)) in
-    rw (bytes, z.ram, z.status, z.ports, ports, z.src) refl
+    rw (z.ram, z.status, z.ports, ports, z.src) refl

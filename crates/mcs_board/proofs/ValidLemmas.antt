@@ -1,5 +1,5 @@
 -- The flat state of a rig is valid.
-use Rattle.std.proofs.Common.{◌≡◌, ℕ, ◌+◌, ◌*◌, ◌/◌, ◌%◌, ◌<◌, ◌≤◌, inl, inr, List, [], Option, Some, None, length, get_or, slice_index, refl, sym, ap, ◌∙◌, subst, arith}
+use Rattle.std.proofs.Common.{◌≡◌, ℕ, ◌+◌, ◌*◌, ◌/◌, ◌<◌, ◌≤◌, inl, inr, List, [], Option, Some, None, length, get_or, slice_index, refl, sym, ap, ◌∙◌, subst, arith}
 use Rattle.std.specs.Prelude.{All, IfSome, MatchOption}
 use Rattle.std.proofs.lemmas.Bool.{cases_lt}
 use Rattle.std.proofs.lemmas.List.{get_or_past}
@@ -11,33 +11,29 @@ use Rattle.mcs_nibble.proofs.FlatRowsLemmas.{length-flat, length-column}
 use Rattle.mcs_nibble.proofs.PortLemmas.{latch_value-zero}
 use Rattle.mcs_ram4002.specs.RamBank.{BankState, IsValidBank}
 use Rattle.mcs_ram4002.proofs.Below.{below-at, flat-below, column-below}
-use Rattle.mcs_rom4001.specs.Roms.{RomState, IsValidRom}
+use Rattle.mcs_rom4001.specs.Roms.{PortState, IsValidPort}
 use Rattle.mcs_model.specs.Boards.{masks_on, chain_count}
 use Rattle.mcs_model.specs.Validity.{IsValidBoard, IsValidBus}
-use Rattle.mcs_board.specs.RigState.{RigParts, no_bank, bytes_of_rom, port_of_rom, masks_of_rom, wired_chains, rig_of, Fitted}
+use Rattle.mcs_board.specs.RigState.{RigParts, no_bank, port_of_rom, masks_of_rom, wired_chains, rig_of, Fitted}
 use Rattle.mcs_board.proofs.ClockLemmas.{chain-read}
-use Rattle.mcs_board.proofs.MakingLemmas.{rom-at}
 use Rattle.mcs_board.proofs.RigLemmas.{src-of, main-of, status-of, port-of, rom_port-of}
 
 -- each chip that is there is valid
 pub record AreValidChips (p : RigParts) : Type 0 where
-  pub roms : (k : ℕ) → k < length p.roms → IfSome (get_or p.roms k None) IsValidRom
+  pub program : All (λ byte. byte < 256) p.program
+  pub roms : (k : ℕ) → k < length p.roms → IfSome (get_or p.roms k None) IsValidPort
   pub banks : (k : ℕ) → k < length p.banks → IsValidBank (get_or p.banks k no_bank)
 
 -- ---- ROMs
 
-rom_valid : (roms : List (Option RomState)) → ((k : ℕ) → k < length roms → IfSome (get_or roms k None) IsValidRom) → (k : ℕ) → IfSome (get_or roms k None) IsValidRom
+rom_valid : (roms : List (Option PortState)) → ((k : ℕ) → k < length roms → IfSome (get_or roms k None) IsValidPort) → (k : ℕ) → IfSome (get_or roms k None) IsValidPort
 rom_valid roms valid k =
     elim (cases_lt k (length roms)) [
       | inl l ↦ valid k l
-      | inr beyond ↦ subst (λ (r : Option RomState). IfSome r IsValidRom) (sym (get_or_past roms k None beyond)) tt
+      | inr beyond ↦ subst (λ (r : Option PortState). IfSome r IsValidPort) (sym (get_or_past roms k None beyond)) tt
     ]
 
-byte-below : (rom : Option RomState) (k : ℕ) → IfSome rom IsValidRom → slice_index (bytes_of_rom rom) k < 256
-byte-below (Some r) k valid = below-at 256 r.bytes k (omega arith) valid.bytes
-byte-below None k valid = omega arith
-
-latch-below : (rom : Option RomState) → IfSome rom IsValidRom → port_of_rom rom < 16
+latch-below : (rom : Option PortState) → IfSome rom IsValidPort → port_of_rom rom < 16
 latch-below (Some r) valid = valid.latch
 latch-below None valid = omega arith
 
@@ -45,17 +41,13 @@ latch-below None valid = omega arith
 abbrev kept_0 : ℕ → Option (List LineMask) → Type 0
 kept_0 n masks = MatchOption masks (n ≡ 0) (λ mask. latch_value mask n ≡ n)
 
-latch-kept : (rom : Option RomState) (n : ℕ) → IfSome rom IsValidRom → n ≡ port_of_rom rom → kept_0 n (masks_of_rom rom)
+latch-kept : (rom : Option PortState) (n : ℕ) → IfSome rom IsValidPort → n ≡ port_of_rom rom → kept_0 n (masks_of_rom rom)
 latch-kept (Some r) n valid is = ap (latch_value r.mask) is ∙ valid.inputs ∙ sym is
 latch-kept None n valid is = is
 
 zero-kept : (masks : Option (List LineMask)) (n : ℕ) → n ≡ 0 → kept_0 n masks
 zero-kept (Some mask) n is = ap (latch_value mask) is ∙ latch_value-zero mask ∙ sym is
 zero-kept None n is = is
-
-no-rom : (rom : Option RomState) → masks_of_rom rom ≡ None → rom ≡ None
-no-rom (Some r) h = absurd (cc)
-no-rom None h = refl
 
 -- ---- banks
 
@@ -70,14 +62,14 @@ module _ (banks : List BankState) (valid : (k : ℕ) → k < length banks → Is
 
 -- ---- the whole
 
-pub valid-state : (p : RigParts) (rom_sockets bank_sockets chain_sockets : ℕ) → IsValidBoard p.board → Fitted p rom_sockets bank_sockets chain_sockets → AreValidChips p → ((i : ℕ) → i < chain_count p.board → All (λ bit. bit < 2) (get_or (wired_chains p.board p.chains) i [])) → All (λ key. key < 2) p.keys.down → p.test < 2 → IsValidBus (rig_of p)
+pub valid-state : (p : RigParts) (rom_sockets bank_sockets chain_sockets : ℕ) → IsValidBoard p.board → Fitted p rom_sockets bank_sockets chain_sockets → AreValidChips p → ((i : ℕ) → i < chain_count p.board → All (λ bit. bit < 2) (get_or (wired_chains p.board p.chains) i [])) → All (λ key. key < 2) p.keys → p.test < 2 → IsValidBus (rig_of p)
 valid-state p rom_sockets bank_sockets chain_sockets board v chips bits keys test =
     let roms = rom_valid p.roms chips.roms in
     let bank = at_bank p.banks chips.banks in
     record {
       board = board;
       in_range = record {
-        rom = record { count_is = length-flat 16 256 bytes_of_rom None p.roms; below = flat-below 16 256 256 bytes_of_rom None p.roms (λ i k. byte-below (get_or p.roms i None) k (roms i)) };
+        rom = record { count_is = v.program_len; below = chips.program };
         ram = record { count_is = length-flat 8 256 (λ (x : BankState). x.main) no_bank p.banks; below = flat-below 8 256 16 (λ (x : BankState). x.main) no_bank p.banks (λ i k. bank (λ b. slice_index b.main k < 16) (omega arith) (λ b w. below-at 16 b.main k (omega arith) w.main) i) };
         status = record { count_is = length-flat 8 64 (λ (x : BankState). x.status) no_bank p.banks; below = flat-below 8 64 16 (λ (x : BankState). x.status) no_bank p.banks (λ i k. bank (λ b. slice_index b.status k < 16) (omega arith) (λ b w. below-at 16 b.status k (omega arith) w.status) i) };
         ram_ports = record { count_is = length-flat 8 4 (λ (x : BankState). x.ports) no_bank p.banks; below = flat-below 8 4 16 (λ (x : BankState). x.ports) no_bank p.banks (λ i k. bank (λ b. slice_index b.ports k < 16) (omega arith) (λ b w. below-at 16 b.ports k (omega arith) w.ports) i) };
@@ -90,11 +82,7 @@ valid-state p rom_sockets bank_sockets chain_sockets board v chips bits keys tes
         test = test;
       };
       absent = record {
-        rom = λ at none.
-            elim (cases_lt at 4096) [
-              | inl h ↦ rom-at p.roms at h ∙ ap (λ r. slice_index (bytes_of_rom r) (at % 256)) (no-rom (get_or p.roms (at / 256) None) (v.masks (at / 256) ∙ none))
-              | inr h ↦ let l = length-flat 16 256 bytes_of_rom None p.roms in get_or_past (flat_rows 16 256 bytes_of_rom None p.roms) at 0 (omega arith)
-            ];
+        rom = v.absent;
         ram = λ n src l gone.
             elim (cases_lt n 8) [
               | inl h ↦ main-of p.banks n src (get_or p.banks n no_bank) h l refl ∙ bank (λ b. b.wired ≤ src / 64 → slice_index b.main src ≡ 0) (λ _. refl) (λ b w. w.absent_main src l) n (let e = v.wired n in omega arith)

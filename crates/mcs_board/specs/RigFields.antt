@@ -5,12 +5,12 @@ use Rattle.mcs_board.specs.RigState.{RigParts}
 
 abbrev pub rig_parts : {ROMS BANKS CHAINS MAX : ℕ} → Inside ROMS BANKS CHAINS MAX → RigParts
 rig_parts i = record {
-  board = i.board;
+  board = i.keys.board;
   roms = i.roms.items;
   program = i.program.items;
   banks = i.banks.items;
   chains = i.chains.items;
-  keys = i.keys;
+  keys = i.keys.down;
   rom_src = i.rom_src;
   test = i.test;
 }

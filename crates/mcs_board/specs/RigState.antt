@@ -1,16 +1,14 @@
 -- The chips of a rig as the bus's part of the flat state.
 -- Source: our own choice. A ROM's page is its number, and a bank's number is the command register's
 -- value.
-use Rattle.std.specs.Prelude.{◌≡◌, ℕ, ◌<◌, ◌≤◌, List, [], Option, Some, None, slice_index, slice_index_or, length}
+use Rattle.std.specs.Prelude.{◌≡◌, ℕ, ◌/◌, ◌<◌, ◌≤◌, List, [], Option, Some, None, slice_index, slice_index_or, length}
 use Rattle.mcs_nibble.specs.Tables.{table_of, column, flat_rows}
 use Rattle.mcs_nibble.specs.declared.lines.LineMask.{LineMask}
 use Rattle.mcs_ram4002.specs.declared.BankWrite.{BankWrite}
 use Rattle.mcs_ram4002.specs.declared.BankWrite.TheVariants.{Character, Status, Port, Src}
 use Rattle.mcs_ram4002.specs.RamBank.{BankState}
-use Rattle.mcs_rom4001.specs.Roms.{RomState}
-use Rattle.mcs_keypad.specs.Keys.{KeyState, no_matrix}
+use Rattle.mcs_rom4001.specs.Roms.{PortState}
 use Rattle.mcs_model.specs.declared.board.BoardParts.{BoardParts}
-use Rattle.mcs_model.specs.declared.board.KeyMatrix.{KeyMatrix}
 use Rattle.mcs_model.specs.Boards.{masks_on, chain_count, chain_bits, key_count}
 use Rattle.mcs_model.specs.Bus.{BusState, with_ram, with_status}
 use Rattle.mcs_model.specs.ChipWrites.{with_ram_latch, with_ram_src}
@@ -19,15 +17,11 @@ use Rattle.mcs_model.specs.ChipWrites.{with_ram_latch, with_ram_src}
 abbrev pub no_bank : BankState
 no_bank = record { wired = 0; src = 0; main = []; status = []; ports = [] }
 
-abbrev pub bytes_of_rom : Option RomState → List ℕ
-bytes_of_rom (Some r) = r.bytes
-bytes_of_rom None = []
-
-abbrev pub port_of_rom : Option RomState → ℕ
+abbrev pub port_of_rom : Option PortState → ℕ
 port_of_rom (Some r) = r.port
 port_of_rom None = 0
 
-abbrev pub masks_of_rom : Option RomState → Option (List LineMask)
+abbrev pub masks_of_rom : Option PortState → Option (List LineMask)
 masks_of_rom (Some r) = Some r.mask
 masks_of_rom None = None
 
@@ -35,19 +29,15 @@ masks_of_rom None = None
 abbrev pub wired_chains : BoardParts → List (List ℕ) → List (List ℕ)
 wired_chains b chains = table_of (chain_count b) (λ i. slice_index_or chains i [])
 
--- the key matrix of a board; one without rows and columns where it has none
-abbrev pub matrix_on : BoardParts → KeyMatrix
-matrix_on b = elim b.keys [ Some m ↦ m | None ↦ no_matrix ]
-
 -- what a rig keeps: a board, and a socket for each chip that may be on it
 pub record RigParts : Type 0 where
   pub board : BoardParts
-  pub roms : List (Option RomState)
-  -- the bytes of the ROMs once more, by address, as a fetch reads them
+  pub roms : List (Option PortState)
+  -- the bytes of the ROMs by address
   pub program : List ℕ
   pub banks : List BankState
   pub chains : List (List ℕ)
-  pub keys : KeyState
+  pub keys : List ℕ
   pub rom_src : ℕ
   pub test : ℕ
 
@@ -55,7 +45,7 @@ pub record RigParts : Type 0 where
 abbrev pub rig_of : RigParts → BusState
 rig_of p = record {
   board = p.board;
-  rom = flat_rows 16 256 bytes_of_rom None p.roms;
+  rom = p.program;
   ram = flat_rows 8 256 (λ b. b.main) no_bank p.banks;
   status = flat_rows 8 64 (λ b. b.status) no_bank p.banks;
   ram_ports = flat_rows 8 4 (λ b. b.ports) no_bank p.banks;
@@ -63,21 +53,21 @@ rig_of p = record {
   rom_src = p.rom_src;
   ram_src = column 8 (λ b. b.src) no_bank p.banks;
   chains = wired_chains p.board p.chains;
-  keys = p.keys.down;
+  keys = p.keys;
   test = p.test;
 }
 
 -- the chips are those of the board: that many sockets for each kind of chip, the board's ROMs with
 -- their masks, that many chips in each bank, each of the board's chains with its bits, and a bit
--- for each key; the program is what the ROMs hold
+-- for each key; an absent ROM's bytes are 0
 pub record Fitted (p : RigParts) (rom_sockets bank_sockets chain_sockets : ℕ) : Type 0 where
   pub roms_len : length p.roms ≡ rom_sockets
   pub banks_len : length p.banks ≡ bank_sockets
   pub chains_len : length p.chains ≡ chain_sockets
-  pub matrix : p.keys.matrix ≡ matrix_on p.board
-  pub keys_len : length p.keys.down ≡ key_count p.board
+  pub keys_len : length p.keys ≡ key_count p.board
   pub chains_fit : chain_count p.board ≤ chain_sockets
-  pub program : p.program ≡ flat_rows 16 256 bytes_of_rom None p.roms
+  pub program_len : length p.program ≡ 4096
+  pub absent : (at : ℕ) → masks_on p.board (at / 256) ≡ None → slice_index p.program at ≡ 0
   pub masks : (k : ℕ) → masks_of_rom (slice_index_or p.roms k None) ≡ masks_on p.board k
   pub wired : (k : ℕ) → (slice_index_or p.banks k no_bank).wired ≡ slice_index p.board.banks k
   pub bits : (i : ℕ) → i < chain_count p.board → length (slice_index_or p.chains i []) ≡ chain_bits p.board i

@@ -117,7 +117,7 @@ impl<const ROMS: usize, const BANKS: usize, const CHAINS: usize, const MAX: usiz
         ensures { result ≡ chain_bit self.now chain i }
     {
         let n = usize::from(chain);
-        if n >= self.board.chain_count() {
+        if n >= self.chain_count() {
             return Bit::ZERO;
         }
         self.bit_of_chain(n, usize::from(i))
@@ -128,14 +128,14 @@ impl<const ROMS: usize, const BANKS: usize, const CHAINS: usize, const MAX: usiz
         ensures { self.new ≡ with_chain_bit self.old chain i bit }
     {
         let n = usize::from(chain);
-        if n >= self.board.chain_count() {
+        if n >= self.chain_count() {
             return;
         }
         // That there is memory for all sockets bounds the size of one, which `set_bit` asks for.
         let chains = self.chains.as_slice();
         let _sockets = chains.len();
         let index = usize::from(i);
-        if index >= usize::from(self.board.chain(n).bits()) {
+        if index >= usize::from(self.board().chain(n).bits()) {
             return;
         }
         self.chains[n].set_bit(index, bit);
@@ -146,7 +146,7 @@ impl<const ROMS: usize, const BANKS: usize, const CHAINS: usize, const MAX: usiz
         ensures { (i : ℕ) → i < chain_count self.now.board →
             All (λ bit. bit < 2) (slice_index_or self.now.chains i []) }
     {
-        let _board = &self.board;
+        let _keys = &self.keys;
         let chains = self.chains.as_slice();
         for i in 0..chains.len() {
             chains[i].show_state_is_valid();

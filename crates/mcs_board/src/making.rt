@@ -8,11 +8,10 @@ ghost use Rattle.mcs_board.specs.Fitting.{FitsCounts};
 
 use crate::banks::{banks_are_valid, banks_fit, clear_banks, copied_banks, no_banks, rewire_banks};
 use crate::chains::{chains_fit, clear_chains, copied_chains, no_chains, rewire_chains};
-use crate::keys::keys_of;
 use crate::rig::Rig;
 use crate::roms::{
-    clear_absent, clear_ports, copied_roms, no_program, no_roms, rewire_roms, roms_are_valid,
-    roms_fit,
+    are_bytes, clear_absent, clear_ports, copied_roms, no_program, no_roms, rewire_roms,
+    roms_are_valid, roms_fit,
 };
 use mcs_keypad::KeyPad;
 use mcs_model::board::Board;
@@ -45,12 +44,11 @@ impl<const ROMS: usize, const BANKS: usize, const CHAINS: usize, const MAX: usiz
             return Err(AllocError);
         }
         Ok(Rig {
-            board: Board::empty(),
             roms: no_roms(alloc, ROMS)?,
             program: no_program(alloc, ADDRESSES)?,
             banks: no_banks(alloc, BANKS)?,
             chains: no_chains(alloc, CHAINS)?,
-            keys: KeyPad::none(),
+            keys: KeyPad::of(Board::empty()),
             rom_src: 0,
             test: Bit::ONE,
         })
@@ -69,7 +67,6 @@ impl<const ROMS: usize, const BANKS: usize, const CHAINS: usize, const MAX: usiz
             return Err(AllocError);
         }
         Ok(Rig {
-            board: self.board.copy(),
             roms: copied_roms(alloc, &self.roms)?,
             program: self.program.to_vec(alloc)?,
             banks: copied_banks(alloc, &self.banks)?,
@@ -89,9 +86,8 @@ impl<const ROMS: usize, const BANKS: usize, const CHAINS: usize, const MAX: usiz
         rewire_roms(&mut self.roms, board);
         clear_absent(&mut self.program, board);
         rewire_banks(&mut self.banks, board);
-        self.keys = keys_of(board);
+        self.keys = KeyPad::of(board.copy());
         self.rom_src = 0;
-        self.board = board.copy();
         // A rig without a socket for a chain has none to put on the board.
         if self.chains.as_slice().is_empty() {
             return;
@@ -134,6 +130,7 @@ impl<const ROMS: usize, const BANKS: usize, const CHAINS: usize, const MAX: usiz
     {
         let _parts = self.parts();
         roms_are_valid(&self.roms);
+        are_bytes(&self.program);
         banks_are_valid(&self.banks);
         self.chains_are_valid();
         self.keys.show_state_is_valid();

@@ -6,7 +6,7 @@ use mcs_keypad::KeyPad;
 use mcs_model::board::{Board, BoardParts};
 use mcs_nibble::Bit;
 use mcs_ram4002::Bank;
-use mcs_rom4001::Rom;
+use mcs_rom4001::RomPort;
 use mcs_shift4003::Chain;
 use std::marker::Model;
 
@@ -14,12 +14,12 @@ use std::marker::Model;
 /// `MAX` bits. Contracts see it as the flat state that its chips are in.
 #[derive(Drop)]
 pub struct Rig<const ROMS: usize, const BANKS: usize, const CHAINS: usize, const MAX: usize> {
-    pub(crate) board: Board,
-    pub(crate) roms: Vec<Option<Rom>>,
-    // The bytes of the ROMs once more, by address: a fetch asks for no chip.
+    pub(crate) roms: Vec<Option<RomPort>>,
+    // The bytes of the ROMs, by address: a fetch reads one place.
     pub(crate) program: Vec<u8>,
     pub(crate) banks: Vec<Bank<4>>,
     pub(crate) chains: Vec<Chain<MAX>>,
+    // The board, with its keys.
     pub(crate) keys: KeyPad,
     pub(crate) rom_src: u8,
     pub(crate) test: Bit,
@@ -52,14 +52,14 @@ impl<const ROMS: usize, const BANKS: usize, const CHAINS: usize, const MAX: usiz
         ensures sized { IsSized self.now.board }
     {
         let _chains = &self.chains;
-        self.board.parts()
+        self.keys.board().parts()
     }
 
     /// The board.
     pub fn board(&self) -> &Board
         ensures { result.now ≡ self.now.board }
     {
-        &self.board
+        self.keys.board()
     }
 
     /// The level of the TEST pin.

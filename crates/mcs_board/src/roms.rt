@@ -1,21 +1,21 @@
 //! The ROMs of a rig: put on a board and cleared, and a reader and a setter of what each holds. A setter changes its
 //! place alone and clocks nothing.
-ghost use Rattle.std.specs.Prelude.{◌≡◌, ℕ, ◌<◌, ◌≤◌, ◌↔◌, IsTrue, length, replicate, None, IfOk, IfSome, slice_index, slice_index_or};
-ghost use Rattle.mcs_rom4001.specs.Roms.{IsValidRom};
+ghost use Rattle.std.specs.Prelude.{◌≡◌, ℕ, ◌<◌, ◌≤◌, ◌↔◌, IsTrue, All, length, replicate, None, IfOk, IfSome, slice_index, slice_index_or};
+ghost use Rattle.mcs_rom4001.specs.Roms.{IsValidPort};
 ghost use Rattle.mcs_model.specs.Boards.{masks_on};
 ghost use Rattle.mcs_model.specs.ChipWrites.{kept_rom, with_rom_byte, with_rom_latch};
-ghost use Rattle.mcs_board.specs.Fitting.{rom_after_wire, rom_after_reset};
+ghost use Rattle.mcs_board.specs.Fitting.{port_on, port_after_reset};
 ghost use Rattle.mcs_board.specs.RigState.{port_of_rom};
 
 use crate::rig::Rig;
 use mcs_model::board::Board;
 use mcs_model::limits;
 use mcs_nibble::{Addr, LineMask, Nibble};
-use mcs_rom4001::Rom;
+use mcs_rom4001::RomPort;
 use std::alloc::{AllocError, Global};
 
 /// That many sockets for ROMs, all empty.
-pub(crate) fn no_roms(alloc: Global, count: usize) -> Result<Vec<Option<Rom>>, AllocError>
+pub(crate) fn no_roms(alloc: Global, count: usize) -> Result<Vec<Option<RomPort>>, AllocError>
     ensures { IfOk result (λ roms. roms.items ≡ replicate count None) }
 {
     let mut roms = Vec::new(alloc);
@@ -61,28 +61,24 @@ pub(crate) fn roms_fit(board: &Board, sockets: usize) -> bool
     true
 }
 
-/// Puts a ROM's socket on a new board, of which `mask` has the ROM's masks if it is there.
-fn rewire_rom(rom: &mut Option<Rom>, mask: Option<[LineMask; 4]>)
-    ensures { rom.new ≡ rom_after_wire mask rom.old }
+/// The port of a ROM with these masks, if the ROM is there. The latch is 0.
+fn port_with(mask: Option<[LineMask; 4]>) -> Option<RomPort>
+    ensures { result ≡ port_on mask }
 {
     match mask {
-        None => *rom = None,
-        Some(mask) => match rom {
-            Some(rom) => rom.rewire(mask),
-            None => *rom = Some(Rom::new(mask)),
-        },
+        Some(mask) => Some(RomPort::new(mask)),
+        None => None,
     }
 }
 
-/// Puts the ROMs on a new board.
-pub(crate) fn rewire_roms(roms: &mut Vec<Option<Rom>>, board: &Board)
+/// Puts the ports of the ROMs on a new board.
+pub(crate) fn rewire_roms(roms: &mut Vec<Option<RomPort>>, board: &Board)
     ensures count { length roms.new.items ≡ length roms.old.items }
     ensures roms { (k : ℕ) → k < length roms.old.items → slice_index_or roms.new.items k None
-        ≡ rom_after_wire (masks_on board.now k) (slice_index_or roms.old.items k None) }
+        ≡ port_on (masks_on board.now k) }
 {
     for i in 0..roms.len() {
-        let mask = mask_of(board, i);
-        rewire_rom(&mut roms[i], mask);
+        roms[i] = port_with(mask_of(board, i));
     }
 }
 
@@ -100,8 +96,8 @@ pub(crate) fn clear_absent(program: &mut Vec<u8>, board: &Board)
 }
 
 /// Makes the latch of a ROM 0, if it is there.
-fn clear_port(rom: &mut Option<Rom>)
-    ensures { rom.new ≡ rom_after_reset rom.old }
+fn clear_port(rom: &mut Option<RomPort>)
+    ensures { rom.new ≡ port_after_reset rom.old }
 {
     if let Some(rom) = rom {
         rom.clear_port();
@@ -109,10 +105,10 @@ fn clear_port(rom: &mut Option<Rom>)
 }
 
 /// Makes the latches of the ROMs 0.
-pub(crate) fn clear_ports(roms: &mut Vec<Option<Rom>>)
+pub(crate) fn clear_ports(roms: &mut Vec<Option<RomPort>>)
     ensures count { length roms.new.items ≡ length roms.old.items }
     ensures roms { (k : ℕ) → k < length roms.old.items → slice_index_or roms.new.items k None
-        ≡ rom_after_reset (slice_index_or roms.old.items k None) }
+        ≡ port_after_reset (slice_index_or roms.old.items k None) }
 {
     for i in 0..roms.len() {
         clear_port(&mut roms[i]);
@@ -120,7 +116,7 @@ pub(crate) fn clear_ports(roms: &mut Vec<Option<Rom>>)
 }
 
 /// An equal socket of a ROM.
-fn copied_rom(rom: &Option<Rom>) -> Option<Rom>
+fn copied_rom(rom: &Option<RomPort>) -> Option<RomPort>
     ensures { result ≡ rom.now }
 {
     match rom {
@@ -132,8 +128,8 @@ fn copied_rom(rom: &Option<Rom>) -> Option<Rom>
 /// Equal sockets of the ROMs.
 pub(crate) fn copied_roms(
     alloc: Global,
-    roms: &Vec<Option<Rom>>,
-) -> Result<Vec<Option<Rom>>, AllocError>
+    roms: &Vec<Option<RomPort>>,
+) -> Result<Vec<Option<RomPort>>, AllocError>
     ensures { IfOk result (λ copy. copy.items ≡ roms.now.items) }
 {
     let mut copy = Vec::with_capacity(alloc, roms.len())?;
@@ -144,8 +140,8 @@ pub(crate) fn copied_roms(
 }
 
 /// A law: a ROM's socket is empty, or its ROM is valid.
-fn rom_is_valid(rom: &Option<Rom>)
-    ensures { IfSome rom.now IsValidRom }
+fn rom_is_valid(rom: &Option<RomPort>)
+    ensures { IfSome rom.now IsValidPort }
 {
     if let Some(rom) = rom {
         rom.show_state_is_valid();
@@ -153,17 +149,24 @@ fn rom_is_valid(rom: &Option<Rom>)
 }
 
 /// A law: each ROM that is there is valid.
-pub(crate) fn roms_are_valid(roms: &Vec<Option<Rom>>)
+pub(crate) fn roms_are_valid(roms: &Vec<Option<RomPort>>)
     ensures { (k : ℕ) → k < length roms.now.items →
-        IfSome (slice_index_or roms.now.items k None) IsValidRom }
+        IfSome (slice_index_or roms.now.items k None) IsValidPort }
 {
     for i in 0..roms.len() {
         rom_is_valid(&roms[i]);
     }
 }
 
+/// A law: each byte is below 256.
+pub(crate) fn are_bytes(program: &Vec<u8>)
+    ensures { All (λ byte. byte < 256) program.now.items }
+{
+    let _bytes = program.as_slice();
+}
+
 /// The latch of a ROM, if it is there.
-fn latch_in(rom: &Option<Rom>) -> Nibble
+fn latch_in(rom: &Option<RomPort>) -> Nibble
     ensures { result ≡ port_of_rom rom.now }
 {
     match rom {
@@ -189,15 +192,8 @@ impl<const ROMS: usize, const BANKS: usize, const CHAINS: usize, const MAX: usiz
     pub fn set_rom_byte(&mut self, at: Addr, byte: u8)
         ensures { self.new ≡ with_rom_byte self.old at byte }
     {
-        let page = usize::from(at.page().get());
-        if page < self.roms.len() {
-            match &mut self.roms[page] {
-                Some(rom) => {
-                    rom.set_byte(at.low(), byte);
-                    self.program[usize::from(at.get())] = byte;
-                }
-                None => {}
-            }
+        if self.board().mask(at.page().get()).is_some() {
+            self.program[usize::from(at.get())] = byte;
         }
     }
 
@@ -223,7 +219,7 @@ impl<const ROMS: usize, const BANKS: usize, const CHAINS: usize, const MAX: usiz
         let at = usize::from(chip);
         if at < self.roms.len() {
             match &mut self.roms[at] {
-                Some(rom) => rom.set_port(n),
+                Some(rom) => rom.write_port(n),
                 None => {}
             }
         }

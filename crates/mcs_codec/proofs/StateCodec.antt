@@ -1,5 +1,5 @@
 -- The law of a state: its fields in their widths, whether or not they make a valid state.
-use Rattle.std.proofs.Common.{◌≡◌, ℕ, suc, ◌*◌, ◌<◌, ◌≤◌, ◌^◌, List, [], ◌∷◌, ◌++◌, length, get_or, Some, None, refl, sym, ap, subst, ◌∙◌, append_assoc, arith}
+use Rattle.std.proofs.Common.{◌≡◌, ℕ, suc, ◌*◌, ◌<◌, ◌≤◌, ◌^◌, List, [], ◌∷◌, ◌++◌, length, get_or, Some, None, inl, inr, refl, sym, ap, subst, ◌∙◌, append_assoc, arith}
 use Rattle.std.specs.List.{flat_map, All, AllByRecursion}
 use Rattle.std.specs.Int.{w32, to_be_bytes}
 use Rattle.std.proofs.lemmas.List.Elements.{recursion_from_All}
@@ -19,7 +19,7 @@ use Rattle.mcs_codec.specs.BoardBytes.{counted_bytes}
 use Rattle.mcs_codec.specs.CommandBytes.{address_bytes}
 use Rattle.mcs_codec.specs.StateBytes.{registers_bytes, src_bytes, wiring_bytes, groups_bytes}
 use Rattle.mcs_codec.specs.StateReading.{chains_at, state_at}
-use Rattle.mcs_codec.specs.Codec.{SpellsStateBy, version_of}
+use Rattle.mcs_codec.specs.Codec.{SpellsInSomeVersion, SpellsState, SpellsState1, SpellsStateBy, version_of}
 use Rattle.mcs_codec.specs.declared.versions.Version.{Version}
 use Rattle.mcs_codec.specs.declared.versions.Version.TheVariants.{One, Two}
 use Rattle.mcs_codec.proofs.Codecs.{IsCodec, IsBytes, any_codec, bytes_codec, word_codec, long_codec, last, next, no_step, many_codec, counted_codec, giving_codec, whole_takes, whole_again}
@@ -249,3 +249,16 @@ same_state bytes v w s t h k =
     let one : Some (v, s) ≡ Some (w, t) = sym (state_again v bytes s h) ∙ state_again w bytes t k in
     let same : (v, s) ≡ (w, t) = cc in
     (ap (λ (p : Version × BenchState). p.0) same, ap (λ (p : Version × BenchState). p.1) same)
+
+-- ---- in whichever version
+
+pub in_some_version : (version : Version) (bytes : List ℕ) (s : BenchState) → SpellsStateBy version bytes s → SpellsInSomeVersion bytes s
+in_some_version One bytes s h = inr h
+in_some_version Two bytes s h = inl h
+
+pub in_no_version : (bytes : List ℕ) → ((version : Version) (s : BenchState) → SpellsStateBy version bytes s → ⊥) → (s : BenchState) → SpellsInSomeVersion bytes s → ⊥
+in_no_version bytes none s (inl h) = none Two s h
+in_no_version bytes none s (inr h) = none One s h
+
+pub not_both : (bytes : List ℕ) (s : BenchState) (t : BenchState1) → SpellsState bytes s → SpellsState1 bytes t → ⊥
+not_both bytes s t h k = let same : Two ≡ One = (same_state bytes Two One s (lift t) h (record { version_1 = t; spells = k; lifted = refl })).0 in absurd cc

@@ -1,5 +1,5 @@
 -- What the versions of a state have each in its own way: the board, the watches, and the fifth byte.
-use Rattle.std.proofs.Common.{◌≡◌, ℕ, ◌≤◌, Bool, true, false, cond, eqb, List, [], ◌∷◌, ◌++◌, ◌^◌, ◌<◌, length, Option, Some, None, refl, sym, ap, subst, ◌∙◌, append_assoc, arith}
+use Rattle.std.proofs.Common.{◌≡◌, ℕ, ◌≤◌, Bool, true, false, cond, eqb, List, [], ◌∷◌, ◌++◌, ◌^◌, ◌<◌, length, drop, Option, Some, None, option_map, refl, sym, ap, subst, ◌∙◌, append_assoc, arith}
 use Rattle.std.specs.List.{flat_map, AllByRecursion}
 use Rattle.std.proofs.lemmas.Bool.{eqb-true}
 use Rattle.mcs_nibble.specs.declared.lines.LineMask.{LineMask}
@@ -12,7 +12,7 @@ use Rattle.mcs_codec.specs.BoardBytes.{rom_bytes, board_bytes, counted_bytes}
 use Rattle.mcs_codec.specs.CommandBytes.{address_bytes}
 use Rattle.mcs_codec.specs.Reading.{and_then, giving}
 use Rattle.mcs_codec.specs.StateReading.{version_at, board_by, versioned_board_at, watches_at}
-use Rattle.mcs_codec.specs.Codec.{version_told}
+use Rattle.mcs_codec.specs.Codec.{version_number, version_of, version_told}
 use Rattle.mcs_codec.specs.declared.versions.Version.{Version}
 use Rattle.mcs_codec.specs.declared.versions.Version.TheVariants.{One, Two}
 use Rattle.mcs_codec.proofs.Codecs.{IsBytes, IsBytes-after, IsCodec, counted_codec, only_codec, then_some, word_codec}
@@ -56,6 +56,30 @@ version-read : (bytes : List ℕ) (x : Version × List ℕ) → version_at bytes
 unfolding version_at
 version-read [] x e = absurd cc
 version-read (b ∷ bytes) x e = version-judged b bytes _ (eqb b 2) x (eqb-true _ _) e
+
+-- ---- the version that the next byte tells, without the rest
+
+abbrev pub and_rest : List ℕ → Version → Version × List ℕ
+and_rest rest v = (v, rest)
+
+told_judged : (b : ℕ) (bytes rest : List ℕ) (character two : Bool) (told : Option Version)
+    → option_map (and_rest rest) told ≡ cond character (Some (One, b ∷ bytes)) (cond two (Some (Two, bytes)) None) → told ≡ cond character (Some One) (cond two (Some Two) None)
+told_judged b bytes rest true two None e = absurd cc
+told_judged b bytes rest true two (Some v) e = let same : (v, rest) ≡ (One, b ∷ bytes) = cc in ap (λ (p : Version × List ℕ). Some p.0) same
+told_judged b bytes rest false true None e = absurd cc
+told_judged b bytes rest false true (Some v) e = let same : (v, rest) ≡ (Two, bytes) = cc in ap (λ (p : Version × List ℕ). Some p.0) same
+told_judged b bytes rest false false None e = refl
+told_judged b bytes rest false false (Some v) e = absurd cc
+
+pub told_read : (bytes rest : List ℕ) (told : Option Version) → option_map (and_rest rest) told ≡ version_at bytes → told ≡ version_told bytes
+unfolding version_at
+told_read [] rest None e = refl
+told_read [] rest (Some v) e = absurd cc
+told_read (b ∷ bytes) rest told e = told_judged b bytes rest _ _ told e
+
+pub told_number : (bytes rest at : List ℕ) (told : Option Version) → at ≡ drop 4 bytes → option_map (and_rest rest) told ≡ version_at at
+    → option_map version_number told ≡ option_map version_number (version_of bytes)
+told_number bytes rest at told is e = ap (option_map version_number) (told_read (drop 4 bytes) rest told (e ∙ ap version_at is))
 
 -- ---- the board
 

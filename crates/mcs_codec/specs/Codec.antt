@@ -1,6 +1,6 @@
 -- Which bytes spell a command, and which spell a state, in version 2 and in version 1. (Our own
 -- choice.)
-use Rattle.std.specs.Prelude.{◌≡◌, ℕ, Bool, true, ◌==◌, ◌||◌, List, [], ◌∷◌, take, drop, Option, Some, None, if◌then◌else◌}
+use Rattle.std.specs.Prelude.{◌≡◌, ◌⊎◌, ℕ, Bool, true, ◌==◌, ◌||◌, List, [], ◌∷◌, take, drop, Option, Some, None, if◌then◌else◌}
 use Rattle.mcs_model.specs.BenchState.{BenchState}
 use Rattle.mcs_model.specs.Validity.{IsValid}
 use Rattle.mcs_model.specs.declared.command.Command.{Command}
@@ -51,6 +51,15 @@ pub record SpellsLifted (bytes : List ℕ) (s : BenchState) : Type 0 where
 abbrev pub SpellsStateBy : Version → List ℕ → BenchState → Type 0
 SpellsStateBy One bytes s = SpellsLifted bytes s
 SpellsStateBy Two bytes s = SpellsState bytes s
+
+-- these bytes spell this state in one of the versions
+abbrev pub SpellsInSomeVersion : List ℕ → BenchState → Type 0
+SpellsInSomeVersion bytes s = SpellsState bytes s ⊎ SpellsLifted bytes s
+
+-- the number of a version
+abbrev pub version_number : Version → ℕ
+version_number One = 1
+version_number Two = 2
 
 -- the version that the byte after the count of commands tells: a port character (`i`, `0`, `1` or
 -- `-`) stands there in version 1, and 02 in version 2

@@ -12,12 +12,15 @@ use crate::images::{put_image, read_image};
 use crate::places::place_is_in_range;
 use crate::reader::Reader;
 use mcs_model::command::{Command, Place};
+use mcs_model::limits::RECORD_BYTES;
 use mcs_nibble::{Addr, BankNo, Bit};
 use std::alloc::{AllocError, Global};
 
-/// Bytes that are lent to write a command into. No command takes more. This is a bound of the
-/// encoding: how many bytes a record may have is the journal's own limit.
-pub const COMMAND_BYTES: usize = 8_192;
+/// The error of a call that was refused memory.
+pub type NoMemory = AllocError;
+
+/// Bytes that are lent to write a command into: those of the longest record. No command takes more.
+pub const COMMAND_BYTES: usize = RECORD_BYTES;
 
 /// A law: each part of a command is in its range, and its tag takes a byte.
 fn command_is_in_range(command: &Command)
@@ -144,7 +147,7 @@ fn read_after_tag(
     alloc: Global,
     tag: u8,
     reader: &mut Reader<'_>,
-) -> Result<Option<Command>, AllocError>
+) -> Result<Option<Command>, NoMemory>
     ensures read { IfOk result (λ found.
         option_map (λ x. (x, reader.new)) found ≡ command_after_tag tag reader.old) }
     ensures memory { OnErr result (tag ≡ 2) }
@@ -161,7 +164,7 @@ fn read_after_tag(
 
 /// The command that all of these bytes are read as, or none.
 #[tactic(auto, unfolding(crate::specs::CommandReading::command_at))]
-fn read_command(alloc: Global, bytes: &[u8]) -> Result<Option<Command>, AllocError>
+fn read_command(alloc: Global, bytes: &[u8]) -> Result<Option<Command>, NoMemory>
     ensures read { IfOk result (λ found. found ≡ whole command_at bytes.now) }
     ensures memory { OnErr result (BeginsAsLoad bytes.now) }
 {
@@ -186,7 +189,7 @@ fn read_command(alloc: Global, bytes: &[u8]) -> Result<Option<Command>, AllocErr
 /// # Errors
 ///
 /// Where memory is refused. A load alone takes memory.
-pub fn command_of(alloc: Global, bytes: &[u8]) -> Result<Option<Command>, AllocError>
+pub fn command_of(alloc: Global, bytes: &[u8]) -> Result<Option<Command>, NoMemory>
     ensures some { IfOk result (λ found. IfSome found (λ c. Spells bytes.now c)) }
     ensures none { IfOk result (λ found. IfNone found ((c : Command) → Spells bytes.now c → ⊥)) }
     ensures memory { OnErr result (BeginsAsLoad bytes.now) }

@@ -4,9 +4,10 @@ ghost use Rattle.mcs_model.specs.BenchState.{BenchState};
 ghost use Rattle.mcs_bench.specs.States.{bits_of_chains, state_of};
 ghost use Rattle.mcs_codec.specs.Reading.{bytes_at, whole};
 ghost use Rattle.mcs_codec.specs.StateReading.{board_by, versioned_board_at, chains_at, watches_at, state_at, HasCells};
-ghost use Rattle.mcs_codec.specs.Codec.{SpellsStateBy};
+ghost use Rattle.mcs_codec.specs.Codec.{SpellsInSomeVersion, SpellsStateBy, version_number, version_of};
 
 use crate::boards::read_board;
+use crate::commands::NoMemory;
 use crate::encoding::{Decode, read_counted, read_into};
 use crate::reader::Reader;
 use crate::versions::{Version, is_small};
@@ -14,7 +15,10 @@ use arrayvec::ArrayVec;
 use mcs_bench::{Bench, Cells, Flat};
 use mcs_model::board::{Board, ChainPart};
 use mcs_model::limits::{CHAIN_CHIPS, CHAIN_SOCKETS, CHAINS, WATCHES};
-use std::alloc::{AllocError, Global};
+use std::alloc::Global;
+
+/// Bytes of the count of commands.
+const COUNT_BYTES: usize = 4;
 
 /// The bits of a chain, bit 0 first.
 type ChainBits = ArrayVec<u8, CHAIN_SOCKETS>;
@@ -149,13 +153,26 @@ fn read_whole(bytes: &[u8], flat: &mut Flat) -> Option<Version>
     }
 }
 
-/// The bench whose state these bytes spell, and in which version, or none where they spell no state.
-/// A state of version 1 is carried over: nothing is watched.
+/// Returns the number of the version that the byte after the count of commands names, or `None` if
+/// that byte names no version. Bytes that spell a state spell it in this version.
+pub fn version_of(bytes: &[u8]) -> Option<u8>
+    ensures { result ≡ option_map version_number (version_of bytes.now) }
+{
+    if bytes.len() < COUNT_BYTES {
+        return None;
+    }
+    let (_, rest) = bytes.split_at(COUNT_BYTES);
+    let version = Reader::new(rest).version()?;
+    Some(version.number())
+}
+
+/// Returns the bench whose state these bytes spell, and its version, or `None` if they spell no
+/// state. A state of version 1 is carried over: nothing is watched.
 ///
 /// # Errors
 ///
-/// Where memory is refused.
-pub fn bench_of(alloc: Global, bytes: &[u8]) -> Result<Option<(Version, Bench)>, AllocError>
+/// If memory is refused.
+pub fn versioned_bench_of(alloc: Global, bytes: &[u8]) -> Result<Option<(Version, Bench)>, NoMemory>
     ensures some { IfOk result (λ found.
         IfSome found (λ x. SpellsStateBy x.0 bytes.now x.1)) }
     ensures none { IfOk result (λ found.
@@ -170,4 +187,21 @@ pub fn bench_of(alloc: Global, bytes: &[u8]) -> Result<Option<(Version, Bench)>,
     }
     let bench = Bench::restore(alloc, &flat)?;
     Ok(Some((version, bench)))
+}
+
+/// Returns the bench whose state these bytes spell, in either version, or `None` if they spell no
+/// state. A state of version 1 is carried over: nothing is watched.
+///
+/// # Errors
+///
+/// If memory is refused.
+pub fn bench_of(alloc: Global, bytes: &[u8]) -> Result<Option<Bench>, NoMemory>
+    ensures some { IfOk result (λ found. IfSome found (λ s. SpellsInSomeVersion bytes.now s)) }
+    ensures none { IfOk result (λ found.
+        IfNone found ((s : BenchState) → SpellsInSomeVersion bytes.now s → ⊥)) }
+{
+    match versioned_bench_of(alloc, bytes)? {
+        Some((_, bench)) => Ok(Some(bench)),
+        None => Ok(None),
+    }
 }

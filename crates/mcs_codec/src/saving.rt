@@ -9,14 +9,12 @@ ghost use Rattle.mcs_codec.specs.Codec.{SpellsState};
 
 use crate::boards::put_board;
 use crate::encoding::{Encode, put, put_all, put_counted};
+use crate::versions::Version;
 use mcs_bench::{Bench, ChipList};
+use mcs_model::limits::SNAPSHOT_BYTES;
 
-/// The version in which states are written.
-pub(crate) const VERSION: u8 = 2;
-
-/// Bytes that are lent to write a state into. No state takes more. This is a bound of the encoding:
-/// how many bytes a snapshot may have is the journal's own limit.
-pub const STATE_BYTES: usize = 16_380;
+/// Bytes that are lent to write a state into: those of the longest snapshot. No state takes more.
+pub const STATE_BYTES: usize = SNAPSHOT_BYTES;
 
 /// The lists of a bench that are written place by place.
 #[derive(Clone, Copy)]
@@ -190,7 +188,7 @@ fn put_state(bench: &Bench, into: &mut [u8]) -> usize
     ensures front { take result into.new ≡ state_bytes bench.now }
 {
     let at = put(into, 0, &bench.seq().to_be_bytes());
-    let at = put(into, at, &[VERSION]);
+    let at = put(into, at, &[Version::Two.number()]);
     let at = put_board(bench.board().parts(), into, at);
     put_groups(bench, into, at)
 }

@@ -4,7 +4,7 @@ ghost use Rattle.std.specs.List.{list_any};
 ghost use Rattle.mcs_model.specs.BenchState.{BenchState};
 ghost use Rattle.mcs_version1.specs.Boards.{is_small};
 ghost use Rattle.mcs_version1.specs.Command.{in_version_1, is_place_1};
-ghost use Rattle.mcs_codec.specs.Codec.{SpellsStateBy, has_command, version_of};
+ghost use Rattle.mcs_codec.specs.Codec.{SpellsStateBy, has_command, version_number, version_of};
 
 use mcs_model::board::Board;
 use mcs_model::command::{Command, Place};
@@ -53,8 +53,8 @@ fn is_place_1(place: &Place) -> bool
     }
 }
 
-/// Whether version 1 has a command: it watches nothing, and has shorter and fewer chains.
-fn in_version_1(command: &Command) -> bool
+/// Returns whether version 1 has a command: it watches nothing, and has shorter and fewer chains.
+pub fn in_version_1(command: &Command) -> bool
     ensures { result ≡ in_version_1 command.now }
 {
     match command {
@@ -83,6 +83,16 @@ pub enum Version {
 }
 
 impl Version {
+    /// Returns its number.
+    pub fn number(self) -> u8
+        ensures { result ≡ version_number self }
+    {
+        match self {
+            Version::One => 1,
+            Version::Two => 2,
+        }
+    }
+
     /// Whether the version has a command.
     pub fn has(self, command: &Command) -> bool
         ensures { result ≡ has_command self command.now }

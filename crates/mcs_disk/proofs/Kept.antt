@@ -1,8 +1,11 @@
 -- What stands where bytes were written, or where a write failed.
 use Rattle.std.proofs.Common.{◌≡◌, ℕ, zero, suc, ◌+◌, ◌≤◌, List, [], ◌∷◌, ◌++◌, length, take, drop, refl, sym, ◌∙◌, ap, arith, length-take}
 use Rattle.std.proofs.lemmas.List.{drop_at, take_at}
-use Rattle.mcs_disk.specs.Calls.{Failed, bytes_after, part, put}
-use Rattle.mcs_disk.specs.declared.call_record.CallRecord.{CallRecord}
+use Rattle.mcs_disk.specs.Calls.{bytes_after, part, put}
+use Rattle.mcs_disk.specs.NotedCalls.{calls_in}
+use Rattle.mcs_disk.specs.declared.call_record.Call.{Call}
+use Rattle.mcs_disk.specs.declared.call_record.Call.TheVariants.{FailedWrite}
+use Rattle.mcs_disk.specs.declared.record.Record.{Record}
 
 pub put_is : (at k : ℕ) (from file : List ℕ) → at + length from ≤ length file → k ≡ length from → put at from file ≡ take at file ++ (from ++ drop k (drop at file))
 put_is zero k [] [] fits is = ap (λ (n : ℕ). drop n []) (sym is)
@@ -26,5 +29,5 @@ put_none zero (suc n) (y ∷ ys) = refl
 put_none (suc at) n (y ∷ ys) = ap (λ (l : List ℕ). y ∷ l) (put_none at n ys)
 
 -- a write that failed, after which a read gives what it gave
-pub failed_kept : (h h' : CallRecord) (at : ℕ) (from b : List ℕ) → h' ≡ record h { calls = Failed at from [] ∷ h.calls } → b ≡ bytes_after h.start h.calls → b ≡ bytes_after h'.start h'.calls
-failed_kept h h' at from b noted kept = rw noted (kept ∙ sym (put_none at (length from) (bytes_after h.start h.calls)))
+pub failed_kept : (h h' : Record Call) (at : ℕ) (from b : List ℕ) → h' ≡ record h { notes = (FailedWrite at, from) ∷ h.notes } → b ≡ bytes_after h.start (calls_in h.notes) → b ≡ bytes_after h'.start (calls_in h'.notes)
+failed_kept h h' at from b noted kept = rw noted (kept ∙ sym (put_none at (length from) (bytes_after h.start (calls_in h.notes))))

@@ -6,5 +6,4 @@ pub mod Fuse
 pub mod NotedCalls
 pub mod PowerCut
 pub mod States
-pub mod StoredCalls
 pub mod Stretches

@@ -1,5 +1,5 @@
 -- What a call of the code is among the calls on a disk.
-use Rattle.std.specs.Prelude.{ℕ, List, []}
+use Rattle.std.specs.Prelude.{ℕ, List, [], ◌∷◌}
 use Rattle.mcs_disk.specs.Calls.{DiskCall, WasRead, Wrote, Failed, Synced}
 use Rattle.mcs_disk.specs.declared.call_record.Call.{Call}
 use Rattle.mcs_disk.specs.declared.call_record.Call.TheVariants.{Read, Write, FailedWrite, Sync}
@@ -10,3 +10,8 @@ call_of Read bytes = WasRead
 call_of (Write at) bytes = Wrote at bytes
 call_of (FailedWrite at) bytes = Failed at bytes []
 call_of Sync bytes = Synced
+
+-- the calls of a record
+abbrev pub calls_in : List (Call × List ℕ) → List DiskCall
+calls_in [] = []
+calls_in (note ∷ notes) = call_of note.0 note.1 ∷ calls_in notes

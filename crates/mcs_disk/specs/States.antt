@@ -1,6 +1,7 @@
 -- What contracts see of the disks of this crate.
 use Rattle.std.specs.Prelude.{◌≡◌, ℕ, List, []}
 use Rattle.mcs_disk.specs.Disk.{DiskState}
+use Rattle.mcs_disk.specs.NotedCalls.{calls_in}
 use Rattle.mcs_disk.specs.declared.fuse.FuseDisk.{FuseDisk}
 use Rattle.mcs_disk.specs.declared.memory.MemDisk.{MemDisk}
 
@@ -11,7 +12,7 @@ mem_disk_state disk = record {
   faults = 0;
   honest = Unit {0};
   start = disk.history.start;
-  calls = disk.history.calls;
+  calls = calls_in disk.history.notes;
 }
 
 -- what they see of a disk with a fuse: the calls of the disk in it, and faults of its own

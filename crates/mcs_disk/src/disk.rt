@@ -4,8 +4,11 @@ ghost use Rattle.mcs_disk.specs.Disk.{DiskState, bytes_of, part, put, size_of, C
 ghost use Rattle.mcs_disk.specs.CallList.{Makes};
 ghost use Rattle.mcs_disk.specs.Calls.{WasRead, Wrote, Synced};
 
+use thiserror::Error;
+
 /// The device refused a call.
-#[derive(Clone, Copy, Debug, PartialEq, Eq)]
+#[derive(Clone, Copy, Debug, PartialEq, Eq, Error)]
+#[error("the device failed")]
 pub struct DiskFault;
 
 /// A device of bytes that can be read and written in ranges, and synced.

@@ -1,9 +1,34 @@
-//! Laws of power cuts. The contract of each call is the law; the call does nothing.
-ghost use Rattle.std.specs.Prelude.{◌≡◌, ◌⊎◌, ◌≤◌, ℕ};
-ghost use Rattle.mcs_disk.specs.Disk.{IsLater, bytes_of, time_of};
+//! Laws of images and of power cuts. The contract of each call is the law; the call does nothing.
+ghost use Rattle.std.specs.Prelude.{◌≡◌, ◌⊎◌, ◌≤◌, ℕ, List, length};
+ghost use Rattle.mcs_disk.specs.Disk.{IsLater, bytes_of, images_of, images_since, size_of, time_of};
 ghost use Rattle.mcs_disk.specs.PowerCut.{IsLeftByCut, IsDurable};
+ghost use Rattle.mcs_disk.specs.Stretches.{AddsNoImage};
 
 use crate::Disk;
+
+/// The bytes that a read gives are one of the images: a power cut at this moment may leave them.
+pub fn read_bytes_are_an_image<D: Disk>()
+    ensures { (disk : D) → images_of (D.state disk) (bytes_of (D.state disk)) }
+{}
+
+/// Each image has the size of the disk, whether a power cut leaves it now or left it since some time.
+pub fn images_have_the_size_of_the_disk<D: Disk>()
+    ensures now { (disk : D) (image : List ℕ) → images_of (D.state disk) image
+        → length image ≡ size_of (D.state disk) }
+    ensures since { (time : ℕ) (disk : D) (image : List ℕ) → images_since time (D.state disk) image
+        → length image ≡ size_of (D.state disk) }
+{}
+
+/// Reads and syncs change no byte and add no image: each image after them was one before.
+pub fn reads_and_syncs_add_no_image<D: Disk>()
+    ensures bytes { (old new : D) → AddsNoImage (D.state old) (D.state new)
+        → bytes_of (D.state new) ≡ bytes_of (D.state old) }
+    ensures now { (old new : D) (image : List ℕ) → AddsNoImage (D.state old) (D.state new)
+        → images_of (D.state new) image → images_of (D.state old) image }
+    ensures since { (time : ℕ) (old new : D) (image : List ℕ)
+        → AddsNoImage (D.state old) (D.state new)
+        → images_since time (D.state new) image → images_since time (D.state old) image }
+{}
 
 /// A power cut since a later time is one since an earlier time.
 pub fn cut_is_since_an_earlier_time<D: Disk, E: Disk>()

@@ -1,7 +1,7 @@
 //! Disks as the journal sees them: a fixed number of bytes, faults, and what a power cut may leave.
 //!
 //! [`Disk`] is the trait that the journal is written over. [`MemDisk`] is an honest disk in memory,
-//! and [`FuseDisk`] one that fails chosen calls, for tests. [`CallRecord`] is what contracts know of
+//! and [`FuseDisk`] one that fails chosen calls, for tests. [`Record`] is what contracts know of
 //! the calls on a disk.
 #![tactic(auto)]
 
@@ -10,12 +10,15 @@ mod disk;
 mod fuse;
 mod laws;
 mod memory;
+mod record;
 
 pub use call_record::{Call, CallRecord};
 pub use disk::{Disk, DiskFault, overwrite};
 pub use fuse::FuseDisk;
 pub use laws::{
     cut_is_before_a_stretch_or_since_its_start, cut_is_since_an_earlier_time,
-    cut_leaves_what_is_durable, cut_of_what_a_cut_left,
+    cut_leaves_what_is_durable, cut_of_what_a_cut_left, images_have_the_size_of_the_disk,
+    read_bytes_are_an_image, reads_and_syncs_add_no_image,
 };
 pub use memory::MemDisk;
+pub use record::Record;

@@ -3,6 +3,7 @@ ghost use Rattle.std.specs.Prelude.{◌≡◌, ◌+◌, ◌≤◌, [], ◌∷◌
 ghost use Rattle.mcs_disk.specs.Disk.{CountsFault, bytes_of, part, size_of};
 ghost use Rattle.mcs_disk.specs.Calls.{bytes_after, WasRead, Wrote, Synced};
 ghost use Rattle.mcs_disk.specs.CallList.{Makes};
+ghost use Rattle.mcs_disk.specs.NotedCalls.{calls_in};
 
 use crate::call_record::{Call, CallRecord};
 use crate::{Disk, DiskFault, overwrite};
@@ -16,7 +17,7 @@ use std::alloc::{AllocError, Global};
 pub struct MemDisk {
     pub(crate) bytes: Vec<u8>,
     pub(crate) history: CallRecord,
-    ghost kept: { bytes.items ≡ bytes_after history.start history.calls },
+    ghost kept: { bytes.items ≡ bytes_after history.start (calls_in history.notes) },
     ghost sized: { length bytes.items ≡ length history.start },
 }
 

@@ -1,5 +1,5 @@
-//! Readers and writers that stop or fail, and bytes in a row.
-ghost use Rattle.std.specs.Prelude.{Some};
+//! Readers and writers that stop, fail or do not end, and bytes in a row.
+ghost use Rattle.std.specs.Prelude.{None, Some};
 
 use std::alloc::{AllocError, Global};
 use std::io::{self, Read, Write};
@@ -39,6 +39,35 @@ impl Read for CutReader<'_> {
         let count = self.bytes.read(&mut buf[..most])?;
         self.left = self.left.saturating_sub(count);
         Ok(count)
+    }
+}
+
+/// Gives one byte again and again, without an end, and counts what it gave.
+#[derive(Drop)]
+pub struct EndlessReader {
+    byte: u8,
+    given: u64,
+}
+
+impl EndlessReader {
+    /// Each byte that it gives is this one.
+    pub fn new(byte: u8) -> EndlessReader {
+        EndlessReader { byte, given: 0 }
+    }
+
+    /// How many bytes it has given.
+    pub fn given(&self) -> u64 {
+        self.given
+    }
+}
+
+impl Read for EndlessReader {
+    ghost remaining = { λ _. None };
+
+    fn read(&mut self, buf: &mut [u8]) -> io::Result<usize> {
+        buf.fill(self.byte);
+        self.given = self.given.saturating_add(buf.len() as u64);
+        Ok(buf.len())
     }
 }
 

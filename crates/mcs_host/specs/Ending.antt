@@ -2,6 +2,7 @@
 use Rattle.std.specs.Prelude.{◌≡◌, ◌⊎◌, ℕ, ◌≤◌, List, [], ◌∷◌, ◌++◌}
 use Rattle.mcs_disk.specs.Calls.{DiskCall, Wrote, Failed, clock_of, images_after}
 use Rattle.mcs_disk.specs.Disk.{DiskState}
+use Rattle.mcs_disk.specs.NotedCalls.{calls_in}
 use Rattle.mcs_host.specs.HostCalls.{HostState}
 use Rattle.mcs_host.specs.HostDisk.{host_disk}
 use Rattle.mcs_host.specs.SystemFile.{system_state}
@@ -17,7 +18,7 @@ as_host_file file = system_state file.on.file
 
 -- what the next one to open the file finds, after a close, a kill or a power cut
 abbrev pub found_in : FileDisk → List ℕ
-found_in file = file.on.end.found
+found_in file = file.on.end.start
 
 -- the newest of `calls` is a write; `cut` is `calls` with that write cut off
 pub record IsCutInWrite (calls cut : List DiskCall) : Type 0 where
@@ -33,16 +34,16 @@ pub record IsCutInWrite (calls cut : List DiskCall) : Type 0 where
 pub record IsLeftSince (time : ℕ) (file : FileDisk) : Type 0 where
   pub never_made : List DiskCall
   pub made : List DiskCall
-  pub all : file.on.history.calls ≡ never_made ++ made
-  pub by_the_end : (file.on.end.calls_by_the_end ≡ made)
-      ⊎ IsCutInWrite made file.on.end.calls_by_the_end
-  pub late : time ≤ clock_of file.on.end.calls_by_the_end
+  pub all : calls_in file.on.history.notes ≡ never_made ++ made
+  pub by_the_end : (calls_in file.on.end.notes ≡ made)
+      ⊎ IsCutInWrite made (calls_in file.on.end.notes)
+  pub late : time ≤ clock_of (calls_in file.on.end.notes)
 
 -- what `IsHonest` says of a file, spelled out: what is found after the end is an image after the
 -- calls by then
 abbrev pub IsFoundAfterTheEnd : FileDisk → Type 0
 IsFoundAfterTheEnd file =
-    images_after file.on.history.start file.on.end.calls_by_the_end (found_in file)
+    images_after file.on.history.start (calls_in file.on.end.notes) (found_in file)
 
 -- `like` is as `file` in all that any call has told of it; it was left after all of its calls, and
 -- `image` is found in it.
@@ -50,8 +51,8 @@ pub record IsFoundWith (image : List ℕ) (file like : FileDisk) : Type 0 where
   pub faults : like.on.faults ≡ file.on.faults
   pub bytes : like.on.bytes.items ≡ file.on.bytes.items
   pub start : like.on.history.start ≡ file.on.history.start
-  pub calls : like.on.history.calls ≡ file.on.history.calls
+  pub calls : calls_in like.on.history.notes ≡ calls_in file.on.history.notes
   pub asked : as_host_file like ≡ as_host_file file
   pub stable : like.on.is_name_stable ≡ file.on.is_name_stable
-  pub by_the_end : like.on.end.calls_by_the_end ≡ file.on.history.calls
+  pub by_the_end : calls_in like.on.end.notes ≡ calls_in file.on.history.notes
   pub found : found_in like ≡ image

@@ -2,22 +2,23 @@
 use Rattle.std.specs.Prelude.{◌≡◌, ◌<ℤ◌, ℕ, ℤ, [], pos}
 use Rattle.mcs_disk.specs.Disk.{DiskState}
 use Rattle.mcs_disk.specs.Calls.{images_after}
-use Rattle.mcs_disk.specs.declared.call_record.CallRecord.{CallRecord}
-use Rattle.mcs_host.specs.declared.ending.Ending.{Ending}
+use Rattle.mcs_disk.specs.NotedCalls.{calls_in}
+use Rattle.mcs_disk.specs.declared.call_record.Call.{Call}
+use Rattle.mcs_disk.specs.declared.record.Record.{Record}
 
 -- The premise on the host, and on programs that write the file without asking for its lock: what is
 -- found in the file after the end is an image after the calls by then, of which a write that was
 -- under way is one that failed.
-abbrev pub IsHonest : CallRecord → Ending → Type 0
-IsHonest history end = images_after history.start end.calls_by_the_end end.found
+abbrev pub IsHonest : Record Call → Record Call → Type 0
+IsHonest history end = images_after history.start (calls_in end.notes) end.start
 
 -- what contracts see of a file that has that many faults, this record of calls and this end
-abbrev pub file_state : ℕ → CallRecord → Ending → DiskState
+abbrev pub file_state : ℕ → Record Call → Record Call → DiskState
 file_state faults history end = record {
   faults = faults;
   honest = IsHonest history end;
   start = history.start;
-  calls = history.calls;
+  calls = calls_in history.notes;
 }
 
 -- the host's number of a file that has none of a standard stream: above 2

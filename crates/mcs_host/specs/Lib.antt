@@ -1,10 +1,10 @@
 pub mod CommandLine
 pub mod Ending
 pub mod FileDisk
+pub mod FileFaults
 pub mod HostCalls
 pub mod HostDisk
 pub mod NotedHostCalls
 pub mod Opening
-pub mod StoredHostCalls
 pub mod Streams
 pub mod SystemFile

@@ -1,5 +1,5 @@
 -- What a call of the code is among the calls on a file of the host.
-use Rattle.std.specs.Prelude.{ℕ, List}
+use Rattle.std.specs.Prelude.{ℕ, List, [], ◌∷◌}
 use Rattle.mcs_host.specs.HostCalls as calls
 use Rattle.mcs_host.specs.HostCalls.{HostCall}
 use Rattle.mcs_host.specs.declared.host_record.Asked.{Asked}
@@ -19,3 +19,8 @@ host_call_of (asked.SyncFolder ok) bytes = calls.SyncFolder bytes ok
 host_call_of (asked.IsLink ok) bytes = calls.IsLink bytes ok
 host_call_of (asked.RealName ok) bytes = calls.RealName bytes ok
 host_call_of asked.Made bytes = calls.Made
+
+-- the calls of a record
+abbrev pub host_calls_in : List (Asked × List ℕ) → List HostCall
+host_calls_in [] = []
+host_calls_in (note ∷ notes) = host_call_of note.0 note.1 ∷ host_calls_in notes

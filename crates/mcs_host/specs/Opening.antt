@@ -3,7 +3,8 @@
 use Rattle.std.specs.Prelude.{◌≡◌, ◌⊎◌, ◌+◌, ◌==◌, ℕ, min, Bool, true, false, IsTrue, IsFalse, List, [], ◌∷◌, length, codes, Option, Some, None}
 use Rattle.std.specs.List.{list_all}
 use Rattle.std.specs.Path.{path_parent}
-use Rattle.mcs_journal.specs.declared.format.TheConstants.{FILE_SIZE}
+use Rattle.mcs_journal.specs.declared.format.TheConstants.{FILE_SIZE, NAME, NAME_SIZE}
+use Rattle.mcs_disk.specs.Disk.{part}
 use Rattle.mcs_host.specs.HostCalls.{HostCall, HostState, IsLink, Length, Lock, LookUp, Made, ReadAt, RealName, SetLength, SyncAll, SyncFolder, WriteAt}
 
 -- each of these bytes is 0
@@ -14,6 +15,11 @@ AreZeros bytes = IsTrue (list_all (λ b. b == 0) bytes)
 pub record IsAllZeros (bytes : List ℕ) : Type 0 where
   pub size : length bytes ≡ FILE_SIZE
   pub zeros : AreZeros bytes
+
+-- a file with the size and the name of a session
+pub record IsNamedSession (bytes : List ℕ) : Type 0 where
+  pub size : length bytes ≡ FILE_SIZE
+  pub name : part 0 NAME_SIZE bytes ≡ NAME
 
 -- the parent of a name, where it has one with a name, and else the folder that the program runs in
 abbrev pub folder_or_here : Option (List ℕ) → List ℕ

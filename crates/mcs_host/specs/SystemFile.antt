@@ -1,8 +1,9 @@
 -- What contracts see of an open file of the system.
 use Rattle.std.specs.Fd.{file_raw_fd}
 use Rattle.mcs_host.specs.HostCalls.{HostState}
+use Rattle.mcs_host.specs.NotedHostCalls.{host_calls_in}
 use Rattle.mcs_host.specs.declared.system_file.SystemFile.{SystemFile}
 
 -- the name that it was opened by, its number, and the calls on it
 abbrev pub system_state : SystemFile → HostState
-system_state file = record { name = file.history.name; number = file_raw_fd file.file; calls = file.history.calls }
+system_state file = record { name = file.history.start; number = file_raw_fd file.file; calls = host_calls_in file.history.notes }

@@ -1,9 +1,10 @@
 //! What the arguments of the command line choose.
 ghost use Rattle.std.specs.Prelude.{◌≡◌, ℕ, List, string_bytes};
-ghost use Rattle.mcs_host.specs.declared.arguments.ArgumentsFault.TheVariants.{NoMemory};
+ghost use Rattle.mcs_host.specs.declared.arguments.WordsFault.TheVariants.{NoMemory};
 
 use std::alloc::AllocError;
 use std::marker::Model;
+use thiserror::Error;
 
 /// The name of a session file, as the arguments give it. Contracts see its bytes.
 #[derive(Drop)]
@@ -42,18 +43,20 @@ pub enum Choice {
 }
 
 /// Why arguments choose nothing.
-#[derive(Clone, Copy, Debug)]
-pub enum ArgumentsFault {
+#[derive(Clone, Copy, Debug, Error)]
+pub enum WordsFault {
     /// The arguments are none of the program's: the usage is shown.
+    #[error("the arguments are none of the program's")]
     Usage,
     /// There was no memory.
+    #[error("out of memory")]
     NoMemory,
 }
 
-impl From<AllocError> for ArgumentsFault {
+impl From<AllocError> for WordsFault {
     ghost from_gives = { λ _ e. e ≡ NoMemory };
 
     fn from(_: AllocError) -> Self {
-        ArgumentsFault::NoMemory
+        WordsFault::NoMemory
     }
 }

@@ -3,7 +3,7 @@ ghost use Rattle.std.specs.Prelude.{◌≡◌, ◌≢◌, Some, None, true, map,
 ghost use Rattle.clap.specs.Words.{kind_of, subcommand_of, subcommand_rows_of};
 ghost use Rattle.mcs_host.specs.CommandLine.{choice_in, takes_arguments, arguments_of_choice, program};
 
-use crate::arguments::{ArgumentsFault, Choice, FileName};
+use crate::arguments::{Choice, FileName, WordsFault};
 use clap::error::ErrorKind;
 use clap::{Arg, ArgMatches, Command, Error};
 use std::alloc::Global;
@@ -41,10 +41,10 @@ fn matches<'a, S: AsStr>(alloc: Global, arguments: &'a [S]) -> Result<ArgMatches
 /// that clap's definition of the matches gives. `Usage` comes only where that definition does not
 /// take the arguments, or gives none, as for a request for help. `NoMemory` comes where a growth
 /// was refused.
-pub fn choice<S: AsStr>(alloc: Global, arguments: &[S]) -> Result<Choice, ArgumentsFault>
+pub fn choice<S: AsStr>(alloc: Global, arguments: &[S]) -> Result<Choice, WordsFault>
     ensures given { IfOk result (λ c.
         choice_in (map S.text arguments.entry.now) ≡ Some (arguments_of_choice c)) }
-    ensures usage { IsErrOf result ArgumentsFault.Usage
+    ensures usage { IsErrOf result WordsFault.Usage
         → (takes_arguments (map S.text arguments.entry.now) ≡ true
         → choice_in (map S.text arguments.entry.now) ≡ None) }
 {
@@ -53,25 +53,25 @@ pub fn choice<S: AsStr>(alloc: Global, arguments: &[S]) -> Result<Choice, Argume
         Err(error) => return Err(fault_of(&error)),
     };
     let Some((name, inner)) = found.subcommand() else {
-        return Err(ArgumentsFault::Usage);
+        return Err(WordsFault::Usage);
     };
     let Some(file) = inner.get_str("FILE") else {
-        return Err(ArgumentsFault::Usage);
+        return Err(WordsFault::Usage);
     };
     let file = FileName::new(String::from_str(alloc, file)?);
     match name {
         "new" => Ok(Choice::New(file)),
         "open" => Ok(Choice::Open(file)),
-        _ => Err(ArgumentsFault::Usage),
+        _ => Err(WordsFault::Usage),
     }
 }
 
-fn fault_of(error: &Error) -> ArgumentsFault
-    ensures { result ≡ ArgumentsFault.Usage → kind_of error.now ≢ ErrorKind.OutOfMemory }
+fn fault_of(error: &Error) -> WordsFault
+    ensures { result ≡ WordsFault.Usage → kind_of error.now ≢ ErrorKind.OutOfMemory }
 {
     if error.kind() == ErrorKind::OutOfMemory {
-        ArgumentsFault::NoMemory
+        WordsFault::NoMemory
     } else {
-        ArgumentsFault::Usage
+        WordsFault::Usage
     }
 }

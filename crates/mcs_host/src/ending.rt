@@ -1,35 +1,18 @@
 //! How a file of the host is left: what no memory holds and no code can tell.
-ghost use Rattle.std.specs.Prelude.{◌≡◌, ℕ, List};
-ghost use Rattle.std.specs.Borrow.{ftrue};
-ghost use Rattle.std.specs.Coded.{coded_list};
-ghost use Rattle.mcs_disk.specs.Calls.{DiskCall};
-ghost use Rattle.mcs_disk.specs.StoredCalls.{coded_call};
+ghost use Rattle.std.specs.Prelude.{◌≡◌};
 
-use std::marker::{Model, PhantomData};
+use mcs_disk::{Call, Record};
 
 /// The end of an open file, when it is left by a close, a kill or a power cut, for contracts alone:
-/// no memory holds it, no code can tell it and no proof knows it.
-#[derive(Drop)]
-pub(crate) struct Ending {
-    marker: PhantomData<u8>,
-    /// The calls by the end, the newest first. A write that was under way then is one that failed.
-    pub ghost calls_by_the_end: { List DiskCall } by { coded_list coded_call },
-    /// What is found in the file after the end.
-    pub ghost found: { List ℕ },
-}
+/// no memory holds it, no code can tell it and no proof knows it. Its `start` is what is found in
+/// the file after the end, and its `notes` are the calls by the end. A write that was under way then
+/// is one that failed.
+pub(crate) type Ending = Record<Call>;
 
-impl Model for Ending {
-    ghost also_owns = { λ _. ftrue };
-}
-
-impl Ending {
-    /// The end to come of a file that holds these bytes. Nothing is told of it: the clause, which
-    /// the proof by hand needs, holds of every end.
-    pub(crate) fn new(_start: &[u8]) -> Ending
-        ensures { result.found ≡ result.found }
-    {
-        Ending {
-            marker: PhantomData,
-        }
-    }
+/// Names the end to come of a file that holds these bytes. Its clause says nothing of it, so no
+/// caller learns which end it is.
+pub(crate) fn ending(start: &[u8]) -> Ending
+    ensures { result.start ≡ result.start }
+{
+    Record::new(start)
 }

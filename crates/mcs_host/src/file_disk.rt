@@ -1,5 +1,5 @@
 //! A session file of the system, as a disk.
-ghost use Rattle.std.specs.Prelude.{◌≡◌, ◌<◌, ◌≤◌, ◌+◌, ℕ, List, [], ◌∷◌, IfOk, IsErr, OnOk, IsTrue, is_ok, length};
+ghost use Rattle.std.specs.Prelude.{◌≡◌, ◌<◌, ◌≤◌, ◌+◌, ℕ, List, [], ◌∷◌, IfOk, IsErr, OnOk, IsTrue, is_ok, length, ◌↔◌};
 ghost use Rattle.mcs_disk.specs.Disk.{part, CountsFault, Torn, bytes_of, size_of, images_of};
 ghost use Rattle.mcs_disk.specs.CallList.{Makes};
 ghost use Rattle.mcs_disk.specs.Calls.{WasRead, Wrote, Synced};
@@ -25,15 +25,16 @@ pub struct FileDisk {
 impl FileDisk {
     ghost use Rattle.mcs_host.specs.Ending.{as_disk, as_host_file};
     ghost use Rattle.mcs_host.specs.FileDisk.{IsUncalled};
-    ghost use Rattle.mcs_host.specs.Opening.{IsOpening};
+    ghost use Rattle.mcs_host.specs.Opening.{IsNamedSession, IsOpening};
 
     /// Opens a file for reading and writing. Where `make` is true, the file is made where it is not
     /// there, and filled with [`FILE_SIZE`] zero bytes where it is empty. What it holds is on the
     /// device by then, and so is its name (but see `is_name_stable`).
     ///
     /// `NoMemory` comes where there is no memory for its bytes, or for the name that a link leads
-    /// to; `Stream` where standard streams are the file, and nothing was asked of it then; the other
-    /// faults where the host refuses it.
+    /// to; `Stream` where standard streams are the file, and `StreamsUnknown` where the host does not
+    /// say: nothing was asked of it then; `FolderUnsynced` where `make` is true and the file is new,
+    /// and its folder cannot be synced; the other faults where the host refuses it.
     pub fn open_at<R: Files<File = File>>(
         rt: &R,
         alloc: Global,
@@ -56,6 +57,20 @@ impl FileDisk {
         ensures { result ≡ self.now.on.is_name_stable }
     {
         self.on.is_name_stable()
+    }
+
+    /// The last call that failed was refused for lack of space on the device.
+    pub fn is_full(&self) -> bool
+        ensures { result ≡ self.now.on.is_full }
+    {
+        self.on.is_full()
+    }
+
+    /// The file has the size and the name of a session file: `open` may go on with it.
+    pub fn is_named_session(&self) -> bool
+        ensures { IsTrue result ↔ IsNamedSession (bytes_of (as_disk self.now)) }
+    {
+        self.on.is_named_session()
     }
 }
 

@@ -1,6 +1,9 @@
 //! Why a file was not opened.
-ghost use Rattle.std.specs.Prelude.{◌≡◌, ◌≢◌};
-ghost use Rattle.mcs_host.specs.declared.file_fault.FileFault.TheVariants.{NoLock, NoMemory};
+ghost use Rattle.std.specs.Prelude.{◌≡◌, ◌≢◌, ◌⊎◌, ◌↔◌, IsTrue, MatchResult, false};
+ghost use Rattle.std.specs.IoError.{error_kind};
+ghost use Rattle.std.specs.declared.fs.locks.TryLockError.TheVariants.{WouldBlock};
+ghost use Rattle.mcs_host.specs.declared.file_fault.FileFault.TheVariants.{InUse, NoLock, NoMemory};
+ghost use Rattle.mcs_host.specs.FileFaults.{IsFaultOfNumber, IsHostFault, fault_of_kind};
 
 use crate::streams::Streams;
 use std::alloc::AllocError;
@@ -8,36 +11,54 @@ use std::fs::TryLockError;
 use std::io::{self, ErrorKind};
 use thiserror::Error;
 
+/// The program has as many files open as it may (POSIX's EMFILE).
+const PROGRAM_FILES: i32 = 24;
+
+/// The host has as many files open as it may (POSIX's ENFILE).
+const HOST_FILES: i32 = 23;
+
 /// Why a file was not opened. All but `NoMemory` are refusals of the host; those that somebody can
 /// do something about have a name.
 #[derive(Clone, Copy, Debug, PartialEq, Eq, Error)]
 pub enum FileFault {
     /// Another program has the file in use: it holds the lock.
-    #[error("in use by another program; wait until that has ended")]
+    #[error("in use")]
     InUse,
     /// The host knows no lock for this file, as on some network file systems.
-    #[error("the host has no lock for it; put it on a disk of this machine")]
+    #[error("no lock")]
     NoLock,
     /// There is no file of this name, or no folder for it.
-    #[error("no such file or folder")]
+    #[error("not there")]
     NotThere,
     /// It may not be read and written.
-    #[error("no permission to read and write it")]
+    #[error("no permission")]
     Denied,
     /// It is a folder.
-    #[error("it is a folder; name a file in it")]
+    #[error("a folder")]
     Folder,
-    /// It is no regular file, but a device, say.
-    #[error("it is no regular file; name another")]
+    /// It is not a regular file, but a device, say.
+    #[error("not a regular file")]
     NotAFile,
+    /// Its name, or a part of it, is too long.
+    #[error("name too long")]
+    NameTooLong,
     /// There is no space for it on the device.
-    #[error("no space for it on the device; make room and try again")]
+    #[error("no space")]
     NoSpace,
+    /// It was to be made, and its folder cannot be synced: a power cut could lose its name.
+    #[error("folder not synced")]
+    FolderUnsynced,
+    /// Too many files are open.
+    #[error("too many open files")]
+    TooManyFiles,
     /// These standard streams of the program are this very file.
-    #[error("standard input or output is this very file; send that elsewhere")]
+    #[error("a standard stream")]
     Stream(Streams),
+    /// The host does not answer whether a standard stream is this file.
+    #[error("standard streams unknown")]
+    StreamsUnknown,
     /// The host refused it for another reason.
-    #[error("the host refused it, or its device failed")]
+    #[error("refused")]
     Device,
     /// There was no memory for the bytes of the file.
     #[error("out of memory")]
@@ -45,24 +66,60 @@ pub enum FileFault {
 }
 
 impl From<io::Error> for FileFault {
-    ghost from_gives = { λ _ e. e ≢ NoMemory };
+    ghost from_gives = { λ error fault. IsHostFault error fault };
 
     fn from(error: io::Error) -> Self {
-        match error.kind() {
-            ErrorKind::NotFound | ErrorKind::NotADirectory => FileFault::NotThere,
-            ErrorKind::PermissionDenied | ErrorKind::ReadOnlyFilesystem => FileFault::Denied,
-            ErrorKind::IsADirectory => FileFault::Folder,
-            ErrorKind::InvalidInput | ErrorKind::NotSeekable => FileFault::NotAFile,
-            ErrorKind::StorageFull | ErrorKind::QuotaExceeded | ErrorKind::FileTooLarge => {
-                FileFault::NoSpace
-            }
-            _ => FileFault::Device,
+        match named_fault(error.kind()) {
+            Some(fault) => fault,
+            None => unnamed_fault(error.raw_os_error()),
         }
     }
 }
 
+// The fault of an error that std has a name for, if somebody can do something about it.
+fn named_fault(kind: ErrorKind) -> Option<FileFault>
+    ensures { result ≡ fault_of_kind kind }
+{
+    match kind {
+        ErrorKind::NotFound | ErrorKind::NotADirectory => Some(FileFault::NotThere),
+        ErrorKind::PermissionDenied | ErrorKind::ReadOnlyFilesystem => Some(FileFault::Denied),
+        ErrorKind::IsADirectory => Some(FileFault::Folder),
+        ErrorKind::NotSeekable => Some(FileFault::NotAFile),
+        ErrorKind::InvalidFilename => Some(FileFault::NameTooLong),
+        ErrorKind::StorageFull | ErrorKind::QuotaExceeded | ErrorKind::FileTooLarge => {
+            Some(FileFault::NoSpace)
+        }
+        _ => None,
+    }
+}
+
+// The fault of an error that std has no name for, by its number.
+fn unnamed_fault(number: Option<i32>) -> FileFault
+    ensures { IsFaultOfNumber number result }
+{
+    match number {
+        Some(PROGRAM_FILES | HOST_FILES) => FileFault::TooManyFiles,
+        _ => FileFault::Device,
+    }
+}
+
+/// The device has no space for what was to be written.
+pub(crate) fn is_for_space(answer: &io::Result<()>) -> bool
+    ensures { MatchResult answer.now (λ _. result ≡ false) (λ error. IsTrue result
+        ↔ (error_kind error ≡ ErrorKind.StorageFull) ⊎ (error_kind error ≡ ErrorKind.QuotaExceeded)) }
+{
+    match answer {
+        Ok(()) => false,
+        Err(error) => matches!(
+            error.kind(),
+            ErrorKind::StorageFull | ErrorKind::QuotaExceeded
+        ),
+    }
+}
+
 impl From<TryLockError> for FileFault {
-    ghost from_gives = { λ _ e. e ≢ NoMemory };
+    ghost from_gives = { λ error fault. (error ≡ WouldBlock → fault ≡ InUse)
+        × (error ≢ WouldBlock → fault ≡ NoLock) };
 
     fn from(error: TryLockError) -> Self {
         match error {

@@ -3,13 +3,15 @@ ghost use Rattle.std.specs.Prelude.{◌≡◌, ◌↔◌, ◌<◌, ◌≤◌, �
 ghost use Rattle.mcs_disk.specs.Disk.{most_faults, part, CountsFault, Torn, bytes_of, size_of, images_of};
 ghost use Rattle.mcs_disk.specs.CallList.{Makes};
 ghost use Rattle.mcs_disk.specs.Calls.{bytes_after, WasRead, Wrote, Synced};
+ghost use Rattle.mcs_disk.specs.NotedCalls.{calls_in};
 ghost use Rattle.mcs_host.specs.FileDisk.{IsApart};
-ghost use Rattle.mcs_host.specs.Opening.{AreZeros};
+ghost use Rattle.mcs_host.specs.Opening.{AreZeros, IsNamedSession};
 
-use crate::ending::Ending;
-use crate::file_fault::FileFault;
+use crate::ending::{Ending, ending};
+use crate::file_fault::{FileFault, is_for_space};
 use crate::host_file::{Host, HostFile};
 use crate::opening::{MOST_BYTES, open_and_read};
+use crate::streams::is_session_name;
 use mcs_disk::{Call, CallRecord, Disk, DiskFault, overwrite};
 use mcs_journal::FILE_SIZE;
 use std::alloc::{AllocError, Global};
@@ -28,7 +30,8 @@ pub struct HostDisk<H: HostFile> {
     history: CallRecord,
     end: Ending,
     is_name_stable: bool,
-    ghost kept: { bytes.items ≡ bytes_after history.start history.calls },
+    is_full: bool,
+    ghost kept: { bytes.items ≡ bytes_after history.start (calls_in history.notes) },
     ghost sized: { length bytes.items ≡ length history.start },
     ghost apart: { IsApart (H.HostFile.state file).number },
 }
@@ -55,7 +58,7 @@ impl<H: HostFile> HostDisk<H> {
         let mut bytes = zeros(alloc, MOST_BYTES)?;
         let (opened, is_name_stable) = open_and_read(host, alloc, file, make, &mut bytes)?;
         let history = CallRecord::new(&bytes);
-        let end = Ending::new(&bytes);
+        let end = ending(&bytes);
         Ok(HostDisk {
             file: opened,
             bytes,
@@ -63,6 +66,7 @@ impl<H: HostFile> HostDisk<H> {
             history,
             end,
             is_name_stable,
+            is_full: false,
         })
     }
 
@@ -73,6 +77,20 @@ impl<H: HostFile> HostDisk<H> {
         self.is_name_stable
     }
 
+    /// The last call that failed was refused for lack of space on the device.
+    pub fn is_full(&self) -> bool
+        ensures { result ≡ self.now.is_full }
+    {
+        self.is_full
+    }
+
+    /// The file has the size and the name of a session file.
+    pub fn is_named_session(&self) -> bool
+        ensures { IsTrue result ↔ IsNamedSession (bytes_of (host_disk self.now)) }
+    {
+        self.bytes.len() == FILE_SIZE && is_session_name(&self.bytes[0..8])
+    }
+
     // The file holds these bytes from `at` on, as far as what was written to it tells.
     fn holds(&self, at: usize, given: &[u8]) -> bool
         requires { at + length given.now ≤ length self.now.bytes.items }
@@ -81,8 +99,8 @@ impl<H: HostFile> HostDisk<H> {
         given == &self.bytes[at..at + given.len()]
     }
 
-    // Counts a fault and does nothing else.
-    fn fail(&mut self) -> DiskFault
+    // Counts a fault, which lack of space may be the reason of, and does nothing else.
+    fn fail(&mut self, is_full: bool) -> DiskFault
         ensures file { self.new.file ≡ self.old.file }
         ensures bytes { self.new.bytes ≡ self.old.bytes }
         ensures history { self.new.history ≡ self.old.history }
@@ -90,6 +108,7 @@ impl<H: HostFile> HostDisk<H> {
         ensures fault { self.new.faults ≡ min (self.old.faults + 1) most_faults }
     {
         self.faults = self.faults.saturating_add(1);
+        self.is_full = is_full;
         DiskFault
     }
 }
@@ -128,7 +147,7 @@ impl<H: HostFile> Disk for HostDisk<H> {
     {
         let answer = self.file.read_at(at, into);
         if answer.is_err() || !self.holds(at, into) {
-            return Err(self.fail());
+            return Err(self.fail(false));
         }
         self.history.note(&Call::Read, &[]);
         Ok(())
@@ -145,9 +164,10 @@ impl<H: HostFile> Disk for HostDisk<H> {
         ensures asked { H.HostFile.state self.new.file
             ≡ asked (WriteAt at from.now (is_ok result)) (H.HostFile.state self.old.file) }
     {
-        if self.file.write_at(at, from).is_err() {
+        let answer = self.file.write_at(at, from);
+        if answer.is_err() {
             self.history.note(&Call::FailedWrite(at), from);
-            return Err(self.fail());
+            return Err(self.fail(is_for_space(&answer)));
         }
         self.history.note(&Call::Write(at), from);
         overwrite(&mut self.bytes, at, from);
@@ -162,8 +182,9 @@ impl<H: HostFile> Disk for HostDisk<H> {
         ensures asked { H.HostFile.state self.new.file
             ≡ asked (SyncData (is_ok result)) (H.HostFile.state self.old.file) }
     {
-        if self.file.sync_data().is_err() {
-            return Err(self.fail());
+        let answer = self.file.sync_data();
+        if answer.is_err() {
+            return Err(self.fail(is_for_space(&answer)));
         }
         self.history.note(&Call::Sync, &[]);
         Ok(())

@@ -4,6 +4,7 @@ ghost use Rattle.std.specs.Prelude.{◌≡◌, [], ◌∷◌, IfOk, MatchResult,
 ghost use Rattle.std.specs.Path.{path_buf_bytes};
 ghost use Rattle.mcs_host.specs.HostCalls.{HostState, HasCalls, IsLink, Length, Lock, LookUp, Made, ReadAt, RealName, SetLength, SyncAll, SyncData, SyncFolder, WriteAt, asked, is_yes};
 
+use crate::file_fault::FileFault;
 use crate::streams::Streams;
 use std::alloc::Global;
 use std::fs::TryLockError;
@@ -56,8 +57,13 @@ pub trait Host {
     /// An open file of it.
     type File: HostFile + Drop;
 
-    /// The standard streams that are the regular file of this name; none where that cannot be told.
-    fn streams_that_are(&self, name: &str) -> Streams;
+    /// The standard streams that are the file of this name, which is regular or not there yet. An
+    /// `Err` comes for any other file, and if the host does not answer which files the streams are.
+    fn streams_that_are(&self, name: &str) -> Result<Streams, FileFault>;
+
+    /// A file that is made by this name can be removed again: if it is the name of a link, the
+    /// folder that the link leads to has a name without links. It takes memory.
+    fn can_be_removed(&self, alloc: Global, name: &str) -> io::Result<()>;
 
     /// Opens the file of this name for reading and writing.
     fn open(&self, name: &str) -> io::Result<Self::File>

@@ -1,12 +1,5 @@
-//! What has been asked of a file of the host: a list that no memory holds.
-ghost use Rattle.std.specs.Prelude.{◌≡◌, ℕ, List, [], ◌∷◌};
-ghost use Rattle.std.specs.Borrow.{ftrue};
-ghost use Rattle.std.specs.Coded.{coded_list};
-ghost use Rattle.mcs_host.specs.HostCalls.{HostCall};
-ghost use Rattle.mcs_host.specs.NotedHostCalls.{host_call_of};
-ghost use Rattle.mcs_host.specs.StoredHostCalls.{coded_host_call};
-
-use std::marker::{Model, PhantomData};
+//! What has been asked of a file of the host.
+use mcs_disk::Record;
 
 /// A call on a file of the host that has just been answered, and whether it was answered Ok,
 /// without the bytes or the name that go with it.
@@ -38,33 +31,5 @@ pub(crate) enum Asked {
     Made,
 }
 
-/// The calls on a file of the host, for contracts alone: no memory holds them.
-#[derive(Drop)]
-pub(crate) struct HostRecord {
-    marker: PhantomData<u8>,
-    /// The name that it was opened by.
-    pub ghost name: { List ℕ },
-    /// The calls so far, the newest first.
-    pub ghost calls: { List HostCall } by { coded_list coded_host_call },
-}
-
-impl Model for HostRecord {
-    ghost also_owns = { λ _. ftrue };
-}
-
-impl HostRecord {
-    /// Begins the record of a file that was opened by this name.
-    pub(crate) fn new(_name: &[u8]) -> HostRecord
-        ensures { (result.name ≡ _name.now) × (result.calls ≡ []) }
-    {
-        HostRecord {
-            marker: PhantomData,
-        }
-    }
-
-    /// Adds a call. `_bytes` are the bytes or the name that go with it.
-    pub(crate) fn note(&mut self, _call: &Asked, _bytes: &[u8])
-        ensures { self.new
-            ≡ record self.old { calls = host_call_of _call.now _bytes.now ∷ self.old.calls } }
-    {}
-}
+/// The name that a file of the host was opened by, and the calls on it since.
+pub(crate) type HostRecord = Record<Asked>;

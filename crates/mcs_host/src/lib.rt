@@ -1,9 +1,9 @@
 //! The host's side of the program: what the arguments of its command line choose, and a session
 //! file as a disk.
 //!
-//! [`choice`] reads the command line, [`StandIns`] take the place of standard streams that are closed. [`FileDisk`] is a file of the host after the trait `Disk` of
-//! mcs_disk; that it keeps what it was given over a power cut is a premise on the host and no
-//! theorem.
+//! [`choice`] reads the command line, [`StandIns`] take the place of standard streams that are
+//! closed. [`FileDisk`] is a file of the host after the trait `Disk` of mcs_disk; that it keeps what
+//! it was given over a power cut is a premise on the host and no theorem.
 #![tactic(auto)]
 
 mod arguments;
@@ -19,7 +19,7 @@ mod opening;
 mod streams;
 mod system_file;
 
-pub use arguments::{ArgumentsFault, Choice, FileName};
+pub use arguments::{Choice, FileName, WordsFault};
 pub use command_line::choice;
 pub use file_disk::FileDisk;
 pub use file_fault::FileFault;
@@ -29,5 +29,5 @@ pub use laws::{
     each_file_is_apart, each_image_may_be_found, honest_where_an_image_is_found,
     opened_again_is_left_by_cut, what_is_found_is_an_image,
 };
-pub use streams::{StandIns, Streams, streams_into_sessions};
+pub use streams::{RefusedStreams, StandIns, Streams, StreamsFault};
 pub use system_file::SystemFile;

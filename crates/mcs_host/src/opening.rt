@@ -2,6 +2,7 @@
 ghost use Rattle.std.specs.Prelude.{◌≡◌, ◌==◌, ◌↔◌, ◌<◌, ◌≤◌, [], ◌∷◌, IfOk, OnOk, IsTrue, is_ok, true, vec_len};
 ghost use Rattle.std.specs.List.{list_all};
 ghost use Rattle.mcs_host.specs.FileDisk.{IsApart};
+ghost use Rattle.mcs_host.specs.FileFaults.{IsLinkFault, IsNameFault};
 ghost use Rattle.mcs_host.specs.HostCalls.{HasCalls, IsSame, Made, SyncAll};
 ghost use Rattle.mcs_host.specs.Opening.{AreZeros, FolderCalls, IsBegun, IsAllZeros, IsFilledAfter, IsOpening, IsReadAfter, IsWrittenAfter, folder_of, locking_calls};
 
@@ -23,7 +24,7 @@ const STANDARD_ERROR: i32 = 2;
 /// zeros; and whether its name stays after a power cut. Where `make` is true, the file is made where
 /// it is not there, and filled with [`FILE_SIZE`] zero bytes where it is empty; a file that cannot
 /// be filled is empty again, and one that was made for nothing is removed. A file that a standard
-/// stream is too is not opened.
+/// stream is too is not opened, nor is one of which the host does not say whether one is.
 pub(crate) fn open_and_read<N: Host>(
     host: &N,
     alloc: Global,
@@ -39,11 +40,11 @@ pub(crate) fn open_and_read<N: Host>(
     ensures asked { IfOk result (λ opened. IsOpening make file.now bytes.new.items opened.1
         (N.File.state opened.0)) }
 {
-    let streams = host.streams_that_are(file);
+    let streams = host.streams_that_are(file)?;
     if streams.any() {
         return Err(FileFault::Stream(streams));
     }
-    let (mut opened, is_made) = open_or_make(host, file, make)?;
+    let (mut opened, is_made) = open_or_make(host, alloc, file, make)?;
     match lock_and_read(host, alloc, &mut opened, file, make, bytes) {
         Ok(is_name_stable) => Ok((opened, is_name_stable)),
         Err(fault) => {
@@ -57,16 +58,22 @@ pub(crate) fn open_and_read<N: Host>(
 }
 
 // Opens a file, and tells whether it was made.
-fn open_or_make<N: Host>(host: &N, file: &str, make: bool) -> io::Result<(N::File, bool)>
+fn open_or_make<N: Host>(
+    host: &N,
+    alloc: Global,
+    file: &str,
+    make: bool,
+) -> Result<(N::File, bool), FileFault>
     ensures named { IfOk result (λ opened. (N.File.state opened.0).name ≡ file.now) }
     ensures begun { IfOk result (λ opened. IsBegun make (N.File.state opened.0).calls) }
 {
     match host.open(file) {
         Ok(opened) => Ok((opened, false)),
         Err(error) if make && error.kind() == ErrorKind::NotFound => {
+            host.can_be_removed(alloc, file).map_err(link_fault)?;
             Ok((host.open_or_make(file)?, true))
         }
-        Err(error) => Err(error),
+        Err(error) => Err(FileFault::from(error)),
     }
 }
 
@@ -101,7 +108,7 @@ fn lock_and_read<N: Host>(
     let is_name_stable = sync_and_read(host, alloc, opened, file, bytes)?;
     if make && is_blank(bytes) {
         // It may have holes, as where an earlier fill was cut off.
-        write_whole(host, alloc, opened, file, bytes).map_err(writing_fault)?;
+        write_whole(host, alloc, opened, file, bytes)?;
     }
     Ok(is_name_stable)
 }
@@ -138,7 +145,7 @@ fn fill_and_read<N: Host>(
     ensures asked { OnOk result (IsFilledAfter file.now bytes.old.items bytes.new.items
         (N.File.state opened.old).calls (N.File.state opened.new).calls) }
 {
-    fill(host, alloc, opened, file, bytes).map_err(writing_fault)?;
+    fill(host, alloc, opened, file, bytes)?;
     opened.read_at(0, bytes)?;
     Ok(())
 }
@@ -158,9 +165,7 @@ fn sync_and_read<N: Host>(
         is_name_stable (N.File.state opened.old).calls (N.File.state opened.new).calls) }
 {
     opened.sync_all()?;
-    let is_name_stable = sync_folder_if_it_may_be(host, alloc, opened, file).map_err(
-        writing_fault,
-    )?;
+    let is_name_stable = sync_folder_if_it_may_be(host, alloc, opened, file)?;
     opened.read_at(0, bytes)?;
     Ok(is_name_stable)
 }
@@ -178,11 +183,24 @@ fn are_zeros(bytes: &[u8]) -> bool
     bytes.iter().all(|byte| *byte == 0)
 }
 
-// Why a file or its name was not made stable. The name that a link leads to takes memory.
-fn writing_fault(error: io::Error) -> FileFault {
+// Why a name was not made stable. The name that a link leads to takes memory.
+fn name_fault(error: io::Error) -> FileFault
+    ensures { IsNameFault error result }
+{
     match error.kind() {
         ErrorKind::OutOfMemory => FileFault::NoMemory,
         _ => FileFault::from(error),
+    }
+}
+
+// Why no file is made where a link leads: if that has no name that is a text, its folder could not
+// be synced.
+fn link_fault(error: io::Error) -> FileFault
+    ensures { IsLinkFault error result }
+{
+    match error.kind() {
+        ErrorKind::InvalidFilename => FileFault::FolderUnsynced,
+        _ => name_fault(error),
     }
 }
 
@@ -193,7 +211,7 @@ fn fill<N: Host>(
     opened: &mut N::File,
     file: &str,
     zeros: &[u8],
-) -> io::Result<()>
+) -> Result<(), FileFault>
     ensures same { OnOk result (IsSame (N.File.state opened.old) (N.File.state opened.new)) }
     ensures asked { OnOk result (IsWrittenAfter file.now zeros.now
         (N.File.state opened.old).calls (N.File.state opened.new).calls) }
@@ -208,14 +226,15 @@ fn fill<N: Host>(
 
 // Writes all of a file, so that each byte has room on the device, and makes it and its name
 // stable. It has its size at once, so that a stop half way leaves a file that a new session can
-// still be begun in.
+// still be begun in. A folder that cannot be synced is a fault here: what is answered `ok` would go
+// with the name of a file that is new.
 fn write_whole<N: Host>(
     host: &N,
     alloc: Global,
     opened: &mut N::File,
     file: &str,
     bytes: &[u8],
-) -> io::Result<()>
+) -> Result<(), FileFault>
     ensures same { OnOk result (IsSame (N.File.state opened.old) (N.File.state opened.new)) }
     ensures asked { OnOk result (IsWrittenAfter file.now bytes.now
         (N.File.state opened.old).calls (N.File.state opened.new).calls) }
@@ -223,7 +242,10 @@ fn write_whole<N: Host>(
     opened.set_length(bytes.len() as u64)?;
     opened.write_at(0, bytes)?;
     opened.sync_all()?;
-    sync_folder(host, alloc, opened, file)
+    if !sync_folder_if_it_may_be(host, alloc, opened, file)? {
+        return Err(FileFault::FolderUnsynced);
+    }
+    Ok(())
 }
 
 // Makes the name of a file stay after a power cut, in the folder that links lead to.
@@ -239,8 +261,8 @@ fn sync_folder<N: Host>(host: &N, alloc: Global, opened: &mut N::File, file: &st
     host.sync_folder(opened, folder_of(real_path.as_str()))
 }
 
-// The folder of the file of this name.
-fn folder_of(name: &str) -> &str
+/// The folder of the file of this name.
+pub(crate) fn folder_of(name: &str) -> &str
     ensures { result.now ≡ folder_of name.now }
 {
     match Path::new(name).parent() {
@@ -249,14 +271,14 @@ fn folder_of(name: &str) -> &str
     }
 }
 
-// Makes the name of a file that was there stay: whether it was done. It is not where the folder may
-// not be read, where the host syncs no folder, and where a link leads to one whose name is no text.
+// Makes the name of a file stay: whether it was done. It is not if the folder may not be read, if the
+// host syncs no folder, and if a link leads to a folder whose name is not a text.
 fn sync_folder_if_it_may_be<N: Host>(
     host: &N,
     alloc: Global,
     opened: &mut N::File,
     file: &str,
-) -> io::Result<bool>
+) -> Result<bool, FileFault>
     ensures same { OnOk result (IsSame (N.File.state opened.old) (N.File.state opened.new)) }
     ensures asked { IfOk result (λ done. FolderCalls file.now done
         (N.File.state opened.old).calls (N.File.state opened.new).calls) }
@@ -267,7 +289,7 @@ fn sync_folder_if_it_may_be<N: Host>(
             ErrorKind::PermissionDenied | ErrorKind::InvalidInput | ErrorKind::InvalidFilename => {
                 Ok(false)
             }
-            _ => Err(error),
+            _ => Err(name_fault(error)),
         },
     }
 }

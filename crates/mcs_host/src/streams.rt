@@ -1,21 +1,27 @@
 //! The standard streams of the program: each is open before a file is opened, and none of them goes
-//! into a session file.
-ghost use Rattle.std.specs.Prelude.{◌≡◌, ◌↔◌, IsTrue, false};
+//! into a session file. std asks no descriptor which file is open under it, so the host is asked by
+//! the names below /proc/self/fd. If it does not answer, nothing is begun.
+ghost use Rattle.std.specs.Prelude.{◌≡◌, ◌≢◌, ◌⊎◌, ◌↔◌, IfErr, IfOk, IsErr, IsErrAnd, IsErrOf, IsNone, IsOk, IsTrue, Err, None, Ok, Some, false};
+ghost use Rattle.std.specs.Fs.{file_type, metadata_len, IsDir, IsFile};
+ghost use Rattle.mcs_host.specs.declared.file_fault.FileFault.TheVariants.{Folder, NotAFile};
+ghost use Rattle.mcs_host.specs.FileFaults.{IsAbsent, IsHostFault, IsOtherFile, IsUnanswered};
 ghost use Rattle.mcs_host.specs.Streams.{none_of_them};
 ghost use Rattle.mcs_journal.specs.declared.format.TheConstants.{NAME};
 
+use crate::file_fault::FileFault;
 use mcs_journal::FILE_SIZE;
 use std::fs::{self, File, Metadata};
-use std::io;
+use std::io::{self, ErrorKind, IsTerminal};
 use std::os::fd::AsFd;
 use std::os::unix::fs::{FileExt, MetadataExt};
 use std::rt::Files;
+use thiserror::Error;
 
-const INPUT: &str = "/dev/stdin";
+const INPUT: &str = "/proc/self/fd/0";
 
-const OUTPUT: &str = "/dev/stdout";
+const OUTPUT: &str = "/proc/self/fd/1";
 
-const ERRORS: &str = "/dev/stderr";
+const ERRORS: &str = "/proc/self/fd/2";
 
 /// Some of the standard streams.
 #[derive(Clone, Copy, Debug, PartialEq, Eq)]
@@ -48,6 +54,29 @@ impl Streams {
     }
 }
 
+/// Why the program cannot begin with its standard streams.
+#[derive(Clone, Copy, Debug, PartialEq, Eq, Error)]
+pub enum StreamsFault {
+    /// Standard output or standard error goes into a session file.
+    #[error("standard output or standard error is a session file")]
+    IntoSession,
+    /// The host does not answer which file a stream is, as where /proc is not mounted.
+    #[error("the files of the standard streams are unknown")]
+    Unknown,
+    /// A stream is closed, and /dev/null cannot be opened in its place.
+    #[error("a closed standard stream has no stand-in")]
+    NoStandIn,
+}
+
+/// The standard streams were refused.
+#[derive(Clone, Copy, Debug)]
+pub struct RefusedStreams {
+    /// Why.
+    pub fault: StreamsFault,
+    /// The streams that may be session files: the program writes nothing to them.
+    pub unusable: Streams,
+}
+
 /// Files in the place of the standard streams that were closed as the program began. While they are
 /// there, no file that is opened gets the number of a stream; a stand-in is at its end for one who
 /// reads, and takes nothing.
@@ -59,9 +88,26 @@ pub struct StandIns {
 }
 
 impl StandIns {
-    /// Opens a stand-in for each standard stream that is closed. In this order each gets the number
-    /// of its stream, the lowest one that is free. An `Err` comes where the host refuses one.
-    pub fn open(rt: &HostRuntime) -> io::Result<StandIns> {
+    /// Opens a stand-in for each standard stream that is closed, and looks at all three. An `Err`
+    /// comes if one may go into a session file: see [`StreamsFault`].
+    pub fn open(rt: &HostRuntime) -> Result<StandIns, RefusedStreams> {
+        let opened = StandIns::in_place(rt);
+        let input = what_is_found(answers(rt, INPUT), rt.stdin().is_terminal());
+        let output = what_is_found(is_session(rt, OUTPUT), rt.stdout().is_terminal());
+        let errors = what_is_found(is_session(rt, ERRORS), rt.stderr().is_terminal());
+        let fault = match opened {
+            Err(_) => StreamsFault::NoStandIn,
+            Ok(stand_ins) => match refused(input, output, errors) {
+                None => return Ok(stand_ins),
+                Some(fault) => fault,
+            },
+        };
+        let unusable = unusable(output, errors);
+        Err(RefusedStreams { fault, unusable })
+    }
+
+    // In this order each gets the number of its stream, the lowest one that is free.
+    fn in_place(rt: &HostRuntime) -> io::Result<StandIns> {
         Ok(StandIns {
             input: stand_in(rt, &rt.stdin())?,
             output: stand_in(rt, &rt.stdout())?,
@@ -78,49 +124,93 @@ fn stand_in<S: AsFd>(rt: &HostRuntime, stream: &S) -> io::Result<Option<File>> {
     }
 }
 
-/// The standard streams that are the regular file of this name; none where that cannot be told.
-pub(crate) fn streams_that_are<R: Files>(rt: &R, file: &str) -> Streams {
-    match fs::metadata(rt, file) {
-        Ok(named) if named.is_file() => Streams {
-            input: is_stream(rt, INPUT, &named),
-            output: is_stream(rt, OUTPUT, &named),
-            errors: is_stream(rt, ERRORS, &named),
+/// What the host says of a standard stream.
+#[derive(Clone, Copy, Debug, PartialEq, Eq)]
+enum Found {
+    /// It is a session file, or one of its size that may not be read.
+    Session,
+    /// It is something else.
+    Other,
+    /// It does not say.
+    Unknown,
+}
+
+// What a stream is by the answer whether it is a session file; a terminal is none.
+fn what_is_found(answer: io::Result<bool>, is_terminal: bool) -> Found
+    ensures session { IfOk answer (λ yes. IsTrue yes → result ≡ Found.Session) }
+    ensures other { IfOk answer (λ yes. yes ≡ false → result ≡ Found.Other) }
+    ensures unknown { IsErr answer → is_terminal ≡ false → result ≡ Found.Unknown }
+{
+    match answer {
+        Ok(true) => Found::Session,
+        Ok(false) => Found::Other,
+        Err(_) if is_terminal => Found::Other,
+        Err(_) => Found::Unknown,
+    }
+}
+
+// Why nothing is begun with these streams; none where it is.
+fn refused(input: Found, output: Found, errors: Found) -> Option<StreamsFault>
+    ensures input { IsNone result → input ≢ Found.Unknown }
+    ensures output { IsNone result → output ≡ Found.Other }
+    ensures errors { IsNone result → errors ≡ Found.Other }
+    ensures session { result ≡ Some StreamsFault.IntoSession
+        → (output ≡ Found.Session) ⊎ (errors ≡ Found.Session) }
+    ensures unknown { result ≡ Some StreamsFault.Unknown
+        → (input ≡ Found.Unknown) ⊎ (output ≡ Found.Unknown) ⊎ (errors ≡ Found.Unknown) }
+{
+    match (output, errors) {
+        (Found::Session, _) | (_, Found::Session) => Some(StreamsFault::IntoSession),
+        (Found::Unknown, _) | (_, Found::Unknown) => Some(StreamsFault::Unknown),
+        (Found::Other, Found::Other) => match input {
+            Found::Unknown => Some(StreamsFault::Unknown),
+            Found::Session | Found::Other => None,
         },
-        _ => Streams::none(),
     }
 }
 
-fn is_stream<R: Files>(rt: &R, stream: &str, named: &Metadata) -> bool {
-    match fs::metadata(rt, stream) {
-        Ok(ours) => is_same_file(&ours, named),
-        Err(_) => false,
-    }
-}
-
-/// Both are of one file.
-pub(crate) fn is_same_file(one: &Metadata, other: &Metadata) -> bool {
-    one.dev() == other.dev() && one.ino() == other.ino()
-}
-
-/// The standard streams that go into a session file, whichever it is, or into one that may not be
-/// read and has the size of such a file.
-pub fn streams_into_sessions<R: Files<File = File>>(rt: &R) -> Streams
-    ensures { result.input ≡ false }
+// The streams that get nothing.
+fn unusable(output: Found, errors: Found) -> Streams
+    ensures output { result.output ≡ false ↔ output ≡ Found.Other }
+    ensures errors { result.errors ≡ false ↔ errors ≡ Found.Other }
 {
     Streams {
         input: false,
-        output: is_session(rt, OUTPUT),
-        errors: is_session(rt, ERRORS),
+        output: may_be_session(output),
+        errors: may_be_session(errors),
     }
 }
 
-fn is_session<R: Files<File = File>>(rt: &R, stream: &str) -> bool {
-    match fs::metadata(rt, stream) {
-        Ok(file) if file.is_file() && file.len() == FILE_SIZE as u64 => {
-            has_session_name(rt, stream).unwrap_or(true)
-        }
-        _ => false,
+fn may_be_session(stream: Found) -> bool
+    ensures { result ≡ false ↔ stream ≡ Found.Other }
+{
+    match stream {
+        Found::Other => false,
+        Found::Session | Found::Unknown => true,
     }
+}
+
+// The host says which file a stream is. (That it is a session file is no matter of input.)
+fn answers<R: Files>(rt: &R, stream: &str) -> io::Result<bool> {
+    fs::metadata(rt, stream)?;
+    Ok(false)
+}
+
+// A stream is a session file, whichever it is, or one of its size that may not be read.
+fn is_session<R: Files<File = File>>(rt: &R, stream: &str) -> io::Result<bool> {
+    if !has_session_size(&fs::metadata(rt, stream)?) {
+        return Ok(false);
+    }
+    Ok(has_session_name(rt, stream).unwrap_or(true))
+}
+
+// It is a regular file of a session's size.
+fn has_session_size(file: &Metadata) -> bool
+    ensures file { IsTrue result → IsFile (file_type file.now) }
+    ensures size { IsTrue result → metadata_len file.now ≡ FILE_SIZE }
+    ensures both { IsFile (file_type file.now) → metadata_len file.now ≡ FILE_SIZE → IsTrue result }
+{
+    file.is_file() && file.len() == FILE_SIZE as u64
 }
 
 fn has_session_name<R: Files<File = File>>(rt: &R, stream: &str) -> io::Result<bool> {
@@ -129,9 +219,60 @@ fn has_session_name<R: Files<File = File>>(rt: &R, stream: &str) -> io::Result<b
     Ok(is_session_name(&found))
 }
 
-// These are the bytes that a session file begins with.
-fn is_session_name(found: &[u8; 8]) -> bool
+/// These are the bytes that a session file begins with.
+pub(crate) fn is_session_name(found: &[u8]) -> bool
     ensures { IsTrue result ↔ (found.now ≡ NAME) }
 {
-    found == b"MCS4BEN1"
+    found == b"MCS4BEN1".as_slice()
+}
+
+/// The standard streams that are the file of this name, which is regular or not there yet.
+pub(crate) fn streams_that_are<R: Files>(rt: &R, file: &str) -> Result<Streams, FileFault> {
+    match regular_file(fs::metadata(rt, file))? {
+        Some(named) => streams_on(rt, &named),
+        None => Ok(Streams::none()),
+    }
+}
+
+// The regular file of a name, by what the host answers of the name; none if no file has it.
+fn regular_file(answer: io::Result<Metadata>) -> Result<Option<Metadata>, FileFault>
+    ensures file { IfOk answer (λ named. IsFile (file_type named) → result ≡ Ok (Some named)) }
+    ensures folder { IfOk answer (λ named. IsDir (file_type named) → result ≡ Err Folder) }
+    ensures other { IfOk answer (λ named. IsOtherFile (file_type named) → result ≡ Err NotAFile) }
+    ensures absent { IfErr answer (λ error. IsAbsent error → result ≡ Ok None) }
+    ensures refused { IfErr answer (λ error. IsUnanswered error → IsErrAnd result (IsHostFault error)) }
+{
+    match answer {
+        Ok(named) if named.is_dir() => Err(FileFault::Folder),
+        Ok(named) if !named.is_file() => Err(FileFault::NotAFile),
+        Ok(named) => Ok(Some(named)),
+        Err(error) => match error.kind() {
+            ErrorKind::NotFound | ErrorKind::NotADirectory => Ok(None),
+            _ => Err(FileFault::from(error)),
+        },
+    }
+}
+
+fn streams_on<R: Files>(rt: &R, named: &Metadata) -> Result<Streams, FileFault> {
+    Ok(Streams {
+        input: is_stream(fs::metadata(rt, INPUT), named)?,
+        output: is_stream(fs::metadata(rt, OUTPUT), named)?,
+        errors: is_stream(fs::metadata(rt, ERRORS), named)?,
+    })
+}
+
+// The stream that the host answered this of is that file; no answer is no "no".
+fn is_stream(answer: io::Result<Metadata>, named: &Metadata) -> Result<bool, FileFault>
+    ensures answered { IsOk answer → IsOk result }
+    ensures unanswered { IsErr answer → IsErrOf result FileFault.StreamsUnknown }
+{
+    match answer {
+        Ok(stream) => Ok(is_same_file(&stream, named)),
+        Err(_) => Err(FileFault::StreamsUnknown),
+    }
+}
+
+/// Both are of one file.
+pub(crate) fn is_same_file(one: &Metadata, other: &Metadata) -> bool {
+    one.dev() == other.dev() && one.ino() == other.ino()
 }

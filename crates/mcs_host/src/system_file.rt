@@ -3,8 +3,10 @@
 ghost use Rattle.mcs_host.specs.SystemFile.{system_state};
 ghost use Rattle.std.specs.Prelude.{◌≡◌, [], length};
 
+use crate::file_fault::FileFault;
 use crate::host_file::{Host, HostFile};
 use crate::host_record::{Asked, HostRecord};
+use crate::opening::folder_of;
 use crate::streams::{Streams, is_same_file, streams_that_are};
 use std::alloc::Global;
 use std::fs::{self, File, OpenOptions, TryLockError};
@@ -13,6 +15,9 @@ use std::os::fd::AsRawFd;
 use std::os::unix::fs::FileExt;
 use std::path::PathBuf;
 use std::rt::Files;
+
+/// So many links the host follows from a name, at most.
+const MOST_LINKS: u32 = 40;
 
 /// An open file of the system.
 #[derive(Drop)]
@@ -24,8 +29,8 @@ pub struct SystemFile {
 impl SystemFile {
     fn new(file: File, name: &str) -> SystemFile
         ensures file { result.file ≡ file }
-        ensures name { result.history.name ≡ name.now }
-        ensures calls { result.history.calls ≡ [] }
+        ensures name { result.history.start ≡ name.now }
+        ensures calls { result.history.notes ≡ [] }
     {
         let history = HostRecord::new(name.as_bytes());
         SystemFile { file, history }
@@ -93,8 +98,12 @@ fn length_of(file: &File) -> io::Result<u64> {
 impl<R: Files<File = File>> Host for R {
     type File = SystemFile;
 
-    fn streams_that_are(&self, name: &str) -> Streams {
+    fn streams_that_are(&self, name: &str) -> Result<Streams, FileFault> {
         streams_that_are(self, name)
+    }
+
+    fn can_be_removed(&self, alloc: Global, name: &str) -> io::Result<()> {
+        can_be_removed(self, alloc, name)
     }
 
     fn open(&self, name: &str) -> io::Result<SystemFile> {
@@ -163,6 +172,22 @@ fn stands_for<R: Files<File = File>>(rt: &R, name: &str, file: &File) -> io::Res
 
 fn is_name_of_link<R: Files<File = File>>(rt: &R, name: &str) -> io::Result<bool> {
     Ok(fs::symlink_metadata(rt, name)?.is_symlink())
+}
+
+// Follows links that lead to no file, as far as the host does.
+fn can_be_removed<R: Files<File = File>>(rt: &R, alloc: Global, name: &str) -> io::Result<()> {
+    let mut link = PathBuf::from_str(alloc, name)?;
+    for _ in 0..MOST_LINKS {
+        match fs::symlink_metadata(rt, link.as_str()) {
+            Ok(found) if found.is_symlink() => {}
+            _ => break,
+        }
+        let target = rt.read_link(alloc, link.as_str())?;
+        let folder = PathBuf::from_str(alloc, folder_of(link.as_str()))?;
+        link = folder.join(alloc, target.as_str())?;
+        let _real_folder = rt.canonicalize(alloc, folder_of(link.as_str()))?;
+    }
+    Ok(())
 }
 
 fn sync_folder<R: Files<File = File>>(rt: &R, folder: &str) -> io::Result<()> {

@@ -5,8 +5,9 @@ use Rattle.mcs_disk.specs.Calls.{DiskCall, Synced, WasRead}
 use Rattle.mcs_disk.proofs.Calling.{one_by_one, one_of_made, one_of_reads, one_then, unsynced-reads, none_added}
 use Rattle.mcs_journal.specs.Calls.{MakesWithArea, RefusedCreateCalls, RefusedOpenCalls, append_calls, create_calls, many_reads, open_calls, replace_calls}
 use Rattle.mcs_journal.specs.declared.slot.Slot.{Slot}
-use Rattle.mcs_journal.specs.declared.fault.CreateFault.{CreateFault}
-use Rattle.mcs_journal.specs.declared.fault.CreateFault.TheVariants as create_fault
+use Rattle.mcs_journal.proofs.Refusing.{IsHeaderFault}
+use Rattle.mcs_journal.specs.declared.fault.StoreFault.{StoreFault}
+use Rattle.mcs_journal.specs.declared.fault.StoreFault.TheVariants as store_fault
 
 -- two commits after calls that are synced
 module _ (old : List DiskCall) (synced : unsynced old ≡ 0) where
@@ -27,12 +28,14 @@ module _ (old : List DiskCall) (synced : unsynced old ≡ 0) where
   same_one : (new : List DiskCall) → new ≡ old → OneUnsynced old new
   same_one new same = subst (OneUnsynced old) (sym same) (none_added old)
 
-  pub refused_create_one : {T E : Type 0} (fault : CreateFault) (snap : List ℕ) (new : List DiskCall) (result : Result T E) → RefusedCreateCalls fault snap old new result → OneUnsynced old new
-  refused_create_one create_fault.NotBlank snap new result (inl same) = same_one new same
-  refused_create_one create_fault.NotBlank snap new result (inr read) = subst (OneUnsynced old) (sym read) one_read
-  refused_create_one create_fault.Device snap new result (inl same) = same_one new same
-  refused_create_one create_fault.Device snap new result (inr makes) = create_one snap new result makes
-  refused_create_one create_fault.NoMemory snap new result same = same_one new same
+  pub refused_create_one : {T E : Type 0} (fault : StoreFault) (snap : List ℕ) (new : List DiskCall) (result : Result T E) → RefusedCreateCalls fault snap old new result → OneUnsynced old new
+  refused_create_one store_fault.NotBlank snap new result (inl same) = same_one new same
+  refused_create_one store_fault.NotBlank snap new result (inr read) = subst (OneUnsynced old) (sym read) one_read
+  refused_create_one store_fault.Device snap new result (inl same) = same_one new same
+  refused_create_one store_fault.Device snap new result (inr makes) = create_one snap new result makes
+  refused_create_one store_fault.NoMemory snap new result same = same_one new same
+  refused_create_one store_fault.NotASession snap new result none = absurd none
+  refused_create_one store_fault.Damaged snap new result none = absurd none
 
 -- the same calls, told of an answer of another type
 pub area_ok : {T E U V : Type 0} (snap : List ℕ) (calls : List ℕ → List DiskCall) (old mid new : List DiskCall) (x : T) (y : U) → mid ≡ old
@@ -46,28 +49,30 @@ area_err snap calls old mid new e f same makes =
     record { area = makes.area; is_area = makes.is_area; made = record { all = tt; cut = subst (λ (l : List DiskCall). CutShort (calls makes.area) l new) same makes.made.cut } }
 
 -- the header was read
-pub header_read : (old new : List DiskCall) {T : Type 0} (x : T) (A : Type 0) → Makes {T = T} {E = CreateFault} (WasRead ∷ []) old new (Ok x) ⊎ (IsErrOf {T = T} {E = CreateFault} (Ok x) create_fault.NotBlank × A) → new ≡ WasRead ∷ old
+pub header_read : (old new : List DiskCall) {T : Type 0} (x : T) (A : Type 0) → Makes {T = T} {E = StoreFault} (WasRead ∷ []) old new (Ok x) ⊎ (IsErrOf {T = T} {E = StoreFault} (Ok x) store_fault.NotBlank × A) → new ≡ WasRead ∷ old
 header_read old new x A (inl made) = made.all
 header_read old new x A (inr other) = absurd (told other.0)
   where
-    told : IsErrOf (Ok x) create_fault.NotBlank → ⊥
+    told : IsErrOf (Ok x) store_fault.NotBlank → ⊥
     told none = cc
 
-not_both : {T : Type 0} (read : Result T CreateFault) → read ≡ Err create_fault.Device → read ≡ Err create_fault.NotBlank → ⊥
+not_both : {T : Type 0} (read : Result T StoreFault) → read ≡ Err store_fault.Device → read ≡ Err store_fault.NotBlank → ⊥
 not_both read device not_blank = cc
 
 -- it was not, or was not blank
-pub refused_by_header : {T U V : Type 0} (fault : CreateFault) (snap : List ℕ) (old new : List DiskCall) (read : Result T CreateFault) (result : Result U V) → read ≡ Err fault → (IsErrOf read create_fault.NoMemory → ⊥)
-    → Makes (WasRead ∷ []) old new read ⊎ (IsErrOf read create_fault.NotBlank × (new ≡ WasRead ∷ old)) → RefusedCreateCalls fault snap old new result
-refused_by_header fault snap old new (Ok x) result is memory calls = absurd (no is)
+pub refused_by_header : {T U V : Type 0} (fault : StoreFault) (snap : List ℕ) (old new : List DiskCall) (read : Result T StoreFault) (result : Result U V) → read ≡ Err fault → IsHeaderFault fault
+    → Makes (WasRead ∷ []) old new read ⊎ (IsErrOf read store_fault.NotBlank × (new ≡ WasRead ∷ old)) → RefusedCreateCalls fault snap old new result
+refused_by_header fault snap old new (Ok x) result is of calls = absurd (no is)
   where
     no : Ok x ≡ Err fault → ⊥
     no same = cc
-refused_by_header create_fault.NotBlank snap old new (Err e) result is memory (inl made) = inl (⊎_elim (λ same. same) (λ none. absurd none) made.cut)
-refused_by_header create_fault.NotBlank snap old new (Err e) result is memory (inr read) = inr read.1
-refused_by_header create_fault.Device snap old new (Err e) result is memory (inl made) = inl (⊎_elim (λ same. same) (λ none. absurd none) made.cut)
-refused_by_header create_fault.Device snap old new (Err e) result is memory (inr read) = absurd (not_both (Err e) is read.0)
-refused_by_header create_fault.NoMemory snap old new (Err e) result is memory calls = absurd (memory is)
+refused_by_header store_fault.NotBlank snap old new (Err e) result is of (inl made) = inl (⊎_elim (λ same. same) (λ none. absurd none) made.cut)
+refused_by_header store_fault.NotBlank snap old new (Err e) result is of (inr read) = inr read.1
+refused_by_header store_fault.Device snap old new (Err e) result is of (inl made) = inl (⊎_elim (λ same. same) (λ none. absurd none) made.cut)
+refused_by_header store_fault.Device snap old new (Err e) result is of (inr read) = absurd (not_both (Err e) is read.0)
+refused_by_header store_fault.NoMemory snap old new (Err e) result is of calls = absurd (⊎_elim (λ same. cc) (λ same. cc) of)
+refused_by_header store_fault.NotASession snap old new (Err e) result is of calls = absurd (⊎_elim (λ same. cc) (λ same. cc) of)
+refused_by_header store_fault.Damaged snap old new (Err e) result is of calls = absurd (⊎_elim (λ same. cc) (λ same. cc) of)
 
 -- after a sync, reads
 pub open_one : (n : ℕ) (old new : List DiskCall) → new ≡ open_calls n ++ old → OneUnsynced old new

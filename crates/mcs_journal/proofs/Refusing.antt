@@ -1,15 +1,13 @@
 -- What `create` and `open` answer follows from what their parts answered.
-use Rattle.std.proofs.Common.{◌≡◌, ◌≢◌, inr, ⊎_elim, refl, ◌∙◌, ap, Result, Ok, Err, IsErrOf}
+use Rattle.std.proofs.Common.{◌≡◌, ◌≢◌, ◌⊎◌, inl, inr, ⊎_elim, refl, sym, ◌∙◌, ap, subst, Result, Ok, Err, IsErrOf}
 use Rattle.mcs_disk.specs.Disk.{CountsFault, DiskState, part, bytes_of, size_of}
 use Rattle.mcs_disk.specs.Stretches.{AddsNoImage}
 use Rattle.mcs_disk.proofs.Composing.{counts_as}
-use Rattle.mcs_journal.specs.StoreCalls.{RefusesCreate, RefusesOpen, HoldsNone}
+use Rattle.mcs_journal.specs.StoreCalls.{IsCreateFault, IsOpenFault, RefusesCreate, RefusesOpen, HoldsNone}
 use Rattle.mcs_journal.specs.File.{IsBlank}
 use Rattle.mcs_journal.specs.declared.format.TheConstants.{FILE_SIZE, NAME}
-use Rattle.mcs_journal.specs.declared.fault.OpenFault.{OpenFault}
-use Rattle.mcs_journal.specs.declared.fault.OpenFault.TheVariants as open_fault
-use Rattle.mcs_journal.specs.declared.fault.CreateFault.{CreateFault}
-use Rattle.mcs_journal.specs.declared.fault.CreateFault.TheVariants as create_fault
+use Rattle.mcs_journal.specs.declared.fault.StoreFault.{StoreFault}
+use Rattle.mcs_journal.specs.declared.fault.StoreFault.TheVariants as store_fault
 
 pub counts_ok : {T E : Type 0} (old new : DiskState) (result : Result T E) (device : E) (x : T) → result ≡ Ok x → CountsFault old new (IsErrOf result device) → CountsFault old new ⊥
 counts_ok old new result device x is counts = counts_as old new (IsErrOf result device) ⊥ (λ failed. cc) (λ none. absurd none) counts
@@ -17,14 +15,33 @@ counts_ok old new result device x is counts = counts_as old new (IsErrOf result 
 pub counts_err : {T E : Type 0} (old new : DiskState) (result : Result T E) (device fault : E) → result ≡ Err fault → CountsFault old new (IsErrOf result device) → CountsFault old new (fault ≡ device)
 counts_err old new result device fault is counts = counts_as old new (IsErrOf result device) (fault ≡ device) (λ failed. cc) (λ same. is ∙ ap Err same) counts
 
-pub refuses_create : (fault : CreateFault) (old new : DiskState) → AddsNoImage old new → (fault ≡ create_fault.NotBlank → IsBlank old → ⊥) → RefusesCreate fault old new
-refuses_create create_fault.NotBlank old new rests not_blank = (not_blank refl, rests)
-refuses_create create_fault.Device old new rests not_blank = rests.later
-refuses_create create_fault.NoMemory old new rests not_blank = tt
+-- what the read of the header answers of these
+abbrev pub IsHeaderFault : StoreFault → Type 0
+IsHeaderFault fault = (fault ≡ store_fault.NotBlank) ⊎ (fault ≡ store_fault.Device)
 
-pub refuses_open : (fault : OpenFault) (disk : DiskState) → size_of disk ≡ FILE_SIZE → (fault ≡ open_fault.NotASession → part 0 8 (bytes_of disk) ≢ NAME)
-    → (fault ≡ open_fault.Damaged → part 0 8 (bytes_of disk) ≡ NAME) → (fault ≡ open_fault.Damaged → HoldsNone disk) → RefusesOpen fault disk
-refuses_open open_fault.NotASession disk sized unnamed named none = inr (unnamed refl)
-refuses_open open_fault.Damaged disk sized unnamed named none = (⊎_elim (λ other. other sized) (λ other. other (named refl)), none refl)
-refuses_open open_fault.Device disk sized unnamed named none = tt
-refuses_open open_fault.NoMemory disk sized unnamed named none = tt
+pub header_fault : (fault : StoreFault) → IsHeaderFault fault → IsCreateFault fault
+header_fault fault (inl is) = subst IsCreateFault (sym is) tt
+header_fault fault (inr is) = subst IsCreateFault (sym is) tt
+
+pub header_has_memory : (fault : StoreFault) → IsHeaderFault fault → fault ≡ store_fault.NoMemory → ⊥
+header_has_memory fault (inl is) none = cc
+header_has_memory fault (inr is) none = cc
+
+pub refuses_create : (fault : StoreFault) (old new : DiskState) → IsHeaderFault fault → AddsNoImage old new → (fault ≡ store_fault.NotBlank → IsBlank old → ⊥) → RefusesCreate fault old new
+refuses_create fault old new (inl is) rests not_blank = subst (λ (f : StoreFault). RefusesCreate f old new) (sym is) (not_blank is, rests)
+refuses_create fault old new (inr is) rests not_blank = subst (λ (f : StoreFault). RefusesCreate f old new) (sym is) rests.later
+
+pub open_fault : (fault : StoreFault) → (fault ≡ store_fault.NotBlank → ⊥) → IsOpenFault fault
+open_fault store_fault.NotASession not_blank = tt
+open_fault store_fault.Damaged not_blank = tt
+open_fault store_fault.Device not_blank = tt
+open_fault store_fault.NoMemory not_blank = tt
+open_fault store_fault.NotBlank not_blank = not_blank refl
+
+pub refuses_open : (fault : StoreFault) (disk : DiskState) → (fault ≡ store_fault.NotBlank → ⊥) → size_of disk ≡ FILE_SIZE → (fault ≡ store_fault.NotASession → part 0 8 (bytes_of disk) ≢ NAME)
+    → (fault ≡ store_fault.Damaged → part 0 8 (bytes_of disk) ≡ NAME) → (fault ≡ store_fault.Damaged → HoldsNone disk) → RefusesOpen fault disk
+refuses_open store_fault.NotASession disk not_blank sized unnamed named none = inr (unnamed refl)
+refuses_open store_fault.Damaged disk not_blank sized unnamed named none = (⊎_elim (λ other. other sized) (λ other. other (named refl)), none refl)
+refuses_open store_fault.Device disk not_blank sized unnamed named none = tt
+refuses_open store_fault.NoMemory disk not_blank sized unnamed named none = tt
+refuses_open store_fault.NotBlank disk not_blank sized unnamed named none = not_blank refl

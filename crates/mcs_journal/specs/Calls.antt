@@ -5,8 +5,8 @@ use Rattle.mcs_disk.specs.CallList.{Makes}
 use Rattle.mcs_disk.specs.Calls.{DiskCall, Synced, WasRead, Wrote}
 use Rattle.mcs_journal.specs.File.{be16, start_of}
 use Rattle.mcs_journal.specs.Writing.{IsArea, selector_of}
-use Rattle.mcs_journal.specs.declared.fault.CreateFault.{CreateFault}
-use Rattle.mcs_journal.specs.declared.fault.CreateFault.TheVariants as create_fault
+use Rattle.mcs_journal.specs.declared.fault.StoreFault.{StoreFault}
+use Rattle.mcs_journal.specs.declared.fault.StoreFault.TheVariants as store_fault
 use Rattle.mcs_journal.specs.declared.format.TheConstants.{FIRST_HEADER, SELECTOR_OFFSET}
 use Rattle.mcs_journal.specs.declared.slot.Slot.{Slot}
 use Rattle.mcs_journal.specs.declared.slot.Slot.TheVariants.{A}
@@ -54,12 +54,14 @@ pub record MakesWithArea {T E : Type 0} (snap : List ℕ) (calls : List ℕ → 
   pub made : Makes (calls area) old new result
 
 -- the calls that are noted of a refused `create` (a read or a sync that failed is not)
-abbrev pub RefusedCreateCalls : {T E : Type 0} → CreateFault → List ℕ → List DiskCall → List DiskCall
+abbrev pub RefusedCreateCalls : {T E : Type 0} → StoreFault → List ℕ → List DiskCall → List DiskCall
     → Result T E → Type 0
-RefusedCreateCalls create_fault.NotBlank snap old new result = (new ≡ old) ⊎ (new ≡ WasRead ∷ old)
-RefusedCreateCalls create_fault.Device snap old new result =
+RefusedCreateCalls store_fault.NotBlank snap old new result = (new ≡ old) ⊎ (new ≡ WasRead ∷ old)
+RefusedCreateCalls store_fault.Device snap old new result =
     (new ≡ old) ⊎ MakesWithArea snap create_calls (WasRead ∷ old) new result
-RefusedCreateCalls create_fault.NoMemory snap old new result = new ≡ old
+RefusedCreateCalls store_fault.NoMemory snap old new result = new ≡ old
+RefusedCreateCalls store_fault.NotASession snap old new result = ⊥
+RefusedCreateCalls store_fault.Damaged snap old new result = ⊥
 
 -- the calls that are noted of a refused `open`: none, or a sync and then reads, if any
 abbrev pub RefusedOpenCalls : List DiskCall → List DiskCall → Type 0

@@ -4,21 +4,36 @@ use Rattle.mcs_disk.specs.Disk.{DiskState, bytes_of, time_of, IsLater}
 use Rattle.mcs_disk.specs.Stretches.{AddsNoImage}
 use Rattle.mcs_disk.specs.PowerCut.{IsDurable}
 use Rattle.mcs_journal.specs.File.{Holds, IsBlank, IsNoSession}
-use Rattle.mcs_journal.specs.declared.fault.OpenFault.{OpenFault}
-use Rattle.mcs_journal.specs.declared.fault.OpenFault.TheVariants as open_fault
-use Rattle.mcs_journal.specs.declared.fault.CreateFault.{CreateFault}
-use Rattle.mcs_journal.specs.declared.fault.CreateFault.TheVariants as create_fault
+use Rattle.mcs_journal.specs.declared.fault.StoreFault.{StoreFault}
+use Rattle.mcs_journal.specs.declared.fault.StoreFault.TheVariants as store_fault
 
 -- the disk holds no contents: no snapshot with its records
 abbrev pub HoldsNone : DiskState → Type 0
 HoldsNone disk = (snap : List ℕ) (records : List (List ℕ)) → Holds (bytes_of disk) snap records → ⊥
 
+-- which errors `create` answers
+abbrev pub IsCreateFault : StoreFault → Type 0
+IsCreateFault store_fault.NotBlank = Unit {0}
+IsCreateFault store_fault.Device = Unit {0}
+IsCreateFault store_fault.NoMemory = Unit {0}
+IsCreateFault store_fault.NotASession = ⊥
+IsCreateFault store_fault.Damaged = ⊥
+
+-- which errors `open` answers
+abbrev pub IsOpenFault : StoreFault → Type 0
+IsOpenFault store_fault.NotASession = Unit {0}
+IsOpenFault store_fault.Damaged = Unit {0}
+IsOpenFault store_fault.Device = Unit {0}
+IsOpenFault store_fault.NoMemory = Unit {0}
+IsOpenFault store_fault.NotBlank = ⊥
+
 -- what a refusal of `open` says of the disk
-abbrev pub RefusesOpen : OpenFault → DiskState → Type 0
-RefusesOpen open_fault.NotASession disk = IsNoSession disk
-RefusesOpen open_fault.Damaged disk = ¬ (IsNoSession disk) × HoldsNone disk
-RefusesOpen open_fault.Device disk = Unit {0}
-RefusesOpen open_fault.NoMemory disk = Unit {0}
+abbrev pub RefusesOpen : StoreFault → DiskState → Type 0
+RefusesOpen store_fault.NotASession disk = IsNoSession disk
+RefusesOpen store_fault.Damaged disk = ¬ (IsNoSession disk) × HoldsNone disk
+RefusesOpen store_fault.Device disk = Unit {0}
+RefusesOpen store_fault.NoMemory disk = Unit {0}
+RefusesOpen store_fault.NotBlank disk = ⊥
 
 -- the disk held these contents and was not written, and every image holds them
 pub record Opens (old new : DiskState) (snap : List ℕ) (records : List (List ℕ)) : Type 0 where
@@ -27,10 +42,12 @@ pub record Opens (old new : DiskState) (snap : List ℕ) (records : List (List �
   pub durable : IsDurable new
 
 -- what a refusal of `create` says of the disk, and of what it did there
-abbrev pub RefusesCreate : CreateFault → DiskState → DiskState → Type 0
-RefusesCreate create_fault.NotBlank old new = ¬ (IsBlank old) × AddsNoImage old new
-RefusesCreate create_fault.Device old new = IsLater old new
-RefusesCreate create_fault.NoMemory old new = Unit {0}
+abbrev pub RefusesCreate : StoreFault → DiskState → DiskState → Type 0
+RefusesCreate store_fault.NotBlank old new = ¬ (IsBlank old) × AddsNoImage old new
+RefusesCreate store_fault.Device old new = IsLater old new
+RefusesCreate store_fault.NoMemory old new = Unit {0}
+RefusesCreate store_fault.NotASession old new = ⊥
+RefusesCreate store_fault.Damaged old new = ⊥
 
 -- the disk was blank, and now, five ticks later, every image holds this snapshot and no records
 pub record Creates (old new : DiskState) (snap : List ℕ) : Type 0 where

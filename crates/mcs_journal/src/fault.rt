@@ -5,73 +5,55 @@ use mcs_disk::DiskFault;
 use std::alloc::{AllocError, AllocFailed};
 use thiserror::Error;
 
-/// Why [`open`](crate::Store::open) refuses a disk.
+/// Why [`create`](crate::Store::create) or [`open`](crate::Store::open) refuses a disk. Clauses of
+/// both say which of these each answers (`IsCreateFault`, `IsOpenFault`).
 #[derive(Clone, Copy, Debug, PartialEq, Eq, Error)]
-pub enum OpenFault {
-    /// The size or the name is not that of a session file (50).
-    #[error("no session file; begin a session in another file")]
+pub enum StoreFault {
+    /// Of `open`: the size or the name is not that of a session file (50).
+    #[error("not a session file")]
     NotASession,
-    /// Size and name are right, and the bytes hold no contents: no snapshot with its records (51).
-    #[error("damaged; go on with a copy of it, if there is one")]
+    /// Of `open`: size and name are right, and the bytes hold no contents: no snapshot with its
+    /// records (51).
+    #[error("damaged")]
     Damaged,
-    /// A call on the disk failed (53).
-    #[error("the device failed; open it again")]
+    /// Of both: a call on the disk failed (53).
+    #[error("the device failed")]
     Device,
-    /// A buffer, the snapshot or a record found no memory (90).
-    #[error("out of memory")]
-    NoMemory,
-}
-
-/// Why [`create`](crate::Store::create) refuses a disk.
-#[derive(Clone, Copy, Debug, PartialEq, Eq, Error)]
-pub enum CreateFault {
-    /// The size is not that of a session file, or one of the first 16 bytes is not 0 (55).
+    /// Of `create`: the size is not that of a session file, or one of the first 16 bytes is not 0
+    /// (55).
     #[error("not blank")]
     NotBlank,
-    /// A call on the disk failed (53).
-    #[error("the device failed; remove it and begin again")]
-    Device,
-    /// The buffer found no memory (90).
+    /// Of both: a buffer, the snapshot or a record found no memory (90).
     #[error("out of memory")]
     NoMemory,
 }
 
-impl From<DiskFault> for OpenFault {
-    ghost use Rattle.mcs_journal.specs.declared.fault.OpenFault.TheVariants.{Device};
+impl From<DiskFault> for StoreFault {
+    ghost use Rattle.mcs_journal.specs.declared.fault.StoreFault.TheVariants.{Device};
 
     ghost from_gives = { λ _ e. e ≡ Device };
 
     fn from(_: DiskFault) -> Self {
-        OpenFault::Device
+        StoreFault::Device
     }
 }
 
-impl From<AllocError> for OpenFault {
-    ghost use Rattle.mcs_journal.specs.declared.fault.OpenFault.TheVariants.{NoMemory};
+impl From<AllocError> for StoreFault {
+    ghost use Rattle.mcs_journal.specs.declared.fault.StoreFault.TheVariants.{NoMemory};
 
     ghost from_gives = { λ _ e. e ≡ NoMemory };
 
     fn from(_: AllocError) -> Self {
-        OpenFault::NoMemory
+        StoreFault::NoMemory
     }
 }
 
-impl<T: Drop> From<AllocFailed<T>> for OpenFault {
-    ghost use Rattle.mcs_journal.specs.declared.fault.OpenFault.TheVariants.{NoMemory};
+impl<T: Drop> From<AllocFailed<T>> for StoreFault {
+    ghost use Rattle.mcs_journal.specs.declared.fault.StoreFault.TheVariants.{NoMemory};
 
     ghost from_gives = { λ _ e. e ≡ NoMemory };
 
     fn from(_: AllocFailed<T>) -> Self {
-        OpenFault::NoMemory
-    }
-}
-
-impl From<DiskFault> for CreateFault {
-    ghost use Rattle.mcs_journal.specs.declared.fault.CreateFault.TheVariants.{Device};
-
-    ghost from_gives = { λ _ e. e ≡ Device };
-
-    fn from(_: DiskFault) -> Self {
-        CreateFault::Device
+        StoreFault::NoMemory
     }
 }

@@ -11,7 +11,7 @@ ghost use Rattle.mcs_journal.specs.Calls.{AreReads, RefusedOpenCalls, many_reads
 ghost use Rattle.mcs_journal.specs.Writing.{IsHeader, IsNext, IsNoRecord, IsSnapshot};
 
 use crate::bytes::Bytes;
-use crate::fault::OpenFault;
+use crate::fault::StoreFault;
 use crate::format::{
     AREA_SIZE, COMMITTED, FRAME_HEAD, HEADER_SIZE, LOG_SIZE, MOST_RECORD, MOST_SNAPSHOT, NAME,
     NAME_SIZE, SELECTOR_OFFSET, SNAPSHOT_OFFSET, ZEROS, ZEROS_OFFSET,
@@ -40,12 +40,12 @@ pub fn read_record<D: Disk>(
     disk: &mut D,
     at: usize,
     room: usize,
-) -> Result<Option<Bytes>, OpenFault>
+) -> Result<Option<Bytes>, StoreFault>
     requires inside { at + room ≤ size_of (D.state disk.old) }
     requires fits { size_of (D.state disk.old) < 2 ^ 64 }
     requires some { 1 ≤ room }
     ensures reads { ReadsOnly (D.state disk.old) (D.state disk.new)
-        (IsErrOf result OpenFault.Device) }
+        (IsErrOf result StoreFault.Device) }
     ensures calls { IfOk result (λ o. IfNone o
         ((D.state disk.new).calls ≡ many_reads 1 ++ (D.state disk.old).calls)) }
     ensures record_calls { IfOk result (λ o. IfSome o (λ r.
@@ -57,9 +57,10 @@ pub fn read_record<D: Disk>(
         → IfOk result (λ o. IfNone o (slice_index (bytes_of (D.state disk.old)) at ≢ 1)) }
     ensures next { (D.state disk.old).honest
         → IfOk result (λ o. IfSome o (λ r. IsNext (bytes_of (D.state disk.old)) at r)) }
-    ensures damaged { (D.state disk.old).honest → IsErrOf result OpenFault.Damaged
+    ensures damaged { (D.state disk.old).honest → IsErrOf result StoreFault.Damaged
         → IsNoRecord (bytes_of (D.state disk.old)) at room }
-    ensures named { IsErrOf result OpenFault.NotASession → ⊥ }
+    ensures named { IsErrOf result StoreFault.NotASession → ⊥ }
+    ensures not_blank { IsErrOf result StoreFault.NotBlank → ⊥ }
 {
     let mut commit_byte = [0u8];
     read_at(disk, at, &mut commit_byte)?;
@@ -67,13 +68,13 @@ pub fn read_record<D: Disk>(
         return Ok(None);
     }
     if room < FRAME_HEAD + 2 {
-        return Err(OpenFault::Damaged);
+        return Err(StoreFault::Damaged);
     }
     let mut prefix = [0u8; 2];
     read_at(disk, at + 1, &mut prefix)?;
     let len = prefix[0] as usize * 256 + prefix[1] as usize;
     if len == 0 || len > MOST_RECORD || room < FRAME_HEAD + len + 1 {
-        return Err(OpenFault::Damaged);
+        return Err(StoreFault::Damaged);
     }
     let mut bytes = vec![in alloc; 0u8; len]?;
     read_at(disk, at + FRAME_HEAD, &mut bytes)?;
@@ -88,11 +89,11 @@ pub struct Log {
 }
 
 /// Reads the log at `at`, up to the first commit byte that is not 1.
-pub fn read_log<D: Disk>(alloc: Global, disk: &mut D, at: usize) -> Result<Log, OpenFault>
+pub fn read_log<D: Disk>(alloc: Global, disk: &mut D, at: usize) -> Result<Log, StoreFault>
     requires inside { at + LOG_SIZE ≤ size_of (D.state disk.old) }
     requires fits { size_of (D.state disk.old) < 2 ^ 64 }
     ensures reads { ReadsOnly (D.state disk.old) (D.state disk.new)
-        (IsErrOf result OpenFault.Device) }
+        (IsErrOf result StoreFault.Device) }
     ensures calls { IfOk result (λ log. (D.state disk.new).calls
         ≡ many_reads (1 + 3 * length log.records.items) ++ (D.state disk.old).calls) }
     ensures refused_calls { OnErr result
@@ -101,10 +102,11 @@ pub fn read_log<D: Disk>(alloc: Global, disk: &mut D, at: usize) -> Result<Log, 
     ensures found { (D.state disk.old).honest
         → IfOk result (λ log. IsLog log.records.items (part at LOG_SIZE (bytes_of (D.state disk.old)))
         × (log.used ≡ length (frames_of log.records.items))) }
-    ensures damaged { (D.state disk.old).honest → IsErrOf result OpenFault.Damaged
+    ensures damaged { (D.state disk.old).honest → IsErrOf result StoreFault.Damaged
         → (records : List (List ℕ)) → IsLog records (part at LOG_SIZE (bytes_of (D.state disk.old)))
         → ⊥ }
-    ensures named { IsErrOf result OpenFault.NotASession → ⊥ }
+    ensures named { IsErrOf result StoreFault.NotASession → ⊥ }
+    ensures not_blank { IsErrOf result StoreFault.NotBlank → ⊥ }
 {
     let mut records = Vec::new(alloc);
     let mut used = 0;
@@ -116,52 +118,58 @@ pub fn read_log<D: Disk>(alloc: Global, disk: &mut D, at: usize) -> Result<Log, 
 }
 
 /// Reads the header: the slot that its selector names.
-pub fn read_header<D: Disk>(disk: &mut D) -> Result<Slot, OpenFault>
+pub fn read_header<D: Disk>(disk: &mut D) -> Result<Slot, StoreFault>
     requires size { size_of (D.state disk.old) ≡ FILE_SIZE }
     ensures reads { ReadsOnly (D.state disk.old) (D.state disk.new)
-        (IsErrOf result OpenFault.Device) }
+        (IsErrOf result StoreFault.Device) }
     ensures calls { OnOk result ((D.state disk.new).calls ≡ many_reads 1 ++ (D.state disk.old).calls) }
     ensures refused_calls { OnErr result
         (AreReads (D.state disk.old).calls (D.state disk.new).calls) }
     ensures header { (D.state disk.old).honest
         → IfOk result (λ slot. IsHeader (bytes_of (D.state disk.old)) slot) }
-    ensures no_session { (D.state disk.old).honest → IsErrOf result OpenFault.NotASession
+    ensures no_session { (D.state disk.old).honest → IsErrOf result StoreFault.NotASession
         → part 0 8 (bytes_of (D.state disk.old)) ≢ NAME }
-    ensures damaged { (D.state disk.old).honest → IsErrOf result OpenFault.Damaged
+    ensures damaged { (D.state disk.old).honest → IsErrOf result StoreFault.Damaged
         → (part 0 8 (bytes_of (D.state disk.old)) ≡ NAME)
         × (part 9 7 (bytes_of (D.state disk.old)) ≢ ZEROS) }
+    ensures not_blank { IsErrOf result StoreFault.NotBlank → ⊥ }
 {
     let mut header = [0u8; HEADER_SIZE];
     read_at(disk, 0, &mut header)?;
     if header[..NAME_SIZE] != NAME[..] {
-        return Err(OpenFault::NotASession);
+        return Err(StoreFault::NotASession);
     }
     if header[ZEROS_OFFSET..] != ZEROS[..] {
-        return Err(OpenFault::Damaged);
+        return Err(StoreFault::Damaged);
     }
     Ok(Slot::named(header[SELECTOR_OFFSET]))
 }
 
 /// Reads the snapshot of the slot that starts there.
-pub fn read_snapshot<D: Disk>(alloc: Global, disk: &mut D, start: usize) -> Result<Bytes, OpenFault>
+pub fn read_snapshot<D: Disk>(
+    alloc: Global,
+    disk: &mut D,
+    start: usize,
+) -> Result<Bytes, StoreFault>
     requires inside { start + AREA_SIZE ≤ size_of (D.state disk.old) }
     requires fits { size_of (D.state disk.old) < 2 ^ 64 }
     ensures reads { ReadsOnly (D.state disk.old) (D.state disk.new)
-        (IsErrOf result OpenFault.Device) }
+        (IsErrOf result StoreFault.Device) }
     ensures calls { OnOk result ((D.state disk.new).calls ≡ many_reads 2 ++ (D.state disk.old).calls) }
     ensures refused_calls { OnErr result
         (AreReads (D.state disk.old).calls (D.state disk.new).calls) }
     ensures snap { (D.state disk.old).honest
         → IfOk result (λ snap. IsSnapshot (bytes_of (D.state disk.old)) start snap) }
-    ensures damaged { (D.state disk.old).honest → IsErrOf result OpenFault.Damaged
+    ensures damaged { (D.state disk.old).honest → IsErrOf result StoreFault.Damaged
         → (snap : List ℕ) → IsSnapshot (bytes_of (D.state disk.old)) start snap → ⊥ }
-    ensures named { IsErrOf result OpenFault.NotASession → ⊥ }
+    ensures named { IsErrOf result StoreFault.NotASession → ⊥ }
+    ensures not_blank { IsErrOf result StoreFault.NotBlank → ⊥ }
 {
     let mut prefix = [0u8; SNAPSHOT_OFFSET];
     read_at(disk, start, &mut prefix)?;
     let len = prefix[2] as usize * 256 + prefix[3] as usize;
     if prefix[0] != 0 || prefix[1] != 0 || len > MOST_SNAPSHOT {
-        return Err(OpenFault::Damaged);
+        return Err(StoreFault::Damaged);
     }
     let mut bytes = vec![in alloc; 0u8; len]?;
     read_at(disk, start + SNAPSHOT_OFFSET, &mut bytes)?;
@@ -179,10 +187,10 @@ pub struct Found {
 /// Syncs, and reads the contents that the disk holds.
 ///
 /// Without the sync, what is read may be lost by a power cut that comes after the answer.
-pub fn read_contents<D: Disk>(alloc: Global, disk: &mut D) -> Result<Found, OpenFault>
+pub fn read_contents<D: Disk>(alloc: Global, disk: &mut D) -> Result<Found, StoreFault>
     requires size { size_of (D.state disk.old) ≡ FILE_SIZE }
     ensures reads { ReadsOnly (D.state disk.old) (D.state disk.new)
-        (IsErrOf result OpenFault.Device) }
+        (IsErrOf result StoreFault.Device) }
     ensures calls { IfOk result (λ found. (D.state disk.new).calls
         ≡ open_calls (length found.log.records.items) ++ (D.state disk.old).calls) }
     ensures refused_calls { OnErr result
@@ -196,13 +204,14 @@ pub fn read_contents<D: Disk>(alloc: Global, disk: &mut D) -> Result<Found, Open
     ensures holds { (D.state disk.old).honest
         → IfOk result (λ found. Holds
         (bytes_of (D.state disk.old)) found.snap found.log.records.items) }
-    ensures damaged { (D.state disk.old).honest → IsErrOf result OpenFault.Damaged
+    ensures damaged { (D.state disk.old).honest → IsErrOf result StoreFault.Damaged
         → (snap : List ℕ) (records : List (List ℕ))
         → Holds (bytes_of (D.state disk.old)) snap records → ⊥ }
-    ensures session { (D.state disk.old).honest → IsErrOf result OpenFault.Damaged
+    ensures session { (D.state disk.old).honest → IsErrOf result StoreFault.Damaged
         → part 0 8 (bytes_of (D.state disk.old)) ≡ NAME }
-    ensures no_session { (D.state disk.old).honest → IsErrOf result OpenFault.NotASession
+    ensures no_session { (D.state disk.old).honest → IsErrOf result StoreFault.NotASession
         → part 0 8 (bytes_of (D.state disk.old)) ≢ NAME }
+    ensures not_blank { IsErrOf result StoreFault.NotBlank → ⊥ }
 {
     disk.sync()?;
     let slot = read_header(disk)?;

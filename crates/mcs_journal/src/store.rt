@@ -3,7 +3,7 @@ ghost use Rattle.std.specs.Prelude.{◌≡◌, ◌≢◌, ◌⊎◌, ◌≤◌, 
 ghost use Rattle.mcs_disk.specs.Disk.{bytes_of, size_of, CountsFault};
 ghost use Rattle.mcs_disk.specs.Changes.{Changes};
 ghost use Rattle.mcs_disk.specs.Stretches.{AddsNoImage, WritesNothing};
-ghost use Rattle.mcs_journal.specs.StoreCalls.{Creates, Opens, RefusesCreate, RefusesOpen};
+ghost use Rattle.mcs_journal.specs.StoreCalls.{Creates, IsCreateFault, IsOpenFault, Opens, RefusesCreate, RefusesOpen};
 ghost use Rattle.mcs_disk.specs.CallList.{Makes, OneUnsynced, unsynced};
 ghost use Rattle.mcs_disk.specs.Calls.{WasRead};
 ghost use Rattle.mcs_journal.specs.declared.format.TheConstants.{AREA_SIZE, MOST_RECORD, MOST_SNAPSHOT};
@@ -12,7 +12,7 @@ ghost use Rattle.mcs_journal.specs.Calls.{MakesWithArea, RefusedCreateCalls, Ref
 ghost use Rattle.mcs_journal.specs.Writing.{other_slot};
 
 use crate::bytes::{Bytes, Records};
-use crate::fault::{CreateFault, OpenFault};
+use crate::fault::StoreFault;
 use crate::format::{AREA_SIZE, BUFFER_SIZE, FILE_SIZE, FRAME_HEAD, LOG_SIZE};
 use crate::reading::{Found, Log, read_contents};
 use crate::slot::Slot;
@@ -60,20 +60,21 @@ impl<D: Disk + Drop> Store<D> {
     ///
     /// A refusal hands the disk back, and `NotBlank` has written nothing. A power cut inside the
     /// call may leave anything.
-    pub fn create(alloc: Global, disk: D, snap: &[u8]) -> Result<Store<D>, (CreateFault, D)>
+    pub fn create(alloc: Global, disk: D, snap: &[u8]) -> Result<Store<D>, (StoreFault, D)>
         requires short { length snap.now ≤ MOST_SNAPSHOT }
 
         // on any disk
         ensures live { IfOk result (λ store. IsTrue store.live × (store.used ≡ 0)) }
         ensures counts { IfOk result (λ store. CountsFault (D.state disk) (D.state store.disk) ⊥) }
         ensures refusal_counts { IfErr result (λ refused.
-            CountsFault (D.state disk) (D.state refused.1) (refused.0 ≡ CreateFault.Device)) }
+            CountsFault (D.state disk) (D.state refused.1) (refused.0 ≡ StoreFault.Device)) }
         ensures no_memory { IfErr result (λ refused.
-            refused.0 ≡ CreateFault.NoMemory → refused.1 ≡ disk) }
-        ensures unwritten { IfErr result (λ refused. refused.0 ≢ CreateFault.Device
+            refused.0 ≡ StoreFault.NoMemory → refused.1 ≡ disk) }
+        ensures cases { IfErr result (λ refused. IsCreateFault refused.0) }
+        ensures unwritten { IfErr result (λ refused. refused.0 ≢ StoreFault.Device
             → WritesNothing (D.state disk) (D.state refused.1)) }
         ensures wrong_size { size_of (D.state disk) ≢ FILE_SIZE → IsErrAnd result (λ refused.
-            ((refused.0 ≡ CreateFault.NotBlank) ⊎ (refused.0 ≡ CreateFault.NoMemory))
+            ((refused.0 ≡ StoreFault.NotBlank) ⊎ (refused.0 ≡ StoreFault.NoMemory))
             × (refused.1 ≡ disk)) }
         ensures slot { IfOk result (λ store. store.slot ≡ Slot.A) }
         ensures calls { IfOk result (λ store. MakesWithArea snap.now create_calls
@@ -94,10 +95,10 @@ impl<D: Disk + Drop> Store<D> {
     {
         let mut buffer = match vec![in alloc; 0u8; BUFFER_SIZE] {
             Ok(buffer) => buffer,
-            Err(_) => return Err((CreateFault::NoMemory, disk)),
+            Err(_) => return Err((StoreFault::NoMemory, disk)),
         };
         if disk.size() != FILE_SIZE {
-            return Err((CreateFault::NotBlank, disk));
+            return Err((StoreFault::NotBlank, disk));
         }
         let mut disk = disk;
         match check_blank(&mut disk) {
@@ -112,24 +113,25 @@ impl<D: Disk + Drop> Store<D> {
                 live: true,
                 buffer,
             }),
-            Err(DiskFault) => Err((CreateFault::Device, disk)),
+            Err(DiskFault) => Err((StoreFault::Device, disk)),
         }
     }
 
     /// Opens the contents that the disk holds. It writes nothing, and a refusal hands the disk back.
-    pub fn open(alloc: Global, disk: D) -> Result<Opened<D>, (OpenFault, D)>
+    pub fn open(alloc: Global, disk: D) -> Result<Opened<D>, (StoreFault, D)>
         // on any disk
         ensures live { IfOk result (λ opened. IsTrue opened.store.live) }
         ensures counts { IfOk result (λ opened.
             CountsFault (D.state disk) (D.state opened.store.disk) ⊥) }
         ensures refusal_counts { IfErr result (λ refused.
-            CountsFault (D.state disk) (D.state refused.1) (refused.0 ≡ OpenFault.Device)) }
+            CountsFault (D.state disk) (D.state refused.1) (refused.0 ≡ StoreFault.Device)) }
+        ensures cases { IfErr result (λ refused. IsOpenFault refused.0) }
         ensures unwritten { IfOk result (λ opened.
             WritesNothing (D.state disk) (D.state opened.store.disk)) }
         ensures refused_unwritten { IfErr result (λ refused.
             WritesNothing (D.state disk) (D.state refused.1)) }
         ensures wrong_size { size_of (D.state disk) ≢ FILE_SIZE → IsErrAnd result (λ refused.
-            ((refused.0 ≡ OpenFault.NotASession) ⊎ (refused.0 ≡ OpenFault.NoMemory))
+            ((refused.0 ≡ StoreFault.NotASession) ⊎ (refused.0 ≡ StoreFault.NoMemory))
             × (refused.1 ≡ disk)) }
         ensures calls { IfOk result (λ opened. (D.state opened.store.disk).calls
             ≡ open_calls (length opened.records) ++ (D.state disk).calls) }
@@ -150,10 +152,10 @@ impl<D: Disk + Drop> Store<D> {
     {
         let buffer = match vec![in alloc; 0u8; BUFFER_SIZE] {
             Ok(buffer) => buffer,
-            Err(_) => return Err((OpenFault::NoMemory, disk)),
+            Err(_) => return Err((StoreFault::NoMemory, disk)),
         };
         if disk.size() != FILE_SIZE {
-            return Err((OpenFault::NotASession, disk));
+            return Err((StoreFault::NotASession, disk));
         }
         let mut disk = disk;
         match read_contents(alloc, &mut disk) {
@@ -269,6 +271,13 @@ impl<D: Disk + Drop> Store<D> {
                 Err(fault)
             }
         }
+    }
+
+    /// The disk, as the last call left it.
+    pub fn disk(&self) -> &D
+        ensures { result.now ≡ self.now.disk }
+    {
+        &self.disk
     }
 
     /// The disk, with what it holds.

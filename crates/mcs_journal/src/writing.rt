@@ -1,7 +1,7 @@
 //! The writes of a store. Each change has two parts: bytes that nothing reads yet, and the byte that
 //! makes them count. Each part is a write and a sync, so that the second byte never reaches the
 //! disk before the bytes that it speaks of.
-ghost use Rattle.std.specs.Prelude.{◌≡◌, ◌⊎◌, ◌≤◌, ◌+◌, List, [], ◌∷◌, ◌++◌, ℕ, length, take, slice_index, OnOk, IsErr, IsErrOf};
+ghost use Rattle.std.specs.Prelude.{◌≡◌, ◌⊎◌, ◌≤◌, ◌+◌, List, [], ◌∷◌, ◌++◌, ℕ, length, take, slice_index, OnOk, IfErr, IsErr, IsErrOf};
 ghost use Rattle.mcs_disk.specs.Disk.{CountsFault, bytes_of, size_of, time_of, IsLater};
 ghost use Rattle.mcs_disk.specs.Changes.{Changes, ReadsOnly};
 ghost use Rattle.mcs_disk.specs.PowerCut.{IsDurable};
@@ -12,7 +12,7 @@ ghost use Rattle.mcs_disk.specs.Calls.{WasRead};
 ghost use Rattle.mcs_journal.specs.Calls.{MakesWithArea, append_calls, commit_calls, create_calls, replace_calls};
 ghost use Rattle.mcs_journal.specs.Writing.{Commits, IsArea, IsCommitOffset, other_slot};
 
-use crate::fault::CreateFault;
+use crate::fault::StoreFault;
 use crate::format::{
     AREA_SIZE, COMMITTED, FIRST_HEADER, FRAME_HEAD, HEADER_SIZE, NOT_COMMITTED, SELECTOR_OFFSET,
     SNAPSHOT_OFFSET,
@@ -119,25 +119,26 @@ pub fn replace_contents<D: Disk>(
 }
 
 /// The disk has the size of a session file, and its first 16 bytes are 0.
-pub fn check_blank<D: Disk>(disk: &mut D) -> Result<(), CreateFault>
+pub fn check_blank<D: Disk>(disk: &mut D) -> Result<(), StoreFault>
     requires size { size_of (D.state disk.old) ≡ FILE_SIZE }
     ensures reads { ReadsOnly (D.state disk.old) (D.state disk.new)
-        (IsErrOf result CreateFault.Device) }
+        (IsErrOf result StoreFault.Device) }
     ensures calls { Makes (WasRead ∷ []) (D.state disk.old).calls (D.state disk.new).calls result
-        ⊎ (IsErrOf result CreateFault.NotBlank
+        ⊎ (IsErrOf result StoreFault.NotBlank
         × ((D.state disk.new).calls ≡ WasRead ∷ (D.state disk.old).calls)) }
     ensures ticks { (D.state disk.old).honest
         → OnOk result (time_of (D.state disk.new) ≡ time_of (D.state disk.old) + 1) }
     ensures blank { (D.state disk.old).honest
         → OnOk result (IsBlank (D.state disk.old)) }
-    ensures not_blank { (D.state disk.old).honest → IsErrOf result CreateFault.NotBlank
+    ensures not_blank { (D.state disk.old).honest → IsErrOf result StoreFault.NotBlank
         → IsBlank (D.state disk.old) → ⊥ }
-    ensures no_memory { IsErrOf result CreateFault.NoMemory → ⊥ }
+    ensures cases { IfErr result (λ fault. (fault ≡ StoreFault.NotBlank)
+        ⊎ (fault ≡ StoreFault.Device)) }
 {
     let mut header = [0u8; HEADER_SIZE];
     read_at(disk, 0, &mut header)?;
     if header != [0u8; HEADER_SIZE] {
-        return Err(CreateFault::NotBlank);
+        return Err(StoreFault::NotBlank);
     }
     Ok(())
 }

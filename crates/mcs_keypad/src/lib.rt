@@ -1,225 +1,74 @@
-//! The keys of a board, with what a port read asks of them at hand.
-//!
-//! Beside the keys themselves a `KeyPad` keeps bytes whose bit j stands for column j: for each row the byte of its keys
-//! that are down, and for each line of each ROM the byte of the columns at it. A port is then read by some ten ors (of
-//! the rows that are driven) and four ands (with its lines), however many keys there are.
+//! The keys of a board: which are down, and which lines of its ROMs they pull.
 #![tactic(auto)]
 
-ghost use Rattle.std.specs.Prelude.{◌≡◌, ℕ, ◌+◌, ◌*◌, ◌/◌, ◌%◌, ◌<◌, ◌≤◌, Bool, ◌&&◌, All, length, replicate, slice_index, slice_index_or, slice_set};
-ghost use Rattle.std.specs.List.{list_any, range_with_len};
+ghost use Rattle.std.specs.Prelude.{◌≡◌, ◌+◌, ◌<◌, ◌≤◌, All, length, replicate, slice_index, slice_set};
 ghost use Rattle.mcs_nibble.specs.Bits.{nibble_of};
-ghost use Rattle.mcs_model.specs.declared.board.Line.TheVariants.{Rom};
-ghost use Rattle.mcs_model.specs.Levels.{is_rom_line, drives, is_pulled_by, bit_when};
-ghost use Rattle.mcs_keypad.specs.Keys.{KeyState, no_matrix, IsByteOf, is_down};
+ghost use Rattle.mcs_model.specs.Boards.{key_count};
+ghost use Rattle.mcs_model.specs.Levels.{is_pulled_by, bit_when};
+ghost use Rattle.mcs_keypad.specs.Keys.{matrix_on};
 
-use arrayvec::ArrayVec;
-use mcs_model::board::{KeyMatrix, Line};
-use mcs_model::limits::{KEY_COLUMNS, KEY_ROWS, KEYS, ROMS};
+mod scanned;
+
+use crate::scanned::ScannedKeys;
+use mcs_model::board::Board;
 use mcs_nibble::{Bit, Nibble};
 use mcs_shift4003::Chain;
 use std::marker::Model;
 
-// A byte for each row, and one for each line of each ROM.
-const ROW_BYTES: usize = KEY_ROWS as usize;
-
-const ROM_LINE_BYTES: usize = 4 * ROMS;
-
-/// The keys of a matrix. A board without keys has a matrix of no rows and no columns. Contracts see the matrix and its
-/// keys alone.
+/// A board and its keys. The matrix of the keys is the board's, and stands there alone. Contracts see the board, and for
+/// each key, row by row, 1 if it is down.
 #[derive(Drop)]
 pub struct KeyPad {
-    matrix: KeyMatrix,
-    // Row by row.
-    down: ArrayVec<Bit, KEYS>,
-    // The byte of each row's keys that are down.
-    rows: [u8; ROW_BYTES],
-    // The byte of the columns at line k of ROM c, at 4 * c + k.
-    lines: [u8; ROM_LINE_BYTES],
+    board: Board,
+    keys: ScannedKeys,
 }
 
 impl Model for KeyPad {
-    ghost use Rattle.mcs_keypad.specs.Keys.{KeyState, IsScanned};
+    ghost use Rattle.mcs_keypad.specs.Keys.{KeyState, IsScanned, matrix_on};
 
     ghost Value = { KeyState };
 
-    ghost view = { λ k. record { matrix = k.matrix; down = k.down.items } };
+    ghost view = { λ k. record { board = k.board; down = k.keys.down } };
 
-    ghost invariant = { λ k. IsScanned k.matrix k.down.items k.rows k.lines };
-}
-
-/// Whether a column is line `k` of a ROM.
-fn is_named(column: Line, chip: u8, k: u8) -> bool
-    ensures { result ≡ is_rom_line chip k column }
-{
-    match column {
-        Line::Rom(c, j) => c == chip && j == k,
-        Line::Ram(_, _, _) | Line::Chain(_, _) => false,
-    }
-}
-
-/// Whether the key at a place, row by row, is down.
-fn is_down(down: &[Bit], at: usize) -> bool
-    ensures { result ≡ is_down down.now at }
-{
-    match down.get(at) {
-        Some(bit) => bit.get() == 1,
-        None => false,
-    }
-}
-
-/// The byte of the keys that are down, of as many columns from a place on.
-fn row_byte(down: &[Bit], from: usize, columns: usize) -> u8
-    requires columns { columns ≤ KEY_COLUMNS }
-    requires from { from ≤ KEYS }
-    ensures { IsByteOf result columns (λ j. is_down down.now (from + j)) }
-{
-    let mut byte: u8 = 0;
-    for j in 0..columns {
-        if is_down(down, from + j) {
-            byte |= 1 << j;
-        }
-    }
-    byte
-}
-
-/// The byte of the columns at line `k` of a ROM.
-fn line_byte(columns: &[Line], chip: u8, k: u8) -> u8
-    requires { length columns.now ≤ KEY_COLUMNS }
-    ensures { IsByteOf result (length columns.now)
-        (λ j. is_rom_line chip k (slice_index_or columns.now j (Rom 0 0))) }
-{
-    let mut byte: u8 = 0;
-    for j in 0..columns.len() {
-        if is_named(columns[j], chip, k) {
-            byte |= 1 << j;
-        }
-    }
-    byte
-}
-
-/// The byte of the keys that are down, of each row.
-fn row_bytes(down: &[Bit], rows: u8, columns: usize) -> [u8; ROW_BYTES]
-    requires rows { rows ≤ KEY_ROWS }
-    requires columns { columns ≤ KEY_COLUMNS }
-    ensures { (r : ℕ) → r < rows →
-        IsByteOf (slice_index result r) columns (λ j. is_down down.now (r * columns + j)) }
-{
-    let mut bytes = [0; ROW_BYTES];
-    for r in 0..usize::from(rows) {
-        bytes[r] = row_byte(down, r * columns, columns);
-    }
-    bytes
-}
-
-/// The byte of the columns at each line of each ROM, four lines a ROM.
-fn line_bytes(columns: &[Line]) -> [u8; ROM_LINE_BYTES]
-    requires { length columns.now ≤ KEY_COLUMNS }
-    ensures { (i : ℕ) → i < ROM_LINE_BYTES →
-        IsByteOf (slice_index result i) (length columns.now)
-        (λ j. is_rom_line (i / 4) (i % 4) (slice_index_or columns.now j (Rom 0 0))) }
-{
-    let mut bytes = [0; ROM_LINE_BYTES];
-    for i in 0..ROM_LINE_BYTES as u8 {
-        bytes[usize::from(i)] = line_byte(columns, i / 4, i % 4);
-    }
-    bytes
-}
-
-/// 1 where the two bytes have a bit in common.
-fn meets(line: u8, driven: u8) -> Bit
-    ensures { (n : ℕ) (p q : ℕ → Bool) → IsByteOf line n p → IsByteOf driven n q →
-        result ≡ bit_when (list_any (λ j. p j && q j) (range_with_len 0 n)) }
-{
-    if line & driven == 0 {
-        Bit::ZERO
-    } else {
-        Bit::ONE
-    }
-}
-
-/// Keys that are all up.
-fn up(rows: u8, columns: usize) -> ArrayVec<Bit, KEYS>
-    requires rows { rows ≤ KEY_ROWS }
-    requires columns { columns ≤ KEY_COLUMNS }
-    ensures { result.items ≡ replicate (rows * columns) 0 }
-{
-    let mut down = ArrayVec::new();
-    for _ in 0..usize::from(rows) * columns {
-        down.push(Bit::ZERO);
-    }
-    down
-}
-
-/// The same keys.
-fn copied(down: &ArrayVec<Bit, KEYS>) -> ArrayVec<Bit, KEYS>
-    ensures { result.items ≡ down.now.items }
-{
-    let mut copy = ArrayVec::new();
-    for key in down.as_slice() {
-        copy.push(*key);
-    }
-    copy
+    ghost invariant = { λ k. IsScanned (matrix_on k.board) k.keys };
 }
 
 impl KeyPad {
-    /// The keys of a board without keys.
-    pub fn none() -> KeyPad
-        ensures { result ≡ record { matrix = no_matrix; down = replicate 0 0 } }
+    /// A board with all its keys up.
+    pub fn of(board: Board) -> KeyPad
+        ensures { result ≡ record { board = board; down = replicate (key_count board) 0 } }
     {
-        KeyPad::of(&KeyMatrix {
-            chain: 0,
-            first: 0,
-            rows: 0,
-            columns: ArrayVec::new(),
-        })
+        let keys = match &board.parts().keys {
+            Some(matrix) => ScannedKeys::of(matrix),
+            None => ScannedKeys::none(),
+        };
+        KeyPad { board, keys }
     }
 
-    /// The keys of a matrix, all up.
-    pub fn of(matrix: &KeyMatrix) -> KeyPad
-        requires { matrix.now.rows ≤ KEY_ROWS }
-        ensures { result ≡ record {
-          matrix = matrix.now;
-          down = replicate (matrix.now.rows * length matrix.now.columns.items) 0;
-        } }
-    {
-        let matrix = matrix.copy();
-        let columns = matrix.columns.len();
-        let down = up(matrix.rows, columns);
-        let rows = row_bytes(down.as_slice(), matrix.rows, columns);
-        let lines = line_bytes(matrix.columns.as_slice());
-        KeyPad {
-            matrix,
-            down,
-            rows,
-            lines,
-        }
-    }
-
-    /// Equal keys.
+    /// An equal board with equal keys.
     pub fn copy(&self) -> KeyPad
         ensures { result ≡ self.now }
     {
         KeyPad {
-            matrix: self.matrix.copy(),
-            down: copied(&self.down),
-            rows: self.rows,
-            lines: self.lines,
+            board: self.board.copy(),
+            keys: self.keys.copy(),
         }
     }
 
-    /// The chain that drives the rows.
-    pub fn chain(&self) -> u8
-        ensures { result ≡ self.now.matrix.chain }
+    /// The board.
+    #[inline]
+    pub fn board(&self) -> &Board
+        ensures { result.now ≡ self.now.board }
     {
-        self.matrix.chain
+        &self.board
     }
 
-    /// The key at a place, row by row: 1 where it is down.
+    /// The key at a place, row by row: 1 if it is down.
     pub fn key(&self, at: usize) -> Bit
         requires { at < length self.now.down }
         ensures { result ≡ slice_index self.now.down at }
     {
-        self.down[at]
+        self.keys.key(at)
     }
 
     /// Puts the key at a place, row by row, down by 1, or up by 0.
@@ -227,59 +76,30 @@ impl KeyPad {
         requires { at < length self.old.down }
         ensures { self.new ≡ record self.old { down = slice_set self.old.down at bit } }
     {
-        self.down[at] = bit;
-        self.rows = row_bytes(
-            self.down.as_slice(),
-            self.matrix.rows,
-            self.matrix.columns.len(),
-        );
-    }
-
-    /// The byte of the columns that some row drives, where the rows are driven by a chain of these bits.
-    fn driven<const MAX: usize>(&self, bits: &Chain<MAX>) -> u8
-        requires { self.now.matrix.first + self.now.matrix.rows ≤ length bits.now }
-        ensures { IsByteOf result (length self.now.matrix.columns.items)
-            (λ j. list_any (drives bits.now self.now.down self.now.matrix j)
-            (range_with_len 0 self.now.matrix.rows)) }
-    {
-        let levels = bits.ten_from(usize::from(self.matrix.first));
-        let mut left = levels;
-        let mut driven: u8 = 0;
-        for r in 0..usize::from(self.matrix.rows) {
-            // No row from here on is driven.
-            if left == 0 {
-                return driven;
-            }
-            if left & 1 == 1 {
-                driven |= self.rows[r];
-            }
-            left /= 2;
+        match &self.board.parts().keys {
+            Some(matrix) => self.keys.set_key(matrix, at, bit),
+            None => {}
         }
-        driven
     }
 
-    /// The levels that keys pull the four lines of a ROM to, where the rows are driven by a chain of these bits.
+    /// The levels that the keys pull the four lines of a ROM to, if a chain of these bits drives the rows.
+    #[inline]
     pub fn pulls<const MAX: usize>(&self, bits: &Chain<MAX>, chip: Nibble) -> Nibble
-        requires { self.now.matrix.first + self.now.matrix.rows ≤ length bits.now }
-        ensures { result ≡ nibble_of
-            (λ k. bit_when (is_pulled_by bits.now self.now.down self.now.matrix chip k)) }
+        requires { (matrix_on self.now.board).first + (matrix_on self.now.board).rows
+            ≤ length bits.now }
+        ensures { result ≡ nibble_of (λ k.
+            bit_when (is_pulled_by bits.now self.now.down (matrix_on self.now.board) chip k)) }
     {
-        let driven = self.driven(bits);
-        let at = 4 * usize::from(chip.get());
-        Nibble::of_bits(
-            meets(self.lines[at], driven),
-            meets(self.lines[at + 1], driven),
-            meets(self.lines[at + 2], driven),
-            meets(self.lines[at + 3], driven),
-        )
+        match &self.board.parts().keys {
+            Some(matrix) => self.keys.pulls(matrix, bits, chip),
+            None => Nibble::ZERO,
+        }
     }
 
     /// A law: each key is 0 or 1.
     pub fn show_state_is_valid(&self)
         ensures { All (λ key. key < 2) self.now.down }
     {
-        for i in 0..self.down.len() {
-            let _level = self.down[i].get();
-        }
+        self.keys.show_state_is_valid();
     }
 }

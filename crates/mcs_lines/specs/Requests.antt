@@ -99,7 +99,6 @@ alone =
     ∷ (codes "regs", Ask query.Regs)
     ∷ (codes "breaks", Ask query.Breaks)
     ∷ (codes "watches", Ask query.Watches)
-    ∷ (codes "ports", Ask query.Ports)
     ∷ (codes "seq", Ask query.Seq)
     ∷ (codes "state", Ask query.State)
     ∷ (codes "board", Board)

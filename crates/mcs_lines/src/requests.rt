@@ -20,17 +20,22 @@ use mcs_model::numeral::number_within;
 use mcs_model::query::Query;
 use mcs_model::refusal_numbers;
 use mcs_nibble::Addr;
+use thiserror::Error;
 
 /// Why a line is refused.
-#[derive(Clone, Copy, Debug)]
+#[derive(Clone, Copy, Debug, Error)]
 pub enum LineFault {
     /// Its words are no command.
+    #[error("the words are not a command")]
     NotACommand,
     /// A word is no number, or its number is out of range.
+    #[error("a word is not a number, or its number is out of its range")]
     BadNumber,
     /// It has too many bytes.
+    #[error("the line has too many bytes")]
     LineTooLong,
     /// It has a byte that is neither a tab nor a printing character of ASCII.
+    #[error("a byte is neither a tab nor a printing character of ASCII")]
     NotAscii,
 }
 
@@ -99,8 +104,6 @@ fn read_alone(word: &[u8]) -> Request
         Request::Ask(Query::Breaks)
     } else if equals(word, b"watches") {
         Request::Ask(Query::Watches)
-    } else if equals(word, b"ports") {
-        Request::Ask(Query::Ports)
     } else if equals(word, b"seq") {
         Request::Ask(Query::Seq)
     } else if equals(word, b"state") {

@@ -113,15 +113,14 @@ bank_items s bank =
     then (digit_text bank ++ codes "." ++ hex_2 (slice_index s.ram_src bank)) ∷ []
     else []
 
--- the port of a ROM that is there: its number, and after some words what its latch holds and what
--- is read there
-abbrev pub rom_port_texts : List ℕ → List ℕ → List ℕ → BusState → ℕ → List (List ℕ)
-rom_port_texts rom out read s chip =
+-- the port of a ROM that is there: its number, what its latch holds, and what is read there
+abbrev pub rom_items : BusState → ℕ → List (List ℕ)
+rom_items s chip =
     elim (masks_on s.board chip) [
       | Some mask ↦
-          (rom ++ decimal chip
-          ++ out ++ digit_text (slice_index s.rom_ports chip)
-          ++ read ++ digit_text (port_at s chip)) ∷ []
+          (decimal chip
+          ++ codes "." ++ digit_text (slice_index s.rom_ports chip)
+          ++ codes "." ++ digit_text (port_at s chip)) ∷ []
       | None ↦ []
     ]
 
@@ -143,48 +142,6 @@ key_items s =
       | Some m ↦ flat_map (row_items s (length m.columns.items)) (range_with_len 0 m.rows)
       | None ↦ []
     ]
-
--- ---- `ports`
-
--- items, each after a space
-abbrev pub spaced : List (List ℕ) → List ℕ
-spaced items = flat_map (λ item. codes " " ++ item) items
-
--- the same; a list of nothing is told as a dash
-abbrev pub spaced_or_dash : List (List ℕ) → List ℕ
-spaced_or_dash [] = codes " -"
-spaced_or_dash items = spaced items
-
--- the SRC byte that the ROMs keep, and those of the banks that have chips, by rising bank
-abbrev pub src_line : BusState → List ℕ
-src_line s =
-    codes "src " ++ hex_2 s.rom_src ++ spaced (flat_map (bank_items s) (range_with_len 0 BANKS))
-
--- bit i of a chain; a space goes before each group of ten
-abbrev pub bit_text : BusState → ℕ → ℕ → List ℕ
-bit_text s n i = (if i % 10 == 0 then codes " " else []) ++ digit_text (chain_bit s n i)
-
--- a chain: its bits, bit 0 first
-abbrev pub chain_line : BusState → ℕ → List ℕ
-chain_line s n =
-    codes "chain " ++ digit_text n
-    ++ flat_map (bit_text s n) (range_with_len 0 (chain_bits s.board n))
-
--- the keys that are down; no line where the board has no key matrix
-abbrev pub key_lines : BusState → List (List ℕ)
-key_lines s =
-    elim s.board.keys [
-      | Some m ↦ (codes "keys" ++ spaced_or_dash (key_items s)) ∷ []
-      | None ↦ []
-    ]
-
--- `ports`: what SRC has selected, the ports of the ROMs, the chains and the keys
-abbrev pub ports_lines : BusState → List (List ℕ)
-ports_lines s =
-    codes "ports" ∷ src_line s
-    ∷ flat_map (rom_port_texts (codes "rom ") (codes " out ") (codes " in ") s) (range_with_len 0 ROMS)
-    ++ map (chain_line s) (range_with_len 0 (chain_count s.board))
-    ++ key_lines s
 
 -- `seq`: how many commands were accepted
 abbrev pub seq_text : ℕ → List ℕ
@@ -213,7 +170,7 @@ state_text s =
     ++ codes " ret " ++ one_word (map address_text s.processor.ret)
     ++ codes " src " ++ hex_2 s.bus.rom_src
     ++ codes " banks " ++ one_word (flat_map (bank_items s.bus) (range_with_len 0 BANKS))
-    ++ codes " roms " ++ one_word (flat_map (rom_port_texts [] (codes ".") (codes ".") s.bus) (range_with_len 0 ROMS))
+    ++ codes " roms " ++ one_word (flat_map (rom_items s.bus) (range_with_len 0 ROMS))
     ++ codes " rams " ++ one_word (flat_map (ram_items s.bus) (range_with_len 0 BANKS))
     ++ codes " chains "
     ++ one_word (map (chain_item s.bus) (range_with_len 0 (chain_count s.bus.board)))
@@ -229,6 +186,5 @@ text_of_query query.Regs s = regs_text s.processor s.bus.test
 text_of_query (query.Ram bank) s = join_with_byte line_feed (ram_lines s.bus bank)
 text_of_query query.Breaks s = breaks_text s.breakpoints
 text_of_query query.Watches s = watches_text s.watches
-text_of_query query.Ports s = join_with_byte line_feed (ports_lines s.bus)
 text_of_query query.Seq s = seq_text s.seq
 text_of_query query.State s = state_text s

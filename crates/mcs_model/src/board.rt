@@ -13,6 +13,7 @@ use crate::refusal_numbers;
 use arrayvec::ArrayVec;
 use mcs_nibble::LineMask;
 use std::marker::Model;
+use thiserror::Error;
 
 /// A line of a board. Its numbers may be any: whether a board has such a line is asked of the board.
 #[derive(Clone, Copy, Debug, PartialEq, Eq)]
@@ -94,13 +95,16 @@ pub struct BoardParts {
 }
 
 /// Why parts make no board: the first of these that is so.
-#[derive(Clone, Copy, Debug, PartialEq, Eq)]
+#[derive(Clone, Copy, Debug, PartialEq, Eq, Error)]
 pub enum BoardFault {
     /// A number is out of its range, or a key matrix has no column (no 23).
+    #[error("a number is out of its range, or a key matrix has no column")]
     BadValue,
     /// A line, a chain or a row's bit is not on the board (no 25).
+    #[error("a line, a chain or a row's bit is not on the board")]
     NoSuchLine,
     /// An input line where an output line is wanted, or the other way round (no 26).
+    #[error("an input line is used as an output line, or an output line as an input line")]
     WrongDirection,
 }
 

@@ -65,3 +65,12 @@ pub const NAME_BYTES: usize = 16;
 
 /// Bytes that one run of the shell reads.
 pub const INPUT_BYTES: usize = 16_777_216;
+
+/// Bytes of a session's state in its file: the longest snapshot.
+pub const SNAPSHOT_BYTES: usize = 16_380;
+
+/// Bytes of one command in the log of a session's file: the longest record.
+pub const RECORD_BYTES: usize = 8_192;
+
+/// Bytes of the log of a session's file.
+pub const LOG_BYTES: usize = 65_536;

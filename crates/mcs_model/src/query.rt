@@ -15,8 +15,6 @@ pub enum Query {
     Breaks,
     /// The watched RAM characters.
     Watches,
-    /// What SRC has selected, the ports of the ROMs, the chains and the keys.
-    Ports,
     /// How many commands were accepted.
     Seq,
     /// All but the board and the contents of ROM and RAM, in one line.

@@ -3,23 +3,31 @@ ghost use Rattle.std.specs.Prelude.{◌≡◌};
 ghost use Rattle.mcs_model.specs.RefusalNumbers.{bench_fault_number};
 
 use crate::refusal_numbers;
+use thiserror::Error;
 
 /// Why a bench refuses a command. Nothing has changed then.
-#[derive(Clone, Copy, Debug, PartialEq, Eq)]
+#[derive(Clone, Copy, Debug, PartialEq, Eq, Error)]
 pub enum BenchFault {
     /// The board has no such key.
+    #[error("the board has no such key")]
     NoKey,
     /// The address lies in a ROM that the board lacks.
+    #[error("the address is in a ROM that the board lacks")]
     NoRom,
     /// The place lies in a RAM chip that the board lacks.
+    #[error("the place is in a RAM chip that the board lacks")]
     NoSuchPlace,
     /// A run of no cycle, or of too many.
+    #[error("a run has 1 to 100,000 cycles")]
     BadCount,
     /// All breakpoints are taken.
+    #[error("all breakpoints are set")]
     BreaksFull,
     /// The session has accepted all the commands that it can count.
+    #[error("the session has accepted its last command")]
     Worn,
     /// All watches are set.
+    #[error("all watches are set")]
     WatchesFull,
 }
 

@@ -1,8 +1,8 @@
 -- What a call of the page does with the bytes of a session file.
 use Rattle.std.specs.Prelude.{◌≡◌, ◌≤◌, ◌<◌, ℕ, List, [], IsTrue, Option, Some, length, take, drop}
 use Rattle.mcs_disk.specs.Disk.{DiskState, bytes_of, size_of}
-use Rattle.mcs_journal.specs.declared.fault.OpenFault.{OpenFault}
-use Rattle.mcs_journal.specs.declared.fault.OpenFault.TheVariants as open_fault
+use Rattle.mcs_journal.specs.declared.fault.StoreFault.{StoreFault}
+use Rattle.mcs_journal.specs.declared.fault.StoreFault.TheVariants as store_fault
 use Rattle.mcs_model.specs.BenchState.{BenchState, new_bench_state}
 use Rattle.mcs_disk.specs.States.{IsFresh, mem_disk_state}
 use Rattle.mcs_disk.specs.declared.memory.MemDisk.{MemDisk}
@@ -73,9 +73,10 @@ pub record AnswersInBuffer (file input : List ℕ) (end : ShellEnd) (count : ℕ
 
 -- Opening the file is refused: by what its bytes are, or for lack of memory. A disk in memory has
 -- no other fault.
-abbrev pub IsFileRefused : OpenFault → List ℕ → Type 0
-IsFileRefused open_fault.NoMemory file = Unit {0}
-IsFileRefused open_fault.Device file = ⊥
+abbrev pub IsFileRefused : StoreFault → List ℕ → Type 0
+IsFileRefused store_fault.NoMemory file = Unit {0}
+IsFileRefused store_fault.Device file = ⊥
+IsFileRefused store_fault.NotBlank file = ⊥
 IsFileRefused fault file = (disk : MemDisk) × IsFresh file (mem_disk_state disk)
     × RefusesSession fault (mem_disk_state disk)
 

@@ -5,7 +5,7 @@ ghost use Rattle.mcs_disk.specs.States.{IsFresh, mem_disk_state};
 ghost use Rattle.mcs_page.specs.Page.{IsFileRefused, ResumesSession, SettlesTo};
 
 use mcs_disk::MemDisk;
-use mcs_journal::OpenFault;
+use mcs_journal::StoreFault;
 use mcs_session::session::Session;
 use std::alloc::{AllocError, Global};
 
@@ -20,19 +20,21 @@ fn disk_of(alloc: Global, file: &[u8]) -> Result<MemDisk, AllocError>
 }
 
 /// Opens the session that the bytes of a file hold, on a copy of them.
-pub(crate) fn resume(alloc: Global, file: &[u8]) -> Result<Session<MemDisk>, OpenFault>
+pub(crate) fn resume(alloc: Global, file: &[u8]) -> Result<Session<MemDisk>, StoreFault>
     ensures resumed { IfOk result (λ session. ResumesSession file.now session) }
     ensures refused { IfErr result (λ fault. IsFileRefused fault file.now) }
 {
     let Ok(disk) = disk_of(alloc, file) else {
-        return Err(OpenFault::NoMemory);
+        return Err(StoreFault::NoMemory);
     };
     match Session::open(alloc, disk) {
         Ok(session) => Ok(session),
-        Err((OpenFault::NotASession, _)) => Err(OpenFault::NotASession),
-        Err((OpenFault::Damaged, _)) => Err(OpenFault::Damaged),
-        // a disk in memory has no fault
-        Err((OpenFault::Device | OpenFault::NoMemory, _)) => Err(OpenFault::NoMemory),
+        Err((StoreFault::NotASession, _)) => Err(StoreFault::NotASession),
+        Err((StoreFault::Damaged, _)) => Err(StoreFault::Damaged),
+        // a disk in memory has no fault, and `open` never answers `NotBlank`
+        Err((StoreFault::Device | StoreFault::NotBlank | StoreFault::NoMemory, _)) => Err(
+            StoreFault::NoMemory,
+        ),
     }
 }
 

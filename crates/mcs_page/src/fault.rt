@@ -1,11 +1,14 @@
 //! Why input is not served.
-use mcs_journal::OpenFault;
+use mcs_journal::StoreFault;
+use thiserror::Error;
 
 /// Why input is not served. Nothing was done then.
-#[derive(Clone, Copy, Debug, PartialEq, Eq)]
+#[derive(Clone, Copy, Debug, PartialEq, Eq, Error)]
 pub enum ServeFault {
     /// The bytes hold no session (50, 51), or there was no memory (90).
-    Refused(OpenFault),
+    #[error("{0}")]
+    Refused(StoreFault),
     /// The answers take that many bytes, and the buffer has fewer.
+    #[error("the answers take {0} bytes, and the buffer has fewer")]
     NoRoom(usize),
 }

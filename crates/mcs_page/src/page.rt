@@ -7,7 +7,7 @@ ghost use Rattle.mcs_journal.specs.declared.format.TheConstants.{FILE_SIZE};
 use crate::disks::{resume, settle_into, write_back};
 use crate::fault::ServeFault;
 use mcs_disk::MemDisk;
-use mcs_journal::{FILE_SIZE, OpenFault};
+use mcs_journal::{FILE_SIZE, StoreFault};
 use mcs_session::session::Session;
 use mcs_shell::ends::ShellEnd;
 use mcs_shell::shell::run_shell;
@@ -74,7 +74,7 @@ fn serve_on(alloc: Global, file: &[u8], input: &[u8], room: usize) -> Result<Ans
     // Every other end comes of a lack of memory: over a slice, a vector and bytes in memory nothing
     // else fails.
     if !is_whole(end) {
-        return Err(ServeFault::Refused(OpenFault::NoMemory));
+        return Err(ServeFault::Refused(StoreFault::NoMemory));
     }
     if room < told.len() {
         return Err(ServeFault::NoRoom(told.len()));
@@ -175,7 +175,7 @@ pub fn ask(
 /// Puts a snapshot in the place of the records of a session's file. The file stands for the same
 /// state then, and opening it has no command to do again. Where the bytes hold no session (50, 51)
 /// or there is no memory (90), they stay.
-pub fn settle(alloc: Global, file: &mut [u8]) -> Result<(), OpenFault>
+pub fn settle(alloc: Global, file: &mut [u8]) -> Result<(), StoreFault>
     ensures settled { OnOk result (StandsForSameState file.old file.new) }
     ensures refused { IfErr result (λ fault. IsFileRefused fault file.old) }
     ensures stays { OnErr result (file.new ≡ file.old) }

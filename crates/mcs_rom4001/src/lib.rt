@@ -1,34 +1,33 @@
 //! The 4001: 256 bytes of program memory and a port of four lines.
 //!
-//! A ROM by itself answers for all that it holds: `byte`, `line`, `read_port`. A rig has the bytes by address as well, so
-//! that a fetch asks no chip, and the masks from its board (`read_port_of`).
+//! A `Rom` is a whole chip. A rig keeps the port of each ROM, a `RomPort`, and the bytes of all ROMs in one list by
+//! address, so that a fetch reads one place of it.
 #![tactic(auto)]
 
 ghost use Rattle.std.specs.Prelude.{◌≡◌, ℕ, ◌<◌, All, slice_index, slice_set, replicate, length};
-ghost use Rattle.mcs_rom4001.specs.Roms.{IsValidRom};
+ghost use Rattle.mcs_rom4001.specs.Roms.{IsValidPort, IsValidRom};
 ghost use Rattle.mcs_nibble.specs.Bits.{bit_of};
 ghost use Rattle.mcs_nibble.specs.Ports.{latch_value, latch_bit, read_bit, read_lines};
 
 use mcs_nibble::{Bit, LineMask, Nibble};
 use std::marker::Model;
 
-/// A 4001, by the MCS-4 Users Manual: 256 bytes and a port of four lines, each of which its mask makes an
-/// input or an output. The latch holds a value on the output lines; its bit at an input line is 0.
+/// The port of a 4001, by the MCS-4 Users Manual: four lines, each of which its mask makes an input or an output. The
+/// latch holds a value on the output lines; its bit at an input line is 0.
 #[derive(Drop)]
-pub struct Rom {
+pub struct RomPort {
     mask: [LineMask; 4],
-    bytes: [u8; 256],
     port: Nibble,
 }
 
-impl Model for Rom {
+impl Model for RomPort {
     ghost use Rattle.std.specs.Prelude.{◌≡◌};
     ghost use Rattle.mcs_nibble.specs.Ports.{latch_value};
-    ghost use Rattle.mcs_rom4001.specs.Roms.{RomState};
+    ghost use Rattle.mcs_rom4001.specs.Roms.{PortState};
 
-    ghost Value = { RomState };
+    ghost Value = { PortState };
 
-    ghost view = { λ r. record { mask = r.mask; bytes = r.bytes; port = r.port } };
+    ghost view = { λ r. record { mask = r.mask; port = r.port } };
 
     ghost invariant = { λ r. latch_value r.mask r.port ≡ r.port };
 }
@@ -83,6 +82,80 @@ pub fn read_port_of(mask: &[LineMask; 4], inputs: Nibble) -> Nibble
     )
 }
 
+impl RomPort {
+    /// A port with these masks, of which mask `k` is that of line `k`. The latch is 0.
+    pub fn new(mask: [LineMask; 4]) -> RomPort
+        ensures { result ≡ record { mask = mask; port = 0 } }
+    {
+        RomPort {
+            mask,
+            port: Nibble::ZERO,
+        }
+    }
+
+    /// An equal port.
+    pub fn copy(&self) -> RomPort
+        ensures { result ≡ self.now }
+    {
+        RomPort {
+            mask: self.mask,
+            port: self.port,
+        }
+    }
+
+    /// Holds a value on the output lines until the next such write, as WRR does. Nothing happens on input
+    /// lines.
+    pub fn write_port(&mut self, n: Nibble)
+        ensures { self.new ≡ record self.old { port = latch_value self.old.mask n } }
+    {
+        self.port = held_port(&self.mask, n);
+    }
+
+    /// The port as RDR reads it, where bit `k` of `inputs` is the level of line `k`: that level on an input
+    /// line, and the constant of its mask on an output line.
+    pub fn read_port(&self, inputs: Nibble) -> Nibble
+        ensures { result ≡ read_lines (bit_of inputs) self.now.mask }
+    {
+        read_port_of(&self.mask, inputs)
+    }
+
+    /// What the latch holds.
+    pub fn port(&self) -> Nibble
+        ensures { result ≡ self.now.port }
+    {
+        self.port
+    }
+
+    /// Makes the latch 0.
+    pub fn clear_port(&mut self)
+        ensures { self.new ≡ record self.old { port = 0 } }
+    {
+        self.port = Nibble::ZERO;
+    }
+
+    /// A law: the latch holds a nibble, whose bits at input lines are 0.
+    pub fn show_state_is_valid(&self)
+        ensures { IsValidPort self.now }
+    {
+        let _latch = self.port.get();
+    }
+}
+
+/// A 4001: its 256 bytes and its port.
+#[derive(Drop)]
+pub struct Rom {
+    bytes: [u8; 256],
+    lines: RomPort,
+}
+
+impl Model for Rom {
+    ghost use Rattle.mcs_rom4001.specs.Roms.{RomState};
+
+    ghost Value = { RomState };
+
+    ghost view = { λ r. record { mask = r.lines.mask; bytes = r.bytes; port = r.lines.port } };
+}
+
 /// A law: there are 256 numbers, each below 256.
 fn are_bytes(bytes: &[u8; 256])
     ensures count { length bytes.now ≡ 256 }
@@ -97,20 +170,8 @@ impl Rom {
         ensures { result ≡ record { mask = mask; bytes = replicate 256 0; port = 0 } }
     {
         Rom {
-            mask,
             bytes: [0; 256],
-            port: Nibble::ZERO,
-        }
-    }
-
-    /// An equal ROM.
-    pub fn copy(&self) -> Rom
-        ensures { result ≡ self.now }
-    {
-        Rom {
-            mask: self.mask,
-            bytes: self.bytes,
-            port: self.port,
+            lines: RomPort::new(mask),
         }
     }
 
@@ -134,7 +195,7 @@ impl Rom {
     pub fn write_port(&mut self, n: Nibble)
         ensures { self.new ≡ record self.old { port = latch_value self.old.mask n } }
     {
-        self.port = held_port(&self.mask, n);
+        self.lines.write_port(n);
     }
 
     /// The port as RDR reads it, where bit `k` of `inputs` is the level of line `k`: that level on an input
@@ -142,7 +203,7 @@ impl Rom {
     pub fn read_port(&self, inputs: Nibble) -> Nibble
         ensures { result ≡ read_lines (bit_of inputs) self.now.mask }
     {
-        read_port_of(&self.mask, inputs)
+        self.lines.read_port(inputs)
     }
 
     /// What the latch holds on line `k`, 0 to 3; 0 on an input line.
@@ -157,7 +218,7 @@ impl Rom {
     pub fn port(&self) -> Nibble
         ensures { result ≡ self.now.port }
     {
-        self.port
+        self.lines.port()
     }
 
     /// Sets the latch, whose bits at input lines stay 0.
@@ -171,22 +232,14 @@ impl Rom {
     pub fn clear_port(&mut self)
         ensures { self.new ≡ record self.old { port = 0 } }
     {
-        self.port = Nibble::ZERO;
-    }
-
-    /// Changes the masks and makes the latch 0; the bytes stay.
-    pub fn rewire(&mut self, mask: [LineMask; 4])
-        ensures { self.new ≡ record self.old { mask = mask; port = 0 } }
-    {
-        self.clear_port();
-        self.mask = mask;
+        self.lines.clear_port();
     }
 
     /// A law: there are 256 bytes, each below 256, and the latch holds a nibble, whose bits at input lines are 0.
     pub fn show_state_is_valid(&self)
         ensures { IsValidRom self.now }
     {
-        let _latch = self.port.get();
         are_bytes(&self.bytes);
+        self.lines.show_state_is_valid();
     }
 }

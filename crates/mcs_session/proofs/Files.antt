@@ -6,8 +6,8 @@ use Rattle.mcs_disk.specs.Stretches.{AddsNoImage, Either, LeavesOnly}
 use Rattle.mcs_disk.specs.PowerCut.{IsDurable}
 use Rattle.mcs_journal.specs.StoreCalls.{Creates, Opens, RefusesOpen}
 use Rattle.mcs_journal.specs.File.{Holds, IsNoSession}
-use Rattle.mcs_journal.specs.declared.fault.OpenFault.{OpenFault}
-use Rattle.mcs_journal.specs.declared.fault.OpenFault.TheVariants.{NotASession, Damaged, Device, NoMemory}
+use Rattle.mcs_journal.specs.declared.fault.StoreFault.{StoreFault}
+use Rattle.mcs_journal.specs.declared.fault.StoreFault.TheVariants.{NotASession, Damaged, Device, NotBlank, NoMemory}
 use Rattle.mcs_journal.proofs.Unique.{same_snap, same_records}
 use Rattle.mcs_model.specs.BenchState.{BenchState, new_bench_state}
 use Rattle.mcs_codec.specs.Codec.{SpellsState, SpellsState1}
@@ -218,17 +218,19 @@ refuses_pair old new snap records opened none = (
   opened.rests,
 )
 
-pub refuses_store : (fault : OpenFault) (disk : DiskState) → RefusesOpen fault disk → RefusesSession fault disk
+pub refuses_store : (fault : StoreFault) (disk : DiskState) → RefusesOpen fault disk → RefusesSession fault disk
 refuses_store NotASession disk h = h
 refuses_store Damaged disk h = (h.0, λ s. ⊎_elim (λ stands. h.1 stands.snap stands.records stands.holds) (λ version_1. h.1 version_1.snap version_1.records version_1.holds))
 refuses_store Device disk h = tt
 refuses_store NoMemory disk h = tt
+refuses_store NotBlank disk h = h
 
-pub left_store : (fault : OpenFault) (old new : DiskState) → AddsNoImage old new → RefusalLeaves fault old new
+pub left_store : (fault : StoreFault) (old new : DiskState) → AddsNoImage old new → RefusalLeaves fault old new
 left_store NotASession old new h = h
 left_store Damaged old new h = h
 left_store Device old new h = inl h
 left_store NoMemory old new h = h
+left_store NotBlank old new h = h
 
 -- what `begin` did with a log that was opened
 pub opened_by : (v : Version) (old mid new : DiskState) (snap : List ℕ) (records : List (List ℕ)) (cycles : ℕ) (s : BenchState) → Opens old mid snap records → IsReplayed v snap records cycles s
@@ -248,7 +250,7 @@ pub failed_by : (v : Version) (old mid new : DiskState) (snap : List ℕ) (recor
 failed_by Two old mid new snap records cycles s e opened replayed moments = absurd (cc)
 failed_by One old mid new snap records cycles s e opened replayed moments = fails_migrating old mid new snap records cycles s opened replayed moments
 
-pub refused_by : (fault : OpenFault) (old new : DiskState) → fault ≡ Device → FailsMigrating old new → RefusesSession fault old × RefusalLeaves fault old new
+pub refused_by : (fault : StoreFault) (old new : DiskState) → fault ≡ Device → FailsMigrating old new → RefusesSession fault old × RefusalLeaves fault old new
 refused_by fault old new e fails = rw e (tt, inr fails)
 
 pub recorded_by : (v : Version) (old new : DiskState) (snap : List ℕ) (records : List (List ℕ)) (cycles : ℕ) (s : BenchState) → v ≡ Two → Opens old new snap records → IsReplayed v snap records cycles s → IsRecorded new cycles s
@@ -285,9 +287,10 @@ fails_first old new s each fails =
 rests_first : (old new : DiskState) (s : BenchState) → DiskStandsForLifted old s → AddsNoImage old new → DiskStandsSince (time_of old) new s
 rests_first old new s each rests image left = inr (each image ((lawful old).only_now image (rests_since old new rests (time_of old) image left)))
 
-pub refused_first : (fault : OpenFault) (old new : DiskState) (s : BenchState) → DiskStandsForLifted old s → RefusalLeaves fault old new → DiskStandsSince (time_of old) new s
+pub refused_first : (fault : StoreFault) (old new : DiskState) (s : BenchState) → DiskStandsForLifted old s → RefusalLeaves fault old new → DiskStandsSince (time_of old) new s
 refused_first NotASession old new s each rests = rests_first old new s each rests
 refused_first Damaged old new s each rests = rests_first old new s each rests
 refused_first Device old new s each (inl rests) = rests_first old new s each rests
 refused_first Device old new s each (inr fails) = fails_first old new s each fails
 refused_first NoMemory old new s each rests = rests_first old new s each rests
+refused_first NotBlank old new s each rests = rests_first old new s each rests

@@ -3,8 +3,8 @@ use Rattle.std.proofs.Common.{◌≡◌, ◌⊎◌, inl, inr, ◌+◌, ◌≤◌
 use Rattle.mcs_disk.proofs.CallLaws.{lawful}
 use Rattle.mcs_disk.specs.Disk.{DiskState, bytes_of, time_of, images_of, images_since}
 use Rattle.mcs_disk.specs.PowerCut.{IsLeftByCut}
-use Rattle.mcs_journal.specs.declared.fault.OpenFault.{OpenFault}
-use Rattle.mcs_journal.specs.declared.fault.OpenFault.TheVariants.{NotASession, Damaged, Device, NoMemory}
+use Rattle.mcs_journal.specs.declared.fault.StoreFault.{StoreFault}
+use Rattle.mcs_journal.specs.declared.fault.StoreFault.TheVariants.{NotASession, Damaged, Device, NotBlank, NoMemory}
 use Rattle.mcs_model.specs.declared.command.Command.{Command}
 use Rattle.mcs_model.specs.BenchState.{BenchState}
 use Rattle.mcs_model.specs.Fold.{fold}
@@ -22,13 +22,14 @@ reopened t old new found opened s u done reached kept le cut opens =
     let there = kept.each t (bytes_of found) le cut.found in
     subst (λ (v : BenchState). IsAfterPrefix s reached (acknowledged_by t kept.acknowledged.moments) v) (one_state (bytes_of found) there.state u there.stands opens.stood) there.after
 
-pub not_refused : (fault : OpenFault) (disk : DiskState) (s : BenchState) → StandsFor (bytes_of disk) s → RefusesSession fault disk → (fault ≡ Device) ⊎ (fault ≡ NoMemory)
+pub not_refused : (fault : StoreFault) (disk : DiskState) (s : BenchState) → StandsFor (bytes_of disk) s → RefusesSession fault disk → (fault ≡ Device) ⊎ (fault ≡ NoMemory)
 not_refused NotASession disk s stands h = absurd (is_session disk stands.snap stands.records stands.holds h)
 not_refused Damaged disk s stands h = absurd (h.1 s (inl stands))
 not_refused Device disk s stands h = inl refl
 not_refused NoMemory disk s stands h = inr refl
+not_refused NotBlank disk s stands h = absurd h
 
-pub found_is_opened : (t : ℕ) (old new found : DiskState) (s : BenchState) (done reached : List Command) (fault : OpenFault) → KeepsCommands old new s done reached → time_of old ≤ t
+pub found_is_opened : (t : ℕ) (old new found : DiskState) (s : BenchState) (done reached : List Command) (fault : StoreFault) → KeepsCommands old new s done reached → time_of old ≤ t
     → IsLeftByCut t new found → RefusesSession fault found → (fault ≡ Device) ⊎ (fault ≡ NoMemory)
 found_is_opened t old new found s done reached fault kept le cut h =
     let there = kept.each t (bytes_of found) le cut.found in not_refused fault found there.state there.stands h

@@ -1,8 +1,8 @@
 -- Which state a session is opened in, and why none is.
 use Rattle.mcs_disk.specs.Disk.{DiskState, bytes_of}
 use Rattle.mcs_journal.specs.File.{IsNoSession}
-use Rattle.mcs_journal.specs.declared.fault.OpenFault.{OpenFault}
-use Rattle.mcs_journal.specs.declared.fault.OpenFault.TheVariants as open_fault
+use Rattle.mcs_journal.specs.declared.fault.StoreFault.{StoreFault}
+use Rattle.mcs_journal.specs.declared.fault.StoreFault.TheVariants as store_fault
 use Rattle.mcs_model.specs.BenchState.{BenchState}
 use Rattle.mcs_session.specs.StandsFor.{DiskStandsFor, StandsByEither}
 
@@ -14,9 +14,10 @@ pub record OpensSession (old new : DiskState) (s : BenchState) : Type 0 where
 
 -- what a refusal of `open` says of the disk: its bytes are no session, or they stand for no state;
 -- of lack of memory and a device fault, nothing
-abbrev pub RefusesSession : OpenFault → DiskState → Type 0
-RefusesSession open_fault.NotASession disk = IsNoSession disk
-RefusesSession open_fault.Damaged disk =
+abbrev pub RefusesSession : StoreFault → DiskState → Type 0
+RefusesSession store_fault.NotASession disk = IsNoSession disk
+RefusesSession store_fault.Damaged disk =
     ¬ (IsNoSession disk) × ((s : BenchState) → ¬ (StandsByEither (bytes_of disk) s))
-RefusesSession open_fault.Device disk = Unit {0}
-RefusesSession open_fault.NoMemory disk = Unit {0}
+RefusesSession store_fault.Device disk = Unit {0}
+RefusesSession store_fault.NoMemory disk = Unit {0}
+RefusesSession store_fault.NotBlank disk = ⊥

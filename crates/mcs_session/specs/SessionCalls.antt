@@ -3,8 +3,8 @@ use Rattle.std.specs.Prelude.{◌≡◌, ◌⊎◌, ◌+◌}
 use Rattle.mcs_disk.specs.Disk.{DiskState, bytes_of, time_of, images_of, IsLater}
 use Rattle.mcs_disk.specs.Stretches.{Either, LeavesOnly, AddsNoImage}
 use Rattle.mcs_journal.specs.File.{IsBlank}
-use Rattle.mcs_journal.specs.declared.fault.OpenFault.{OpenFault}
-use Rattle.mcs_journal.specs.declared.fault.OpenFault.TheVariants as open_fault
+use Rattle.mcs_journal.specs.declared.fault.StoreFault.{StoreFault}
+use Rattle.mcs_journal.specs.declared.fault.StoreFault.TheVariants as store_fault
 use Rattle.mcs_model.specs.BenchState.{BenchState, new_bench_state}
 use Rattle.mcs_session.specs.StandsFor.{HoldsState, DiskStandsFor, StandsByEither, StandsFor}
 use Rattle.mcs_session.specs.Version1.{StandsForLifted}
@@ -39,6 +39,6 @@ pub record FailsMigrating (old new : DiskState) : Type 0 where
 
 -- what a refused `open` did to the disk: reads and syncs alone, except for a device fault while the
 -- contents of a file of version 1 were replaced
-abbrev pub RefusalLeaves : OpenFault → DiskState → DiskState → Type 0
-RefusalLeaves open_fault.Device old new = AddsNoImage old new ⊎ FailsMigrating old new
+abbrev pub RefusalLeaves : StoreFault → DiskState → DiskState → Type 0
+RefusalLeaves store_fault.Device old new = AddsNoImage old new ⊎ FailsMigrating old new
 RefusalLeaves fault old new = AddsNoImage old new

@@ -3,7 +3,7 @@
 ghost use Rattle.std.specs.Prelude.{◌≡◌, ◌⊎◌, ◌+◌, ◌≤◌, ℕ, List, length, slice_get};
 ghost use Rattle.mcs_disk.specs.Disk.{bytes_of, time_of, images_of, images_since};
 ghost use Rattle.mcs_disk.specs.PowerCut.{IsLeftByCut};
-ghost use Rattle.mcs_journal.specs.declared.fault.OpenFault.{OpenFault};
+ghost use Rattle.mcs_journal.specs.declared.fault.StoreFault.{StoreFault};
 ghost use Rattle.mcs_model.specs.declared.command.Command.{Command};
 ghost use Rattle.mcs_model.specs.BenchState.{BenchState};
 ghost use Rattle.mcs_model.specs.Fold.{fold};
@@ -14,7 +14,7 @@ ghost use Rattle.mcs_session.specs.KeptCommands.{IsAfterPrefix, KeepsCommands, S
 ghost use Rattle.mcs_session.specs.StandsFor.{HoldsState, DiskStandsForLifted, StandsByEither, StandsFor, DiskStandsSince};
 
 use mcs_disk::Disk;
-use mcs_journal::OpenFault;
+use mcs_journal::StoreFault;
 
 /// A file stands for at most one state, whichever version it has.
 pub fn file_stands_for_one_state()
@@ -38,10 +38,10 @@ pub fn reopened_bench_holds_what_was_acknowledged<D: Disk, E: Disk>()
 /// What a power cut leaves of a run is opened, except for lack of memory and a device fault.
 pub fn what_a_power_cut_left_is_opened<D: Disk, E: Disk>()
     ensures { (time : ℕ) (old new : D) (found : E) (s : BenchState) (done reached : List Command)
-        (fault : OpenFault)
+        (fault : StoreFault)
         → KeepsCommands (D.state old) (D.state new) s done reached → time_of (D.state old) ≤ time
         → IsLeftByCut time (D.state new) (E.state found) → RefusesSession fault (E.state found)
-        → (fault ≡ OpenFault.Device) ⊎ (fault ≡ OpenFault.NoMemory) }
+        → (fault ≡ StoreFault.Device) ⊎ (fault ≡ StoreFault.NoMemory) }
 {}
 
 /// What a power cut since a command was acknowledged left holds it and those before it.
@@ -74,7 +74,7 @@ pub fn a_file_of_version_1_keeps_its_state<D: Disk>()
         → MigratesSession (D.state old) (D.state new) state
         → (state ≡ s) × (HoldsState (bytes_of (D.state new)) s
         × DiskStandsSince (time_of (D.state old)) (D.state new) s) }
-    ensures refused { (old new : D) (s : BenchState) (fault : OpenFault) → (D.state old).honest
+    ensures refused { (old new : D) (s : BenchState) (fault : StoreFault) → (D.state old).honest
         → DiskStandsForLifted (D.state old) s → RefusalLeaves fault (D.state old) (D.state new)
         → DiskStandsSince (time_of (D.state old)) (D.state new) s }
 {}

@@ -6,7 +6,7 @@ ghost use Rattle.mcs_session.specs.Cycles.{replay_cycles};
 ghost use Rattle.mcs_session.specs.StandsFor.{RecordsStandFor};
 
 use mcs_bench::Bench;
-use mcs_codec::{Version, bench_of, command_of};
+use mcs_codec::{Version, command_of, versioned_bench_of};
 use mcs_journal::Records;
 use mcs_model::command::Command;
 use mcs_model::limits::REPLAY_CYCLES;
@@ -44,7 +44,7 @@ pub(crate) fn replay(
     ensures none { IfOk result (λ found.
         IfNone found ((v : Version) (s : BenchState) → RecordsStandFor v snap.now records.now s → ⊥)) }
 {
-    let (version, mut bench) = match bench_of(alloc, snap) {
+    let (version, mut bench) = match versioned_bench_of(alloc, snap) {
         Ok(Some(read)) => read,
         Ok(None) => return Ok(None),
         Err(refused) => return Err(refused),

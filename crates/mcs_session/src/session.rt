@@ -3,7 +3,7 @@ ghost use Rattle.std.specs.Prelude.{◌≡◌, ◌≢◌, ◌⊎◌, ◌↔◌, 
 ghost use Rattle.mcs_disk.specs.Disk.{bytes_of, size_of, CountsFault};
 ghost use Rattle.mcs_disk.specs.CallList.{OneUnsynced, unsynced};
 ghost use Rattle.mcs_disk.specs.Stretches.{WritesNothing};
-ghost use Rattle.mcs_journal.specs.StoreCalls.{RefusesCreate};
+ghost use Rattle.mcs_journal.specs.StoreCalls.{IsCreateFault, IsOpenFault, RefusesCreate};
 ghost use Rattle.mcs_model.specs.BenchState.{new_bench_state};
 ghost use Rattle.mcs_session.specs.StandsFor.{StandsFor, DiskStandsFor};
 ghost use Rattle.mcs_session.specs.CommandCalls.{AppliesCommand, ClosesAtDeviceFault, MayAnswerSettle, RecordsOrFails, SettlesOrFails};
@@ -17,7 +17,7 @@ use crate::replaying::{Replayed, replay};
 use mcs_bench::Bench;
 use mcs_codec::Version;
 use mcs_disk::{Disk, DiskFault};
-use mcs_journal::{CreateFault, FILE_SIZE, OpenFault, Opened, Store};
+use mcs_journal::{FILE_SIZE, Opened, Store, StoreFault};
 use mcs_model::command::{Command, Reply};
 use std::alloc::Global;
 use std::marker::Model;
@@ -51,19 +51,20 @@ impl<D: Disk + Drop> Session<D> {
     /// It is refused for lack of memory (90), where the disk is not blank (55; nothing is written
     /// then), and where a call on it failed (53; what the disk then holds is not said). A refusal
     /// hands the disk back.
-    pub fn create(alloc: Global, disk: D) -> Result<Session<D>, (CreateFault, D)>
+    pub fn create(alloc: Global, disk: D) -> Result<Session<D>, (StoreFault, D)>
         // on any disk
         ensures open { IfOk result (λ s. IsTrue s.live) }
         ensures new { IfOk result (λ s. s.state ≡ new_bench_state) }
         ensures counts { IfOk result (λ s. CountsFault (D.state disk) (D.state s.disk) ⊥) }
         ensures refusal_counts { IfErr result (λ refused.
-            CountsFault (D.state disk) (D.state refused.1) (refused.0 ≡ CreateFault.Device)) }
+            CountsFault (D.state disk) (D.state refused.1) (refused.0 ≡ StoreFault.Device)) }
         ensures no_memory { IfErr result (λ refused.
-            refused.0 ≡ CreateFault.NoMemory → refused.1 ≡ disk) }
-        ensures unwritten { IfErr result (λ refused. refused.0 ≢ CreateFault.Device
+            refused.0 ≡ StoreFault.NoMemory → refused.1 ≡ disk) }
+        ensures cases { IfErr result (λ refused. IsCreateFault refused.0) }
+        ensures unwritten { IfErr result (λ refused. refused.0 ≢ StoreFault.Device
             → WritesNothing (D.state disk) (D.state refused.1)) }
         ensures wrong_size { size_of (D.state disk) ≢ FILE_SIZE → IsErrAnd result (λ refused.
-            ((refused.0 ≡ CreateFault.NotBlank) ⊎ (refused.0 ≡ CreateFault.NoMemory))
+            ((refused.0 ≡ StoreFault.NotBlank) ⊎ (refused.0 ≡ StoreFault.NoMemory))
             × (refused.1 ≡ disk)) }
         ensures one_unsynced { unsynced (D.state disk).calls ≡ 0
             → IfOk result (λ s. OneUnsynced (D.state disk).calls (D.state s.disk).calls) }
@@ -78,10 +79,10 @@ impl<D: Disk + Drop> Session<D> {
             RefusesCreate refused.0 (D.state disk) (D.state refused.1)) }
     {
         let Ok((payload, mut snapshot)) = log_buffers(alloc) else {
-            return Err((CreateFault::NoMemory, disk));
+            return Err((StoreFault::NoMemory, disk));
         };
         let Ok(bench) = Bench::new(alloc) else {
-            return Err((CreateFault::NoMemory, disk));
+            return Err((StoreFault::NoMemory, disk));
         };
         let length = encode_state(&mut snapshot, &bench);
         match Store::create(alloc, disk, &snapshot.as_slice()[..length]) {
@@ -105,16 +106,17 @@ impl<D: Disk + Drop> Session<D> {
     /// It is refused for lack of memory (90), where size or name is not that of a session file
     /// (50), where the bytes stand for no state otherwise (51), and where a call on the disk failed
     /// (53). A refusal hands the disk back.
-    pub fn open(alloc: Global, disk: D) -> Result<Session<D>, (OpenFault, D)>
+    pub fn open(alloc: Global, disk: D) -> Result<Session<D>, (StoreFault, D)>
         // on any disk
         ensures open { IfOk result (λ s. IsTrue s.live) }
         ensures counts { IfOk result (λ s. CountsFault (D.state disk) (D.state s.disk) ⊥) }
         ensures refusal_counts { IfErr result (λ refused.
-            CountsFault (D.state disk) (D.state refused.1) (refused.0 ≡ OpenFault.Device)) }
-        ensures unwritten { IfErr result (λ refused. refused.0 ≢ OpenFault.Device
+            CountsFault (D.state disk) (D.state refused.1) (refused.0 ≡ StoreFault.Device)) }
+        ensures cases { IfErr result (λ refused. IsOpenFault refused.0) }
+        ensures unwritten { IfErr result (λ refused. refused.0 ≢ StoreFault.Device
             → WritesNothing (D.state disk) (D.state refused.1)) }
         ensures wrong_size { size_of (D.state disk) ≢ FILE_SIZE → IsErrAnd result (λ refused.
-            ((refused.0 ≡ OpenFault.NotASession) ⊎ (refused.0 ≡ OpenFault.NoMemory))
+            ((refused.0 ≡ StoreFault.NotASession) ⊎ (refused.0 ≡ StoreFault.NoMemory))
             × (refused.1 ≡ disk)) }
         ensures one_unsynced { IfOk result (λ s.
             OneUnsynced (D.state disk).calls (D.state s.disk).calls) }
@@ -131,7 +133,7 @@ impl<D: Disk + Drop> Session<D> {
             × RefusalLeaves refused.0 (D.state disk) (D.state refused.1)) }
     {
         let Ok(buffers) = log_buffers(alloc) else {
-            return Err((OpenFault::NoMemory, disk));
+            return Err((StoreFault::NoMemory, disk));
         };
         match Store::open(alloc, disk) {
             Ok(
@@ -145,8 +147,8 @@ impl<D: Disk + Drop> Session<D> {
                     Ok(session) => Ok(session),
                     Err(refused) => Err(refused),
                 },
-                Ok(None) => Err((OpenFault::Damaged, store.into_disk())),
-                Err(_) => Err((OpenFault::NoMemory, store.into_disk())),
+                Ok(None) => Err((StoreFault::Damaged, store.into_disk())),
+                Err(_) => Err((StoreFault::NoMemory, store.into_disk())),
             },
             Err(refused) => Err(refused),
         }
@@ -166,6 +168,13 @@ impl<D: Disk + Drop> Session<D> {
             → DiskStandsFor (D.state self.now.disk) self.now.state }
     {
         &self.bench
+    }
+
+    /// The disk, as the last call left it.
+    pub fn disk(&self) -> &D
+        ensures { result.now ≡ self.now.disk }
+    {
+        self.log.store.disk()
     }
 
     /// Does a command and records it. By `Ok` it is acknowledged: from then on no power cut loses
@@ -257,7 +266,7 @@ fn begin<D: Disk + Drop>(
     store: Store<D>,
     buffers: (Vec<u8>, Vec<u8>),
     replayed: Replayed,
-) -> Result<Session<D>, (OpenFault, D)>
+) -> Result<Session<D>, (StoreFault, D)>
     requires live { IsTrue store.live }
     requires ready { IsReady replayed.cycles buffers.0.items buffers.1.items }
     requires recorded { replayed.version ≡ Version.Two → (D.state store.disk).honest
@@ -272,7 +281,7 @@ fn begin<D: Disk + Drop>(
     ensures same { replayed.version ≡ Version.Two → IfOk result (λ s. s.disk ≡ store.disk) }
     ensures version_1 { replayed.version ≡ Version.One → (D.state store.disk).honest
         → IfOk result (λ s. ReplacedWhatWasHeld (D.state store.disk) (D.state s.disk) replayed.bench) }
-    ensures refused { IfErr result (λ r. (r.0 ≡ OpenFault.Device) × ((replayed.version ≡ Version.One)
+    ensures refused { IfErr result (λ r. (r.0 ≡ StoreFault.Device) × ((replayed.version ≡ Version.One)
         × CountsFault (D.state store.disk) (D.state r.1) (Unit {0}))) }
     ensures failed { (D.state store.disk).honest
         → IfErr result (λ r. MayReplaceWhatIsHeld (D.state store.disk) (D.state r.1) replayed.bench) }
@@ -290,6 +299,6 @@ fn begin<D: Disk + Drop>(
     }
     match log.checkpoint(&bench) {
         Ok(()) => Ok(Session { log, bench }),
-        Err(DiskFault) => Err((OpenFault::Device, log.store.into_disk())),
+        Err(DiskFault) => Err((StoreFault::Device, log.store.into_disk())),
     }
 }

@@ -7,8 +7,8 @@ use Rattle.mcs_disk.proofs.Composing.{durable_since, rests_since, later_before}
 use Rattle.mcs_disk.specs.Disk.{DiskState, bytes_of, time_of, images_of, images_since}
 use Rattle.mcs_disk.specs.Stretches.{AddsNoImage}
 use Rattle.mcs_disk.specs.PowerCut.{IsLeftByCut, IsDurable}
-use Rattle.mcs_journal.specs.declared.fault.OpenFault.{OpenFault}
-use Rattle.mcs_journal.specs.declared.fault.OpenFault.TheVariants.{NotASession, Damaged, Device, NoMemory}
+use Rattle.mcs_journal.specs.declared.fault.StoreFault.{StoreFault}
+use Rattle.mcs_journal.specs.declared.fault.StoreFault.TheVariants.{NotASession, Damaged, Device, NotBlank, NoMemory}
 use Rattle.mcs_model.specs.declared.command.Command.{Command}
 use Rattle.mcs_model.specs.BenchState.{BenchState}
 use Rattle.mcs_model.specs.Fold.{fold}
@@ -25,7 +25,7 @@ use Rattle.mcs_session.proofs.Using.{rising}
 use Rattle.mcs_shell.specs.History.{CameOf, History, IsHistory, KeepsOf, KeepsOfEach, KeepsOfRun, Refused, Served, Sitting, StoppedSitting, SurvivesHistory, disk_left}
 use Rattle.mcs_shell.specs.Headline.{AnswersAndAcknowledges, done_in, reached_in}
 use Rattle.mcs_shell.specs.Program.{OpenBegins, OpenRefusal}
-use Rattle.mcs_shell.specs.RefusalNumbers.{open_fault_number}
+use Rattle.mcs_shell.specs.RefusalNumbers.{store_fault_number}
 use Rattle.mcs_shell.specs.Shell.{ShellRun}
 use Rattle.mcs_shell.proofs.Surviving.{answered_by, honest_of_run, kept_of_run}
 
@@ -117,11 +117,12 @@ holds_session : (disk : DiskState) (s : BenchState) → StandsByEither (bytes_of
 holds_session disk s (inl stands) none = is_session disk stands.snap stands.records stands.holds none
 holds_session disk s (inr stands) none = is_session disk stands.snap stands.records stands.holds none
 
-refused_number : (fault : OpenFault) (disk : DiskState) (s : BenchState) → Stands disk s → RefusesSession fault disk → (open_fault_number fault ≡ 53) ⊎ (open_fault_number fault ≡ 90)
+refused_number : (fault : StoreFault) (disk : DiskState) (s : BenchState) → Stands disk s → RefusesSession fault disk → (store_fault_number fault ≡ 53) ⊎ (store_fault_number fault ≡ 90)
 refused_number NotASession disk s here h = absurd (holds_session disk s here.stands h)
 refused_number Damaged disk s here h = absurd (h.1 s here.stands)
 refused_number Device disk s here h = inl refl
 refused_number NoMemory disk s here h = inr refl
+refused_number NotBlank disk s here h = absurd h
 
 rests_in : (disk left : DiskState) (image : List ℕ) (s : BenchState) → Stands disk s → AddsNoImage disk left → images_since (time_of disk) left image → StandsByEither image s
 rests_in disk left image s here rests now = subst (λ (file : List ℕ). StandsByEither file s) (sym (durable_since disk here.durable image (rests_since disk left rests (time_of disk) image now))) here.stands
@@ -134,9 +135,10 @@ fails_in disk left image s here fails now =
     (λ (new : StandsByEither image fails.state). subst (StandsByEither image) same new)
     (fails.leaves.each image now)
 
-refused_in : (fault : OpenFault) (disk left : DiskState) (image : List ℕ) (s : BenchState) → Stands disk s → RefusalLeaves fault disk left → images_since (time_of disk) left image → StandsByEither image s
+refused_in : (fault : StoreFault) (disk left : DiskState) (image : List ℕ) (s : BenchState) → Stands disk s → RefusalLeaves fault disk left → images_since (time_of disk) left image → StandsByEither image s
 refused_in NotASession disk left image s here rests now = rests_in disk left image s here rests now
 refused_in Damaged disk left image s here rests now = rests_in disk left image s here rests now
+refused_in NotBlank disk left image s here rests now = rests_in disk left image s here rests now
 refused_in NoMemory disk left image s here rests now = rests_in disk left image s here rests now
 refused_in Device disk left image s here (inl rests) now = rests_in disk left image s here rests now
 refused_in Device disk left image s here (inr fails) now = fails_in disk left image s here fails now

@@ -4,8 +4,8 @@ use Rattle.std.specs.Io.KnownBytes.{Appends}
 use Rattle.mcs_answers.specs.AnswerTexts.{session_text}
 use Rattle.mcs_disk.specs.Disk.{DiskState, time_of}
 use Rattle.mcs_disk.specs.PowerCut.{IsLeftByCut}
-use Rattle.mcs_journal.specs.declared.fault.OpenFault.{OpenFault}
-use Rattle.mcs_journal.specs.declared.fault.OpenFault.TheVariants as open_fault
+use Rattle.mcs_journal.specs.declared.fault.StoreFault.{StoreFault}
+use Rattle.mcs_journal.specs.declared.fault.StoreFault.TheVariants as store_fault
 use Rattle.mcs_model.specs.declared.command.Command.{Command}
 use Rattle.mcs_model.specs.BenchState.{BenchState}
 use Rattle.mcs_session.specs.Acknowledgements.{Acknowledgements, acknowledged_by}
@@ -73,11 +73,11 @@ pub record SurvivesPowerCuts
       → IsLeftByCut time (state_of run.after.disk) (found_of found)
       → OpensSession (found_of found) (found_of opened) state
       → IsAfterPrefix run.before.state (reached_in run) (acknowledged_by time moments) state
-  pub not_refused : (time : ℕ) (found : E) (fault : OpenFault)
+  pub not_refused : (time : ℕ) (found : E) (fault : StoreFault)
       → time_of (state_of run.before.disk) ≤ time
       → IsLeftByCut time (state_of run.after.disk) (found_of found)
       → RefusesSession fault (found_of found)
-      → (fault ≡ open_fault.Device) ⊎ (fault ≡ open_fault.NoMemory)
+      → (fault ≡ store_fault.Device) ⊎ (fault ≡ store_fault.NoMemory)
 
 -- What a run answered and acknowledged, and what of it survives. The premise of the law is that the
 -- session is open and its disk honest (`IsOpenOnHonestDisk`).

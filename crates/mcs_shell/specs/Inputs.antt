@@ -7,7 +7,7 @@ use Rattle.mcs_lines.specs.declared.requests.TextKind.{TextKind}
 use Rattle.mcs_lines.specs.declared.requests.Request.{Request}
 use Rattle.mcs_lines.specs.declared.requests.Request.TheVariants.{Begin}
 use Rattle.mcs_shell.specs.declared.texts.TextFault.{TextFault}
-use Rattle.mcs_shell.specs.declared.texts.TextFault.TheVariants.{NoEnd, TextTooLong, HasLongLine, HasBadByte}
+use Rattle.mcs_shell.specs.declared.texts.TextFault.TheVariants.{NoEnd, TextTooLong, LineTooLong, NotAscii}
 use Rattle.mcs_lines.specs.LineRequests.{request_of}
 use Rattle.mcs_lines.specs.Words.{is_plain_byte}
 use Rattle.mcs_model.specs.TextLines.{is_line_feed, lines, text_of}
@@ -38,8 +38,8 @@ unfoldable pub text_fault_of : List ℕ → Option TextFault
 text_fault_of text =
     if nat_lt TEXT_BYTES (length text) then Some TextTooLong
     else if list_all is_short (slice_split is_line_feed text)
-    then (if list_all is_text_byte text then None else Some HasBadByte)
-    else Some HasLongLine
+    then (if list_all is_text_byte text then None else Some NotAscii)
+    else Some LineTooLong
 
 abbrev pub text_or_fault : TextKind → List ℕ → Option TextFault → Input
 text_or_fault kind text None = Text kind text

@@ -4,10 +4,8 @@ use Rattle.mcs_host.specs.declared.file_fault.FileFault.{FileFault}
 use Rattle.mcs_host.specs.declared.file_fault.FileFault.TheVariants as file_fault
 use Rattle.mcs_host.specs.Streams.{none_of_them}
 use Rattle.mcs_host.specs.declared.streams.Streams.{Streams}
-use Rattle.mcs_journal.specs.declared.fault.CreateFault.{CreateFault}
-use Rattle.mcs_journal.specs.declared.fault.CreateFault.TheVariants as create_fault
-use Rattle.mcs_journal.specs.declared.fault.OpenFault.{OpenFault}
-use Rattle.mcs_journal.specs.declared.fault.OpenFault.TheVariants as open_fault
+use Rattle.mcs_journal.specs.declared.fault.StoreFault.{StoreFault}
+use Rattle.mcs_journal.specs.declared.fault.StoreFault.TheVariants as store_fault
 use Rattle.mcs_model.specs.RefusalNumbers.{bench_fault_number}
 use Rattle.mcs_model.specs.declared.refusal_numbers.TheConstants.{CLOSED, DAMAGED, DEVICE, NOT_A_SESSION, NOT_BLANK, NO_MEMORY}
 use Rattle.mcs_session.specs.declared.fault.SessionFault.{SessionFault}
@@ -22,16 +20,12 @@ session_fault_number session_fault.Device = DEVICE
 session_fault_number session_fault.Closed = CLOSED
 
 -- the numbers that refusals to make and to open a session are reported as
-abbrev pub create_fault_number : CreateFault → ℕ
-create_fault_number create_fault.NotBlank = NOT_BLANK
-create_fault_number create_fault.Device = DEVICE
-create_fault_number create_fault.NoMemory = NO_MEMORY
-
-abbrev pub open_fault_number : OpenFault → ℕ
-open_fault_number open_fault.NotASession = NOT_A_SESSION
-open_fault_number open_fault.Damaged = DAMAGED
-open_fault_number open_fault.Device = DEVICE
-open_fault_number open_fault.NoMemory = NO_MEMORY
+abbrev pub store_fault_number : StoreFault → ℕ
+store_fault_number store_fault.NotASession = NOT_A_SESSION
+store_fault_number store_fault.Damaged = DAMAGED
+store_fault_number store_fault.Device = DEVICE
+store_fault_number store_fault.NotBlank = NOT_BLANK
+store_fault_number store_fault.NoMemory = NO_MEMORY
 
 -- the numbers that refusals to open a file are reported as: whatever the host has against it, there
 -- is no device to work on
@@ -42,16 +36,20 @@ file_fault_number file_fault.NotThere = DEVICE
 file_fault_number file_fault.Denied = DEVICE
 file_fault_number file_fault.Folder = DEVICE
 file_fault_number file_fault.NotAFile = DEVICE
+file_fault_number file_fault.NameTooLong = DEVICE
 file_fault_number file_fault.NoSpace = DEVICE
+file_fault_number file_fault.FolderUnsynced = DEVICE
+file_fault_number file_fault.TooManyFiles = DEVICE
 file_fault_number (file_fault.Stream streams) = DEVICE
+file_fault_number file_fault.StreamsUnknown = DEVICE
 file_fault_number file_fault.Device = DEVICE
 file_fault_number file_fault.NoMemory = NO_MEMORY
 
 -- the number that it is reported as that no session was begun
 abbrev pub begin_fault_number : BeginFault → ℕ
 begin_fault_number (begin_fault.File f) = file_fault_number f
-begin_fault_number (begin_fault.Create f) = create_fault_number f
-begin_fault_number (begin_fault.Open f) = open_fault_number f
+begin_fault_number (begin_fault.Create f) = store_fault_number f
+begin_fault_number (begin_fault.Open f) = store_fault_number f
 
 -- the standard streams that are the file of a session that was not begun
 abbrev pub streams_of : BeginFault → Streams

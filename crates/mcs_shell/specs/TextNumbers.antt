@@ -2,11 +2,11 @@
 use Rattle.std.specs.Prelude.{ℕ}
 use Rattle.mcs_model.specs.declared.refusal_numbers.TheConstants.{LINE_TOO_LONG, NOT_ASCII, NO_END, TEXT_TOO_LONG}
 use Rattle.mcs_shell.specs.declared.texts.TextFault.{TextFault}
-use Rattle.mcs_shell.specs.declared.texts.TextFault.TheVariants.{HasBadByte, HasLongLine, NoEnd, TextTooLong}
+use Rattle.mcs_shell.specs.declared.texts.TextFault.TheVariants.{NotAscii, LineTooLong, NoEnd, TextTooLong}
 
 -- the numbers of texts that are refused whatever their lines say
 abbrev pub text_fault_number : TextFault → ℕ
 text_fault_number NoEnd = NO_END
 text_fault_number TextTooLong = TEXT_TOO_LONG
-text_fault_number HasLongLine = LINE_TOO_LONG
-text_fault_number HasBadByte = NOT_ASCII
+text_fault_number LineTooLong = LINE_TOO_LONG
+text_fault_number NotAscii = NOT_ASCII

@@ -7,27 +7,27 @@ ghost use Rattle.mcs_host.specs.FileDisk.{IsUncalled};
 ghost use Rattle.mcs_host.specs.declared.file_disk.FileDisk.{FileDisk};
 ghost use Rattle.mcs_host.specs.declared.file_fault.FileFault.{FileFault};
 ghost use Rattle.mcs_shell.specs.Faults.{streams_view};
-ghost use Rattle.mcs_shell.specs.Program.{IsBegunOn, IsRefusedBy, RanOverStreams, RanWithStatus, ServedChosenSession, ServedBySomeArguments, ServedSession};
+ghost use Rattle.mcs_shell.specs.Program.{IsBegunOn, IsRefusedBy, RanOverStreams, ServedChosenSession, ServedBySomeArguments, ServedSession};
 ghost use Rattle.mcs_shell.specs.RefusalNumbers.{begin_fault_number};
+ghost use Rattle.mcs_shell.specs.Shell.{exit_status_of};
 
 use crate::ends::{ShellEnd, status};
 use crate::faults::BeginFault;
 use crate::shell::run_shell;
 use crate::streams::{AnswerSink, InputSource};
 use crate::telling::{
-    tell_end, tell_no_memory, tell_no_session, tell_no_stand_in, tell_opening, tell_streams,
-    tell_usage,
+    Refusal, tell_end, tell_no_memory, tell_no_session, tell_opening, tell_streams, tell_usage,
 };
 use mcs_disk::Disk;
 use mcs_host::{
-    ArgumentsFault, Choice, FileDisk, FileFault, StandIns, Streams, choice, streams_into_sessions,
+    Choice, FileDisk, FileFault, RefusedStreams, StandIns, Streams, WordsFault, choice,
 };
 use mcs_model::refusal_numbers;
 use mcs_session::session::Session;
 use std::alloc::Global;
 use std::convert::AsStr;
 use std::env;
-use std::io::{self, ErrorKind};
+use std::io::ErrorKind;
 use std::process::ExitCode;
 
 /// The exit status where the arguments are none of the program's.
@@ -38,55 +38,54 @@ const REFUSED: u8 = 3;
 
 /// The arguments of the command line, the program's name first. Those that are no text are none of
 /// the program's.
-fn given_arguments(rt: &HostRuntime) -> Result<Vec<String>, ArgumentsFault> {
+fn given_arguments(rt: &HostRuntime) -> Result<Vec<String>, WordsFault> {
     match env::args(rt) {
         Ok(arguments) => Ok(arguments.collect(rt.alloc())?),
-        Err(error) if error.kind() == ErrorKind::InvalidData => Err(ArgumentsFault::Usage),
-        Err(_) => Err(ArgumentsFault::NoMemory),
+        Err(error) if error.kind() == ErrorKind::InvalidData => Err(WordsFault::Usage),
+        Err(_) => Err(WordsFault::NoMemory),
     }
 }
 
-/// Tells why there is no session.
-pub fn refuse(rt: &HostRuntime, number: u8) -> io::Result<ExitCode>
-    ensures { IfOk result (λ code. exit_status code ≡ 3) }
+/// Answers why there is no session. The status is the same if standard output does not take it.
+pub fn refuse(rt: &HostRuntime, number: u8) -> ExitCode
+    ensures { exit_status result ≡ 3 }
 {
-    println!(rt; "no {number}")?;
-    Ok(ExitCode::from(REFUSED))
+    let _ = println!(rt; "no {number}");
+    ExitCode::from(REFUSED)
 }
 
-/// Tells why there is no session, on standard output if that may be written.
-fn refuse_beside(rt: &HostRuntime, number: u8, unusable: Streams) -> io::Result<ExitCode>
-    ensures { IfOk result (λ code. exit_status code ≡ 3) }
+/// Answers why there is no session, on standard output if that may be written.
+fn refuse_beside(rt: &HostRuntime, number: u8, unusable: Streams) -> ExitCode
+    ensures { exit_status result ≡ 3 }
 {
     if unusable.output {
-        Ok(ExitCode::from(REFUSED))
+        ExitCode::from(REFUSED)
     } else {
         refuse(rt, number)
     }
 }
 
-/// Refuses all arguments where standard streams go into session files: these get nothing.
-pub fn refuse_streams(rt: &HostRuntime, into_sessions: Streams) -> io::Result<ExitCode>
-    ensures { IfOk result (λ code. exit_status code ≡ 3) }
+/// Refuses all arguments if standard streams may be session files: these get nothing.
+pub fn refuse_streams(rt: &HostRuntime, refused: RefusedStreams) -> ExitCode
+    ensures { exit_status result ≡ 3 }
 {
-    let refused = refuse_beside(rt, refusal_numbers::DEVICE, into_sessions);
-    tell_streams(rt, into_sessions);
-    refused
+    let status = refuse_beside(rt, refusal_numbers::DEVICE, refused.unusable);
+    tell_streams(rt, refused);
+    status
 }
 
-/// Tells that the arguments choose nothing, or that there was no memory to read them.
-pub fn refuse_arguments(rt: &HostRuntime, fault: ArgumentsFault) -> io::Result<ExitCode>
-    ensures usage { fault ≡ ArgumentsFault.Usage
-        → IfOk result (λ code. exit_status code ≡ 2) }
-    ensures no_memory { fault ≡ ArgumentsFault.NoMemory
-        → IfOk result (λ code. exit_status code ≡ 3) }
+/// Reports that the arguments choose nothing, or that there was no memory to read them. The status
+/// is the same if nobody takes the words.
+pub fn refuse_arguments(rt: &HostRuntime, fault: WordsFault) -> ExitCode
+    ensures usage { fault ≡ WordsFault.Usage → exit_status result ≡ 2 }
+    ensures no_memory { fault ≡ WordsFault.NoMemory → exit_status result ≡ 3 }
 {
     match fault {
-        ArgumentsFault::Usage => {
-            tell_usage(rt)?;
-            Ok(ExitCode::from(WRONG_ARGUMENTS))
+        WordsFault::Usage => {
+            tell_usage(rt);
+            ExitCode::from(WRONG_ARGUMENTS)
         }
-        ArgumentsFault::NoMemory => {
+        WordsFault::NoMemory => {
             let refused = refuse(rt, refusal_numbers::NO_MEMORY);
             tell_no_memory(rt);
             refused
@@ -165,79 +164,97 @@ pub fn session_in(
     session_on(alloc, choice, opened)
 }
 
-/// Serves the session of this file over a reader and a writer, and gives the exit status of the
-/// shell's end. An `Err` comes only where memory for the shell was refused and that could not be
-/// told; then nothing was read or done.
+/// Serves the session over a reader and a writer, and gives the shell's end and its exit status.
 pub fn serve<R: InputSource, W: AnswerSink, D: Disk + Drop>(
     rt: &HostRuntime,
     reader: &mut R,
     writer: &mut W,
     session: &mut Session<D>,
-    file: &str,
-) -> io::Result<ExitCode>
-    ensures ran { IfOk result (λ code. RanWithStatus D.state (exit_status code)
+) -> (ShellEnd, ExitCode)
+    ensures ran { RanOverStreams D.state result.0
         (streams_view R.remaining R.faults W.contents W.faults reader.old writer.old)
         (streams_view R.remaining R.faults W.contents W.faults reader.new writer.new)
-        session.old session.new) }
-    ensures untold { OnErr result (RanOverStreams D.state ShellEnd.NoMemory
-        (streams_view R.remaining R.faults W.contents W.faults reader.old writer.old)
-        (streams_view R.remaining R.faults W.contents W.faults reader.new writer.new)
-        session.old session.new) }
+        session.old session.new }
+    ensures status { exit_status result.1 ≡ exit_status_of result.0 }
 {
     let end = run_shell(rt.alloc(), reader, writer, session);
-    let left = match end {
-        ShellEnd::NoMemory => refuse(rt, refusal_numbers::NO_MEMORY),
-        end => Ok(ExitCode::from(status(end))),
-    };
-    tell_end(rt, file, end);
-    left
+    match end {
+        ShellEnd::NoMemory => (end, refuse(rt, refusal_numbers::NO_MEMORY)),
+        _ => (end, ExitCode::from(status(end))),
+    }
 }
 
 /// How the program ends.
 #[derive(Drop)]
 pub struct Ended<D: Disk + Drop> {
-    /// The exit status. An `Err` comes where it could not be told what to do, or why there is no
-    /// session, and where a standard stream is closed and nothing can take its place.
-    pub status: io::Result<ExitCode>,
+    /// The exit status.
+    pub status: ExitCode,
     /// The session that was served, as its shell left it.
     pub session: Option<Session<D>>,
+    /// How its shell ended.
+    pub end: Option<ShellEnd>,
 }
 
-/// Serves the session that a choice began over a reader and a writer, or tells why there is none.
+/// Serves the session that a choice began over a reader and a writer, or answers why there is none.
 pub fn serve_begun<R: InputSource, W: AnswerSink, D: Disk + Drop>(
     rt: &HostRuntime,
     reader: &mut R,
     writer: &mut W,
-    choice: &Choice,
     begun: Result<Session<D>, NotBegun<D>>,
 ) -> Ended<D>
     ensures served { IfOk begun (λ before. IsSomeAnd result.session (λ after.
-        ServedSession D.state result.status
+        ServedSession D.state (exit_status result.status)
         (streams_view R.remaining R.faults W.contents W.faults reader.old writer.old)
         (streams_view R.remaining R.faults W.contents W.faults reader.new writer.new)
         before after)) }
-    ensures refused { OnErr begun (IfOk result.status (λ code. exit_status code ≡ 3)) }
+    ensures refused { OnErr begun (exit_status result.status ≡ 3) }
     ensures unserved { OnErr begun (result.session ≡ None) }
     ensures unread { OnErr begun (R.remaining reader.new ≡ R.remaining reader.old) }
     ensures unwritten { OnErr begun (W.contents writer.new ≡ W.contents writer.old) }
 {
     match begun {
         Ok(mut session) => {
-            let status = serve(rt, reader, writer, &mut session, choice.file());
+            let (end, status) = serve(rt, reader, writer, &mut session);
             Ended {
                 status,
                 session: Some(session),
+                end: Some(end),
             }
         }
         Err(refused) => {
             let fault = refused.fault;
-            let status = refuse_beside(rt, fault.number(), fault.streams());
-            tell_no_session(rt, choice, fault);
             Ended {
-                status,
+                status: refuse_beside(rt, fault.number(), fault.streams()),
                 session: None,
+                end: None,
             }
         }
+    }
+}
+
+/// What people are told of a refused session.
+fn refusal_of(begun: &Result<Session<FileDisk>, NotBegun<FileDisk>>) -> Option<Refusal> {
+    match begun {
+        Ok(_) => None,
+        Err(refused) => Some(Refusal {
+            fault: refused.fault,
+            is_full: match &refused.disk {
+                Some(disk) => disk.is_full(),
+                None => false,
+            },
+            is_named_session: match &refused.disk {
+                Some(disk) => disk.is_named_session(),
+                None => false,
+            },
+        }),
+    }
+}
+
+/// How a shell ended that was run, and whether its device is full.
+fn end_of(ended: &Ended<FileDisk>) -> Option<(ShellEnd, bool)> {
+    match (ended.end, &ended.session) {
+        (Some(end), Some(session)) => Some((end, session.disk().is_full())),
+        _ => None,
     }
 }
 
@@ -250,16 +267,16 @@ pub fn run_arguments<S: AsStr, R: InputSource, W: AnswerSink>(
     reader: &mut R,
     writer: &mut W,
 ) -> Ended<FileDisk>
-    ensures usage { IfOk result.status (λ code. exit_status code ≡ 2
+    ensures usage { exit_status result.status ≡ 2
         → takes_arguments (map S.text arguments.entry.now) ≡ true
-        → choice_in (map S.text arguments.entry.now) ≡ None) }
+        → choice_in (map S.text arguments.entry.now) ≡ None }
     ensures served { IfSome result.session (λ after. ServedChosenSession as_disk
-        (choice_in (map S.text arguments.entry.now)) result.status
+        (choice_in (map S.text arguments.entry.now)) (exit_status result.status)
         (streams_view R.remaining R.faults W.contents W.faults reader.old writer.old)
         (streams_view R.remaining R.faults W.contents W.faults reader.new writer.new)
         after) }
-    ensures unserved { IfNone result.session (IfOk result.status (λ code.
-        (exit_status code ≡ 2) ⊎ (exit_status code ≡ 3))) }
+    ensures unserved { IfNone result.session
+        ((exit_status result.status ≡ 2) ⊎ (exit_status result.status ≡ 3)) }
     ensures unread { IfNone result.session
         (R.remaining reader.new ≡ R.remaining reader.old) }
     ensures unwritten { IfNone result.session
@@ -271,19 +288,24 @@ pub fn run_arguments<S: AsStr, R: InputSource, W: AnswerSink>(
             return Ended {
                 status: refuse_arguments(rt, fault),
                 session: None,
+                end: None,
             };
         }
     };
     let begun = session_in(rt, &choice);
-    serve_begun(rt, reader, writer, &choice, begun)
+    let refusal = refusal_of(&begun);
+    let ended = serve_begun(rt, reader, writer, begun);
+    tell_no_session(rt, &choice, refusal);
+    tell_end(rt, choice.file(), end_of(&ended));
+    ended
 }
 
 /// Runs the bench by the arguments of the command line, over standard input and standard output.
 fn run_given_arguments(rt: &HostRuntime) -> Ended<FileDisk>
     ensures served { IfSome result.session (λ after.
-        ServedBySomeArguments as_disk result.status after) }
-    ensures unserved { IfNone result.session (IfOk result.status (λ code.
-        (exit_status code ≡ 2) ⊎ (exit_status code ≡ 3))) }
+        ServedBySomeArguments as_disk (exit_status result.status) after) }
+    ensures unserved { IfNone result.session
+        ((exit_status result.status ≡ 2) ⊎ (exit_status result.status ≡ 3)) }
 {
     match given_arguments(rt) {
         Ok(arguments) => {
@@ -293,6 +315,7 @@ fn run_given_arguments(rt: &HostRuntime) -> Ended<FileDisk>
         Err(fault) => Ended {
             status: refuse_arguments(rt, fault),
             session: None,
+            end: None,
         },
     }
 }
@@ -302,27 +325,20 @@ fn run_given_arguments(rt: &HostRuntime) -> Ended<FileDisk>
 /// session back, so that nothing was done to it since its shell ended.
 pub fn run_program(rt: &HostRuntime) -> Ended<FileDisk>
     ensures served { IfSome result.session (λ after.
-        ServedBySomeArguments as_disk result.status after) }
-    ensures unserved { IfNone result.session (IfOk result.status (λ code.
-        (exit_status code ≡ 2) ⊎ (exit_status code ≡ 3))) }
+        ServedBySomeArguments as_disk (exit_status result.status) after) }
+    ensures unserved { IfNone result.session
+        ((exit_status result.status ≡ 2) ⊎ (exit_status result.status ≡ 3)) }
 {
     // They stay to the end of all that is read, written and opened here.
     let _stand_ins = match StandIns::open(rt) {
         Ok(stand_ins) => stand_ins,
-        Err(error) => {
-            tell_no_stand_in(rt);
+        Err(refused) => {
             return Ended {
-                status: Err(error),
+                status: refuse_streams(rt, refused),
                 session: None,
+                end: None,
             };
         }
     };
-    let into_sessions = streams_into_sessions(rt);
-    if into_sessions.any() {
-        return Ended {
-            status: refuse_streams(rt, into_sessions),
-            session: None,
-        };
-    }
     run_given_arguments(rt)
 }

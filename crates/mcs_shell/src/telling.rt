@@ -3,33 +3,47 @@
 //! status are those without it.
 use crate::ends::ShellEnd;
 use crate::faults::BeginFault;
-use mcs_host::{Choice, FileDisk, FileFault, Streams};
-use mcs_journal::CreateFault;
-use std::io;
+use mcs_host::{Choice, FileDisk, FileFault, RefusedStreams, StreamsFault};
+use mcs_journal::StoreFault;
 use std::path::Path;
 
-/// What wrong arguments get: what the arguments are, where the manual is, and the versions of the
-/// program and of its session files.
-pub fn tell_usage(rt: &HostRuntime) -> io::Result<()> {
-    eprintln!(rt; "usage: mcs4 new FILE or mcs4 open FILE")?;
-    eprintln!(rt; "manual: docs/MANUAL.md in the folder that mcs4 was built in")?;
-    eprintln!(rt;
-        "version: mcs4 2.0, session files MCS4BEN1 of version 2; those of version 1 are carried over"
-    )
+/// Why a session was refused, and what was found in its file.
+#[derive(Clone, Copy)]
+pub struct Refusal {
+    /// Why.
+    pub fault: BeginFault,
+    /// The device has no space.
+    pub is_full: bool,
+    /// The file has the size and the name of a session file.
+    pub is_named_session: bool,
 }
 
-/// A line on standard streams that go into session files; nothing where standard error is one.
-pub fn tell_streams(rt: &HostRuntime, into_sessions: Streams) {
-    if !into_sessions.errors {
-        let _ = eprintln!(rt; "mcs4: standard output goes into a session file; send it elsewhere");
-    }
-}
-
-/// A line on a closed standard stream that nothing can take the place of.
-pub fn tell_no_stand_in(rt: &HostRuntime) {
+/// Prints the usage, where the manual is, and the versions of the program and of its session files.
+pub fn tell_usage(rt: &HostRuntime) {
+    let _ = eprintln!(rt; "usage: mcs4 new FILE or mcs4 open FILE");
+    let _ = eprintln!(rt; "manual: docs/MANUAL.md in the folder that mcs4 was built in");
     let _ = eprintln!(rt;
-        "mcs4: standard input, output or error is closed, and /dev/null cannot be opened in its place"
+        "version: mcs4 2.0, session files MCS4BEN1 of version 2; those of version 1 are carried over"
     );
+}
+
+/// Prints why the standard streams are refused, unless standard error may be a session file.
+pub fn tell_streams(rt: &HostRuntime, refused: RefusedStreams) {
+    if refused.unusable.errors {
+        return;
+    }
+    let words = match refused.fault {
+        StreamsFault::IntoSession => {
+            "standard output goes into a session file; send it elsewhere"
+        }
+        StreamsFault::Unknown => {
+            "cannot find out which files standard input, output and error are; mount /proc"
+        }
+        StreamsFault::NoStandIn => {
+            "standard input, output or error is closed, and /dev/null cannot be opened in its place"
+        }
+    };
+    let _ = eprintln!(rt; "mcs4: {words}");
 }
 
 /// A line on a file that was opened and whose name may not stay; nothing on any other.
@@ -43,26 +57,95 @@ pub fn tell_opening(rt: &HostRuntime, file: &str, opened: &Result<FileDisk, File
     }
 }
 
-/// A line on a refused session: what is wrong with its file, and what to do; nothing where standard
-/// error is that file.
-pub fn tell_no_session(rt: &HostRuntime, choice: &Choice, fault: BeginFault) {
-    if fault.streams().errors {
+/// Prints what is wrong with the file of a refused session, and what to do, unless standard error is
+/// that file; nothing if no session was refused.
+pub fn tell_no_session(rt: &HostRuntime, choice: &Choice, refused: Option<Refusal>) {
+    let Some(refusal) = refused else {
+        return;
+    };
+    if refusal.fault.streams().errors {
         return;
     }
     let file = choice.file();
-    // Where standard error takes nothing, the number that standard output got has to do.
-    let _ = match (choice, fault) {
+    // If standard error takes nothing, the number that standard output got has to do.
+    let _ = match (choice, refusal.fault) {
         (Choice::Open(_), BeginFault::File(FileFault::NotThere)) if has_folder(rt, file) => {
             eprintln!(rt; "mcs4: {file}: no such file; begin a session with: mcs4 new {file}")
         }
-        (_, BeginFault::Create(CreateFault::NotBlank)) => eprintln!(rt;
-            "mcs4: {file}: not blank, so no session is made in it; remove it, or go on with: mcs4 open {file}"
-        ),
-        (_, BeginFault::File(FileFault::NotThere)) => {
-            eprintln!(rt; "mcs4: {file}: no such folder; make it first")
+        (_, BeginFault::Create(StoreFault::NotBlank)) if refusal.is_named_session => {
+            eprintln!(rt; "mcs4: {file}: already a session file; go on with it: mcs4 open {file}")
         }
-        (_, fault) => eprintln!(rt; "mcs4: {file}: {fault}"),
+        (_, fault) => {
+            let words = begin_words(fault, refusal.is_full);
+            eprintln!(rt; "mcs4: {file}: {words}")
+        }
     };
+}
+
+// The words for a session that was not begun.
+fn begin_words(fault: BeginFault, is_full: bool) -> &'static str {
+    match fault {
+        BeginFault::File(fault) => file_words(fault),
+        BeginFault::Create(fault) => create_words(fault, is_full),
+        BeginFault::Open(fault) => open_words(fault, is_full),
+    }
+}
+
+// The words for a file that was not opened.
+fn file_words(fault: FileFault) -> &'static str {
+    match fault {
+        FileFault::InUse => "in use by another program; wait until that has ended",
+        FileFault::NoLock => "the host has no lock for it; put it on a disk of this machine",
+        FileFault::NotThere => "no such folder; make it first",
+        FileFault::Denied => "no permission to read and write it",
+        FileFault::Folder => "it is a folder; name a file in it",
+        FileFault::NotAFile => "not a regular file; name another",
+        FileFault::NameTooLong => "its name is too long; choose a shorter one",
+        FileFault::NoSpace => "no space for it on the device; make room and try again",
+        FileFault::FolderUnsynced => {
+            "its folder cannot be synced, so a power cut could lose it; choose another folder"
+        }
+        FileFault::TooManyFiles => "too many files are open; close some, or raise the limit",
+        FileFault::Stream(_) => {
+            "standard input or output is this very file; send that elsewhere"
+        }
+        FileFault::StreamsUnknown => {
+            "cannot find out whether standard input or output is this file; mount /proc"
+        }
+        FileFault::Device => "the host refused it, or its device failed",
+        FileFault::NoMemory => "out of memory",
+    }
+}
+
+// The words for a session that was not made.
+fn create_words(fault: StoreFault, is_full: bool) -> &'static str {
+    match fault {
+        StoreFault::Device if is_full => {
+            "no space left on the device; make room, then remove it and begin again"
+        }
+        StoreFault::Device => "the device failed; remove it and begin again",
+        fault => open_words(fault, is_full),
+    }
+}
+
+// The words for a session that was not opened.
+fn open_words(fault: StoreFault, is_full: bool) -> &'static str {
+    match fault {
+        StoreFault::NotASession => "not a session file; begin a session in another file",
+        StoreFault::Damaged => "damaged; go on with a copy of it, if there is one",
+        StoreFault::Device => device_words(is_full),
+        StoreFault::NotBlank => "not a session file; choose another name",
+        StoreFault::NoMemory => "out of memory",
+    }
+}
+
+// The words for a device that failed.
+fn device_words(is_full: bool) -> &'static str {
+    if is_full {
+        "no space left on the device; make room, then open it again"
+    } else {
+        "the device failed; open it again"
+    }
 }
 
 // Whether the folder of the file of this name is there, where one can tell.
@@ -73,20 +156,24 @@ fn has_folder(rt: &HostRuntime, file: &str) -> bool {
     }
 }
 
-/// A line on a session that a fault ended, or nothing where it came to its end.
-pub fn tell_end(rt: &HostRuntime, file: &str, end: ShellEnd) {
+/// Prints why a session ended, unless its input came to its end: the end of its shell, and whether
+/// its device is full.
+pub fn tell_end(rt: &HostRuntime, file: &str, ended: Option<(ShellEnd, bool)>) {
+    let Some((end, is_full)) = ended else {
+        return;
+    };
     let reason = match end {
         ShellEnd::End => return,
         ShellEnd::ReadFault => "standard input could not be read; what was answered ok is kept",
         ShellEnd::WriteFault => "standard output took no more; what was answered ok is kept",
-        ShellEnd::DeviceFault => "the device failed; open it again",
+        ShellEnd::DeviceFault => device_words(is_full),
         ShellEnd::InputLimit => "no more than 16777216 bytes are read; open it again to go on",
         ShellEnd::NoMemory => "out of memory",
     };
     let _ = eprintln!(rt; "mcs4: {file}: {reason}");
 }
 
-/// A line on arguments that there was no memory for.
+/// Prints that there was no memory for the arguments.
 pub fn tell_no_memory(rt: &HostRuntime) {
     let _ = eprintln!(rt; "mcs4: out of memory");
 }

@@ -19,18 +19,23 @@ use mcs_model::refusal_numbers;
 use mcs_wiring::{WiringFault, board_of};
 use std::alloc::{AllocError, Global};
 use std::str;
+use thiserror::Error;
 
 /// Why a text is refused, whatever its lines say.
-#[derive(Clone, Copy, Debug)]
+#[derive(Clone, Copy, Debug, Error)]
 pub enum TextFault {
     /// Input ended inside it.
+    #[error("the input ended inside the text")]
     NoEnd,
     /// It has too many bytes.
+    #[error("the text has too many bytes")]
     TextTooLong,
     /// One of its lines has too many bytes.
-    HasLongLine,
+    #[error("a line of the text has too many bytes")]
+    LineTooLong,
     /// It has a byte that is neither a tab nor a printing character of ASCII.
-    HasBadByte,
+    #[error("a byte of the text is neither a tab nor a printing character of ASCII")]
+    NotAscii,
 }
 
 impl TextFault {
@@ -41,8 +46,8 @@ impl TextFault {
         match self {
             TextFault::NoEnd => refusal_numbers::NO_END,
             TextFault::TextTooLong => refusal_numbers::TEXT_TOO_LONG,
-            TextFault::HasLongLine => refusal_numbers::LINE_TOO_LONG,
-            TextFault::HasBadByte => refusal_numbers::NOT_ASCII,
+            TextFault::LineTooLong => refusal_numbers::LINE_TOO_LONG,
+            TextFault::NotAscii => refusal_numbers::NOT_ASCII,
         }
     }
 }
@@ -84,9 +89,9 @@ pub fn text_fault(text: &[u8]) -> Option<TextFault>
     if text.len() > TEXT_BYTES {
         Some(TextFault::TextTooLong)
     } else if !has_short_lines(text) {
-        Some(TextFault::HasLongLine)
+        Some(TextFault::LineTooLong)
     } else if !has_text_bytes(text) {
-        Some(TextFault::HasBadByte)
+        Some(TextFault::NotAscii)
     } else {
         None
     }
@@ -104,12 +109,14 @@ pub fn as_text(text: &[u8]) -> &str
 }
 
 /// Why a text spells nothing.
-#[derive(Clone, Copy, Debug)]
+#[derive(Clone, Copy, Debug, Error)]
 pub enum TextRefusal {
     /// It has no board.
+    #[error("{0}")]
     Wiring(WiringFault),
     /// It is no program: the number of the line that is at fault, from 1, and what is wrong with
     /// it.
+    #[error("line {0}: {1}")]
     Program(usize, SourceFault),
 }
 

@@ -3,25 +3,34 @@ ghost use Rattle.std.specs.Prelude.{◌≡◌};
 ghost use Rattle.mcs_source.specs.RefusalNumbers.{source_fault_number};
 
 use mcs_model::refusal_numbers;
+use thiserror::Error;
 
 /// What is wrong with a line of a source text.
-#[derive(Clone, Copy, Debug, PartialEq, Eq)]
+#[derive(Clone, Copy, Debug, PartialEq, Eq, Error)]
 pub enum SourceFault {
     /// The line has no form of a source text (no 30).
+    #[error("the line is not a statement")]
     BadStatement,
     /// It defines a name that an earlier line defined (no 31).
+    #[error("an earlier line defines the name")]
     DoubleName,
     /// It uses a name that no line defines (no 32).
+    #[error("no line defines the name")]
     UnknownName,
     /// A value is out of its range (no 33).
+    #[error("a value is out of its range")]
     OutOfRange,
     /// An address is off the page that the instruction reaches (no 34).
+    #[error("the address is on another page")]
     WrongPage,
     /// It spells an address that an earlier line spells (no 35).
+    #[error("an earlier line fills the address")]
     Overlap,
     /// Its label stands at 4096, or it spells a byte at 4096 or later (no 36).
+    #[error("the address is past the end of the ROM")]
     PastEnd,
     /// It defines a 513th name (no 37).
+    #[error("the text defines too many names")]
     TooManyNames,
 }
 

@@ -4,29 +4,39 @@ ghost use Rattle.mcs_wiring.specs.RefusalNumbers.{wiring_fault_number};
 
 use mcs_model::board::BoardFault;
 use mcs_model::refusal_numbers;
+use thiserror::Error;
 
 /// Why a text has no board: the first of these that holds of it, in the order in which they stand
 /// here, where memory was not refused.
-#[derive(Clone, Copy, Debug, PartialEq, Eq)]
+#[derive(Clone, Copy, Debug, PartialEq, Eq, Error)]
 pub enum WiringFault {
     /// The text is not TOML.
+    #[error("the text is not TOML")]
     BadToml,
     /// A key that no board has, at the top or in the table of a part.
+    #[error("no board has this key")]
     UnknownKey,
     /// The table of a part lacks a key.
+    #[error("the table of a part lacks a key")]
     MissingKey,
     /// A value of another type or form, a number out of its range, or a key matrix without columns.
+    #[error("a value has another type or form, or is out of its range")]
     BadValue,
     /// More parts of one kind than a board can have.
+    #[error("the board has too many parts of one kind")]
     TooManyParts,
     /// Two ROMs of one chip number, or two entries for one bank of RAM.
+    #[error("two parts have one chip number or one bank")]
     DoubleChip,
     /// A line, a chain or a row's bit that the board lacks.
+    #[error("a line, a chain or a row's bit is not on the board")]
     NoSuchLine,
     /// A clock or data line that is no output line, a column that is no input line, or a lamp at an
     /// input line.
+    #[error("an input line is used as an output line, or an output line as an input line")]
     WrongDirection,
     /// Memory was refused, so nothing is said of the text.
+    #[error("out of memory")]
     NoMemory,
 }
 

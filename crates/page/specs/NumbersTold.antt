@@ -3,7 +3,7 @@ use Rattle.std.specs.Prelude.{◌≡◌, ℕ, List}
 use Rattle.mcs_page.specs.Page.{AnswersInBuffer, AnswersAndSettles, IsWhyNotServed, WouldAnswer}
 use Rattle.mcs_page.specs.declared.fault.ServeFault.{ServeFault}
 use Rattle.mcs_page.specs.declared.fault.ServeFault.TheVariants.{Refused, NoRoom}
-use Rattle.mcs_shell.specs.RefusalNumbers.{open_fault_number}
+use Rattle.mcs_shell.specs.RefusalNumbers.{store_fault_number}
 use Rattle.mcs_shell.specs.Shell.{exit_status_of}
 use Rattle.mcs_shell.specs.declared.ends.ShellEnd.{ShellEnd}
 
@@ -31,7 +31,7 @@ pub record TellsWhatItWouldAnswer (file input : List ℕ) (number count : ℕ) (
 
 -- the number that tells why input was not served, and the count beside it
 abbrev pub number_told : ServeFault → ℕ
-number_told (Refused fault) = open_fault_number fault
+number_told (Refused fault) = store_fault_number fault
 number_told (NoRoom count) = 0
 
 abbrev pub count_told : ServeFault → ℕ

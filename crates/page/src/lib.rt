@@ -10,7 +10,7 @@ ghost use Rattle.mcs_shell.specs.Shell.{exit_status_of};
 use mcs_page::fault::ServeFault;
 use mcs_page::page::{ServedInput, ask, begin, serve, serve_and_settle, settle};
 use mcs_shell::ends::status;
-use mcs_shell::faults::open_number;
+use mcs_shell::faults::store_number;
 use std::alloc::Global;
 
 /// What came of a call.
@@ -45,7 +45,7 @@ fn tell_why(why: ServeFault, told: &mut CallResult) -> bool
 {
     *told = match why {
         ServeFault::Refused(fault) => CallResult {
-            number: u32::from(open_number(fault)),
+            number: u32::from(store_number(fault)),
             count: 0,
         },
         ServeFault::NoRoom(count) => CallResult { number: 0, count },

@@ -3,7 +3,7 @@ use mcs_lines::requests::{Request, read_request};
 use std::test::Fail;
 
 /// Lines whose numbers are in their ranges.
-const IN_RANGE: [&str; 42] = [
+const IN_RANGE: [&str; 41] = [
     "",
     " \t ",
     "wire",
@@ -13,8 +13,7 @@ const IN_RANGE: [&str; 42] = [
     "lamps",
     "regs",
     "breaks",
-    "watches",
-    " ports ",
+    " watches ",
     "seq",
     "board",
     "run 0",
@@ -69,7 +68,7 @@ const REQUESTS: [(&str, &str); 22] = [
     ("list 0x100 3", "Listing(Addr { value: 256 }, 3)"),
     ("ram 5", "Ask(Ram(BankNo { value: 5 }))"),
     ("watches", "Ask(Watches)"),
-    ("ports", "Ask(Ports)"),
+    ("state", "Ask(State)"),
     ("watch 5 63", "Change(Watch(BankNo { value: 5 }, 63))"),
     (
         "unwatch 0x6 0x3F",

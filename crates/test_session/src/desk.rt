@@ -2,7 +2,7 @@
 use crate::checks::equal;
 use mcs_bench::Bench;
 use mcs_disk::{Disk, FuseDisk, MemDisk};
-use mcs_journal::{CreateFault, FILE_SIZE, OpenFault};
+use mcs_journal::{FILE_SIZE, StoreFault};
 use mcs_model::command::{Command, Place, Reply};
 use mcs_model::stop::Stop;
 use mcs_nibble::{Nibble, RegNo};
@@ -27,7 +27,7 @@ pub(crate) fn blank(alloc: Global, rt: &impl Abort) -> MemDisk {
 pub(crate) fn create<D: Disk + Drop>(
     alloc: Global,
     disk: D,
-) -> Result<Session<D>, (CreateFault, D)> {
+) -> Result<Session<D>, (StoreFault, D)> {
     Session::create(alloc, disk)
 }
 
@@ -40,7 +40,7 @@ pub(crate) fn made<D: Disk + Drop>(alloc: Global, rt: &impl Abort, disk: D) -> S
 }
 
 /// What the opening of this disk answers.
-pub(crate) fn open<D: Disk + Drop>(alloc: Global, disk: D) -> Result<Session<D>, (OpenFault, D)> {
+pub(crate) fn open<D: Disk + Drop>(alloc: Global, disk: D) -> Result<Session<D>, (StoreFault, D)> {
     Session::open(alloc, disk)
 }
 

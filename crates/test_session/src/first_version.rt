@@ -3,7 +3,7 @@ use crate::checks::equal;
 use crate::desk::{blank, expect_bytes, expect_register, leave, mended, open};
 use mcs_disk::{FuseDisk, MemDisk};
 use mcs_fixtures::files::{NEW_BENCH, POKE};
-use mcs_journal::OpenFault;
+use mcs_journal::StoreFault;
 use std::alloc::Global;
 use std::process::Abort;
 
@@ -25,7 +25,7 @@ fn stopped(alloc: Global, rt: &impl Abort, calls: usize) -> Option<FuseDisk> {
     match open(alloc, disk) {
         Ok(_) => None,
         Err((fault, disk)) => {
-            equal(rt, fault, OpenFault::Device);
+            equal(rt, fault, StoreFault::Device);
             Some(mended(disk))
         }
     }

@@ -2,9 +2,10 @@ use crate::checks::equal;
 use mcs_disk::{
     Disk, FuseDisk, MemDisk, cut_is_before_a_stretch_or_since_its_start,
     cut_is_since_an_earlier_time, cut_leaves_what_is_durable, cut_of_what_a_cut_left,
+    images_have_the_size_of_the_disk, read_bytes_are_an_image, reads_and_syncs_add_no_image,
 };
 use mcs_journal::{
-    CreateFault, FILE_SIZE, OpenFault, Opened, Store, cut_leaves_durable_contents,
+    FILE_SIZE, Opened, Store, StoreFault, cut_leaves_durable_contents,
     cut_leaves_old_or_new_contents,
 };
 use std::alloc::Global;
@@ -78,7 +79,7 @@ fn reopened(alloc: Global, rt: &impl Abort, disk: MemDisk) -> Store<MemDisk> {
     }
 }
 
-fn expect_refusal<D: Disk + Drop>(alloc: Global, rt: &impl Abort, disk: D, want: OpenFault) {
+fn expect_refusal<D: Disk + Drop>(alloc: Global, rt: &impl Abort, disk: D, want: StoreFault) {
     match Store::open(alloc, disk) {
         Ok(_) => panic!(rt; "the disk was taken"),
         Err((fault, _)) => equal(rt, fault, want),
@@ -122,7 +123,7 @@ fn run_until_fault(alloc: Global, rt: &impl Abort, passed: usize) -> FuseDisk {
     let mut store = match Store::create(alloc, FuseDisk::after(blank(alloc, rt), passed), &SNAP) {
         Ok(store) => store,
         Err((fault, disk)) => {
-            assert!(rt; fault == CreateFault::Device && passed < 5);
+            assert!(rt; fault == StoreFault::Device && passed < 5);
             return disk;
         }
     };
@@ -143,7 +144,7 @@ fn stops_at_each_device_call(rt: HostRuntime) {
     for passed in 0..4 {
         let mut disk = run_until_fault(alloc, &rt, passed);
         disk.mend();
-        expect_refusal(alloc, &rt, disk, OpenFault::NotASession);
+        expect_refusal(alloc, &rt, disk, StoreFault::NotASession);
     }
     for (passed, records) in [
         (4, 0),
@@ -173,7 +174,7 @@ fn fails_one_call_alone(rt: HostRuntime) {
         match Store::create(alloc, FuseDisk::once(blank(alloc, &rt), passed), &SNAP) {
             Ok(_) => panic!(rt; "the call {passed} did not fail"),
             Err((fault, disk)) => {
-                equal(&rt, fault, CreateFault::Device);
+                equal(&rt, fault, StoreFault::Device);
                 if passed < 4 {
                     assert!(rt; Store::create(alloc, disk, &SNAP).is_ok(), "after {passed}");
                 }
@@ -202,18 +203,18 @@ fn finds_what_a_stop_left(rt: HostRuntime) {
 fn refuses_what_holds_no_pair(rt: HostRuntime) {
     let alloc = rt.alloc();
     for (at, left, fault) in [
-        (0, &[0u8][..], OpenFault::NotASession),
-        (9, &[1][..], OpenFault::Damaged),
-        (16, &[0, 0, 64, 0][..], OpenFault::Damaged),
-        (16_400, &[1, 0, 0][..], OpenFault::Damaged),
-        (16_400, &[1, 32, 1][..], OpenFault::Damaged),
+        (0, &[0u8][..], StoreFault::NotASession),
+        (9, &[1][..], StoreFault::Damaged),
+        (16, &[0, 0, 64, 0][..], StoreFault::Damaged),
+        (16_400, &[1, 0, 0][..], StoreFault::Damaged),
+        (16_400, &[1, 32, 1][..], StoreFault::Damaged),
     ] {
         let mut disk = created(alloc, &rt).into_disk();
         damage(&rt, &mut disk, at, left);
         expect_refusal(alloc, &rt, disk, fault);
     }
     let short = MemDisk::new(alloc, FILE_SIZE - 1).expect(&rt, "memory");
-    expect_refusal(alloc, &rt, short, OpenFault::NotASession);
+    expect_refusal(alloc, &rt, short, StoreFault::NotASession);
 }
 
 #[test]
@@ -224,7 +225,7 @@ fn makes_a_store_on_a_blank_disk_only(rt: HostRuntime) {
     for disk in [short, used] {
         match Store::create(alloc, disk, &SNAP) {
             Ok(_) => panic!(rt; "a disk that is not blank was taken"),
-            Err((fault, _)) => equal(&rt, fault, CreateFault::NotBlank),
+            Err((fault, _)) => equal(&rt, fault, StoreFault::NotBlank),
         }
     }
 }
@@ -232,6 +233,9 @@ fn makes_a_store_on_a_blank_disk_only(rt: HostRuntime) {
 /// The laws are proved of every two types of disks; these two are such types.
 #[test]
 fn laws_of_power_cuts_hold_of_disks_in_memory(_rt: HostRuntime) {
+    read_bytes_are_an_image::<FuseDisk>();
+    images_have_the_size_of_the_disk::<FuseDisk>();
+    reads_and_syncs_add_no_image::<FuseDisk>();
     cut_is_since_an_earlier_time::<MemDisk, FuseDisk>();
     cut_leaves_what_is_durable::<MemDisk, FuseDisk>();
     cut_is_before_a_stretch_or_since_its_start::<FuseDisk, MemDisk>();

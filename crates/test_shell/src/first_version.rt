@@ -2,7 +2,7 @@
 use crate::scripts::INPUTS;
 use crate::sessions::{expect, expect_state, failing_disk_of, file_of, found, left_on, open, put};
 use mcs_fixtures::files::NEW_BENCH;
-use mcs_journal::{FILE_SIZE, OpenFault};
+use mcs_journal::{FILE_SIZE, StoreFault};
 use std::alloc::Global;
 use std::process::Abort;
 
@@ -34,7 +34,7 @@ fn left_by_a_stop(alloc: Global, rt: &impl Abort, file: &[u8], calls: usize) -> 
     match open(alloc, failing_disk_of(alloc, rt, file, calls)) {
         Ok(_) => None,
         Err((fault, disk)) => {
-            expect(rt, fault == OpenFault::Device, calls);
+            expect(rt, fault == StoreFault::Device, calls);
             Some(left_on(alloc, rt, disk))
         }
     }

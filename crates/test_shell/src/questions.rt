@@ -2,7 +2,7 @@
 //! refuses each in turn, the gate none.
 use crate::sessions::{create, seq_of, serve};
 use mcs_disk::MemDisk;
-use mcs_journal::{CreateFault, FILE_SIZE};
+use mcs_journal::{FILE_SIZE, StoreFault};
 use mcs_session::session::Session;
 use mcs_shell::ends::ShellEnd;
 use std::alloc::{AllocError, Global};
@@ -75,9 +75,9 @@ fn make_and_run(alloc: Global, rt: &impl Abort) -> &'static str {
     };
     match create(alloc, disk) {
         Ok(session) => run(alloc, rt, session),
-        Err((CreateFault::NoMemory, _)) => "the session made",
+        Err((StoreFault::NoMemory, _)) => "the session made",
         Err((fault, _)) => {
-            assert!(rt; fault == CreateFault::Device);
+            assert!(rt; fault == StoreFault::Device);
             "a record at making"
         }
     }

@@ -5,7 +5,7 @@ use arrayvec::ArrayVec;
 use mcs_disk::{Disk, DiskFault, MemDisk};
 use mcs_fixtures::files::{NEW_BENCH, POKE};
 use mcs_fixtures::texts::{WIRE_WORKED, board_in};
-use mcs_journal::{CreateFault, FILE_SIZE, OpenFault};
+use mcs_journal::{FILE_SIZE, StoreFault};
 use mcs_session::session::Session;
 use mcs_shell::ends::ShellEnd;
 use std::alloc::Global;
@@ -174,8 +174,8 @@ fn open_again(
 ) -> (Session<MemDisk>, Option<&'static str>) {
     let (refused, disk) = match open(alloc, disk) {
         Ok(session) => return (session, None),
-        Err((OpenFault::NoMemory, disk)) => ("the session opened", disk),
-        Err((OpenFault::Device, disk)) => ("a record at opening", disk),
+        Err((StoreFault::NoMemory, disk)) => ("the session opened", disk),
+        Err((StoreFault::Device, disk)) => ("a record at opening", disk),
         Err(_) => panic!(rt; "the session was not opened"),
     };
     (opened(alloc, rt, disk), Some(refused))
@@ -188,7 +188,7 @@ fn make_and_run(alloc: Global, rt: &impl Abort) -> &'static str {
     };
     match create(alloc, disk) {
         Ok(session) => run(alloc, rt, session),
-        Err((CreateFault::NoMemory, disk)) => match create(alloc, disk) {
+        Err((StoreFault::NoMemory, disk)) => match create(alloc, disk) {
             Ok(session) => {
                 let _ = run(alloc, rt, session);
                 "the session made"
@@ -196,7 +196,7 @@ fn make_and_run(alloc: Global, rt: &impl Abort) -> &'static str {
             Err(_) => panic!(rt; "the disk was not handed back as it was"),
         },
         Err((fault, disk)) => {
-            assert!(rt; fault == CreateFault::Device && disk.size() == FILE_SIZE);
+            assert!(rt; fault == StoreFault::Device && disk.size() == FILE_SIZE);
             "a record at making"
         }
     }
@@ -237,7 +237,7 @@ fn carry_over(alloc: Global, rt: &impl Abort) -> &'static str {
             expect_register(rt, &session);
             "nothing"
         }
-        Err((OpenFault::NoMemory, mut disk)) => {
+        Err((StoreFault::NoMemory, mut disk)) => {
             let mut file = new_file(alloc, rt);
             put(rt, file.as_mut_slice(), POKE.0, POKE.1);
             let left = bytes_of(alloc, rt, &mut disk);
@@ -246,7 +246,7 @@ fn carry_over(alloc: Global, rt: &impl Abort) -> &'static str {
             "the session carried over"
         }
         Err((fault, disk)) => {
-            assert_eq!(rt; fault, OpenFault::Device);
+            assert_eq!(rt; fault, StoreFault::Device);
             expect_register(rt, &opened(alloc, rt, disk));
             "a record at carrying over"
         }

@@ -39,7 +39,7 @@ ram 0
 ram 1
 breaks
 watches
-ports
+state
 lamps
 regs
 ";

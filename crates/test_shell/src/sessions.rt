@@ -3,7 +3,7 @@ ghost use Rattle.std.specs.Prelude.{◌≡◌, ◌≤◌, ◌+◌, length};
 
 use crate::scripts::QUESTIONS;
 use mcs_disk::{Disk, FuseDisk, MemDisk};
-use mcs_journal::{CreateFault, FILE_SIZE, OpenFault};
+use mcs_journal::{FILE_SIZE, StoreFault};
 use mcs_model::command::{Command, Place};
 use mcs_nibble::{Nibble, RegNo};
 use mcs_session::fault::SessionFault;
@@ -51,12 +51,12 @@ pub(crate) fn put(rt: &impl Abort, file: &mut [u8], at: usize, bytes: &[u8]) {
 pub(crate) fn create<D: Disk + Drop>(
     alloc: Global,
     disk: D,
-) -> Result<Session<D>, (CreateFault, D)> {
+) -> Result<Session<D>, (StoreFault, D)> {
     Session::create(alloc, disk)
 }
 
 /// Opens the session of a file.
-pub(crate) fn open<D: Disk + Drop>(alloc: Global, disk: D) -> Result<Session<D>, (OpenFault, D)> {
+pub(crate) fn open<D: Disk + Drop>(alloc: Global, disk: D) -> Result<Session<D>, (StoreFault, D)> {
     Session::open(alloc, disk)
 }
 
@@ -142,7 +142,7 @@ pub(crate) fn told<D: Disk + Drop>(
 }
 
 /// What the session of a file tells of its state, or why it is none.
-pub(crate) fn found(alloc: Global, rt: &impl Abort, file: &[u8]) -> Result<Vec<u8>, OpenFault> {
+pub(crate) fn found(alloc: Global, rt: &impl Abort, file: &[u8]) -> Result<Vec<u8>, StoreFault> {
     match open(alloc, disk_of(alloc, rt, file)) {
         Ok(mut session) => Ok(told(alloc, rt, &mut session, QUESTIONS)),
         Err((fault, _)) => Err(fault),

@@ -5,8 +5,9 @@ use crate::sessions::{
     left_on, new_in_memory, open, opened, opened_in_memory, poke, seq_of, serve, states_behind,
 };
 use mcs_disk::{FuseDisk, MemDisk};
-use mcs_fixtures::streams::{CutReader, CutWriter, joined};
-use mcs_journal::{CreateFault, OpenFault};
+use mcs_fixtures::streams::{CutReader, CutWriter, EndlessReader, joined};
+use mcs_journal::StoreFault;
+use mcs_model::limits::INPUT_BYTES;
 use mcs_session::fault::SessionFault;
 use mcs_session::session::Session;
 use mcs_shell::ends::{ShellEnd, status};
@@ -113,7 +114,7 @@ fn at_each_call_of_the_disk(rt: HostRuntime) {
                     stop_in_commands(alloc, &rt, session, calls, is_once, states.as_slice())
                 }
                 Err((fault, _disk)) => {
-                    expect(&rt, fault == CreateFault::Device && calls < 5, calls);
+                    expect(&rt, fault == StoreFault::Device && calls < 5, calls);
                 }
             }
         }
@@ -125,7 +126,7 @@ fn is_stopped_opening(alloc: Global, rt: &impl Abort, file: &[u8], calls: usize)
     match open(alloc, failing_disk_of(alloc, rt, file, calls)) {
         Ok(_) => false,
         Err((fault, disk)) => {
-            expect(rt, fault == OpenFault::Device, calls);
+            expect(rt, fault == StoreFault::Device, calls);
             let bytes = left_on(alloc, rt, disk);
             expect(rt, bytes.as_slice() == file, calls);
             true
@@ -220,6 +221,18 @@ fn at_each_byte_that_is_read(rt: HostRuntime) {
     for left in 0..=script.len() {
         expect_cut_reading(alloc, &rt, script.as_slice(), left);
     }
+}
+
+/// A shell reads no more than its limit of an input that has no end. Empty lines are not answered.
+#[test]
+fn at_the_limit_of_an_endless_input(rt: HostRuntime) {
+    let alloc = rt.alloc();
+    let mut session = new_in_memory(alloc, &rt);
+    let mut reader = EndlessReader::new(b'\n');
+    let (end, answers) = answered(alloc, &mut reader, &mut session);
+    expect(&rt, end == ShellEnd::InputLimit && status(end) == 1, 0);
+    expect(&rt, reader.given() == INPUT_BYTES as u64, 1);
+    expect(&rt, answers.as_slice() == FIRST, 2);
 }
 
 /// A writer that fails after that many bytes of the answers ends the shell. It answers the disk.

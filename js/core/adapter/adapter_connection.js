@@ -1,6 +1,6 @@
 // Requests, responses and events of the protocol of debug adapters over a stream: one request after the other, `initialize` first.
 
-import { MessageReader, fieldOf, framed } from "../server/framing.js";
+import { MessageReader, StreamLost, fieldOf, framed } from "../server/framing.js";
 import { AdapterError, wordsOf } from "./protocol.js";
 import * as say from "../../words/adapter.js";
 import { INITIALIZE_FIRST, INITIALIZE_ONCE, NOT_JSON, messageTooLong } from "../../words/server.js";
@@ -32,11 +32,19 @@ export class AdapterConnection {
     this.turn = Promise.resolve();
   }
 
-  /** @param {Uint8Array} bytes */
+  /**
+   * Takes bytes of the stream. It throws a StreamLost if no message can follow, after the client has got the error.
+   * @param {Uint8Array} bytes
+   */
   take(bytes) {
-    for (const received of this.reader.take(bytes)) {
-      if ("text" in received) this.takeText(received.text);
-      else this.refuse(0, "", new AdapterError(messageTooLong(received.tooLong)));
+    try {
+      for (const received of this.reader.take(bytes)) {
+        if ("text" in received) this.takeText(received.text);
+        else this.refuse(0, "", new AdapterError(messageTooLong(received.tooLong)));
+      }
+    } catch (thrown) {
+      if (thrown instanceof StreamLost) this.refuse(0, "", new AdapterError(thrown.message));
+      throw thrown;
     }
   }
 

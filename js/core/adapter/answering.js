@@ -2,12 +2,15 @@
 
 import { LAST_ADDRESS, hex } from "../bench/numbers.js";
 import { refusalOf } from "../bench/answers.js";
+import { WORDS } from "../conditions/parser.js";
+import { PLACE_WORDS } from "../conditions/places.js";
 import { FIRST_WORDS } from "./console.js";
 import { addressWords, bytesAt, rowsAt } from "./disassembly.js";
 import { framesOf } from "./frames.js";
 import { fieldOf } from "../server/framing.js";
+import { keysOf } from "../testing/test_text.js";
 import { fail, needNumber, needText } from "./protocol.js";
-import { setPlace } from "./setting.js";
+import { placeToSet, setPlace } from "./setting.js";
 import { hoverOf, valueOfExpression } from "./values.js";
 import * as say from "../../words/adapter.js";
 
@@ -118,9 +121,10 @@ export class Answering {
 
   /** @param {any} args */
   async setExpression(args) {
-    const place = needText(args, "expression").trim().toLowerCase();
-    await setPlace(this.session, place, needText(args, "value"));
-    return { value: valueOfExpression(place, this.known) };
+    const place = placeToSet(needText(args, "expression"), this.known.face);
+    const value = needText(args, "value");
+    await setPlace(this.session, place, value);
+    return { value: place.startsWith("key ") ? value.trim().toLowerCase() : valueOfExpression(place, this.known) };
   }
 
   /**
@@ -137,10 +141,22 @@ export class Answering {
     const text = needText(args, "text");
     const column = Math.max(0, needNumber(args, "column", text.length + 1) - 1);
     const word = (/[A-Za-z_@][\w.]*$/.exec(text.slice(0, column)) || [""])[0];
-    const { map } = this.session;
-    const words = [...new Set(FIRST_WORDS), ...map.names.keys(), ...[...map.names.keys()].map((name) => `@${name}`)];
+    const words = this.wordsAfter(text.slice(0, column - word.length));
     const targets = words.filter((each) => each.toLowerCase().startsWith(word.toLowerCase())).slice(0, MOST_COMPLETIONS);
     return { targets: targets.map((label) => ({ label, start: column - word.length, length: word.length })) };
+  }
+
+  /**
+   * What a line can go on with: keys behind what moves them, else names and the words of conditions, at its beginning a command as well.
+   * @param {string} before
+   */
+  wordsAfter(before) {
+    const { session: { map }, known: { face } } = this;
+    const [first] = before.trim().split(/\s+/);
+    if (/^(press|release|keys)$/.test(first)) return [...keysOf(face).keys()];
+    const names = [...map.names.keys()];
+    const words = [...names, ...names.map((name) => `@${name}`), ...PLACE_WORDS, ...face.lampNumbers.keys(), ...WORDS];
+    return [...new Set(first === "" ? [...FIRST_WORDS, ...words] : words)];
   }
 
   // --- memory ---
@@ -154,7 +170,8 @@ export class Answering {
     const count = needNumber(args, "instructionCount");
     if (!(begin >= 0 && begin <= LAST_ADDRESS)) fail(say.ADDRESSES_ARE);
     if (!(count >= 0 && count <= MOST_ROWS)) fail(say.rowsAre(MOST_ROWS));
-    const rows = rowsAt(this.session, begin, needNumber(args, "instructionOffset", 0), count);
+    // Before ROM there is no address that a client could read; after it each row has one of its own.
+    const rows = rowsAt(this.session, begin, needNumber(args, "instructionOffset", 0), count).filter(({ address }) => address >= 0);
     return {
       instructions: rows.map(({ address, bytes, words, line, name }) => ({
         address: addressWords(address), instruction: words || "nothing",
@@ -195,9 +212,12 @@ export class Answering {
     const data = bytesOfBase64(needText(args, "data"));
     if (from < 0 || from + data.length > bytes.length) fail(say.OUTSIDE_OF_MEMORY);
     const lines = [...data].map((byte, at) => `poke ${bank ? `ram.${bank}` : "rom"}.${from + at} ${byte}\n`).join("");
-    const { entries } = await this.session.debugger.session.serve(lines, async () => true);
-    const refused = entries.find(({ answers }) => refusalOf(answers[0]));
-    if (refused) fail(say.benchAnswered(refused.line, refused.answers[0]));
+    const { session } = this.session.debugger;
+    // All of them are tried before the first one is written.
+    const tried = session.ask(lines);
+    const refused = tried.findIndex((answer) => refusalOf(answer));
+    if (refused >= 0) fail(say.benchAnswered(lines.split("\n")[refused], tried[refused]));
+    await session.serve(lines, async () => true);
     return { bytesWritten: data.length };
   }
 }

@@ -4,10 +4,11 @@
 import { readBoard, watchedPlaces } from "../bench/answers.js";
 import { LAST_ADDRESS, hex } from "../bench/numbers.js";
 import { BreakpointList, MOST_BREAKPOINTS, MOST_ON, instructionOfAddress, instructionOfLine } from "../debug/breakpoints.js";
-import { placeOf } from "../bench/places.js";
+import { placeOf } from "../conditions/places.js";
 import { listOf, needNumber, needText, textOrNone, wordsOf } from "./protocol.js";
 import * as say from "../../words/adapter.js";
-import { noLabel } from "../../words/debug.js";
+import { noLabel } from "../../words/conditions.js";
+import { stopsEachTime } from "../../words/machine.js";
 
 /**
  * @typedef {import("../debug/debug_session.js").DebugSession} DebugSession
@@ -44,6 +45,21 @@ function fromOf(text) {
 function partsOf(given) {
   const { from, words } = fromOf(textOrNone(given, "hitCondition"));
   return { condition: textOrNone(given, "condition"), note: textOrNone(given, "logMessage"), from, words };
+}
+
+/**
+ * The address that a reference names, or why it names none, in words.
+ * @param {string} reference
+ * @param {number} offset
+ * @param {(reference: string) => number} addressOf
+ */
+function wantedAddress(reference, offset, addressOf) {
+  try {
+    const wanted = addressOf(reference) + offset;
+    return { wanted, words: wanted >= 0 && wanted <= LAST_ADDRESS ? "" : say.ADDRESSES_ARE };
+  } catch (thrown) {
+    return { wanted: -1, words: wordsOf(thrown) };
+  }
 }
 
 export class ClientBreakpoints {
@@ -102,10 +118,9 @@ export class ClientBreakpoints {
   setAddresses(args, addressOf) {
     const { map } = this.session;
     return this.set("addresses", listOf(args, "breakpoints").map((given) => {
-      const wanted = addressOf(needText(given, "instructionReference")) + needNumber(given, "offset", 0);
-      const isThere = wanted >= 0 && wanted <= LAST_ADDRESS;
-      const { line, address } = isThere ? instructionOfAddress(wanted, map) : { line: 0, address: -1 };
-      return this.make({ ...partsOf(given), line, address, ...(isThere ? {} : { words: say.ADDRESSES_ARE }) });
+      const { wanted, words } = wantedAddress(needText(given, "instructionReference"), needNumber(given, "offset", 0), addressOf);
+      const { line, address } = words === "" ? instructionOfAddress(wanted, map) : { line: 0, address: -1 };
+      return this.make({ ...partsOf(given), line, address, ...(words === "" ? {} : { words }) });
     }));
   }
 
@@ -161,7 +176,7 @@ export class ClientBreakpoints {
       this.byId.set(made.id, each);
     }
     const { faults: unreadable } = await session.applyBreakpoints();
-    for (const [id, words] of unreadable) faults.set(/** @type {Wanted} */ (this.byId.get(id)), words);
+    for (const [id, words] of unreadable) faults.set(/** @type {Wanted} */ (this.byId.get(id)), stopsEachTime(words));
     return faults;
   }
 

@@ -1,12 +1,14 @@
 // Lines in the console: those of the bench, with names for addresses; keys by their names; moves that have no button; and expressions.
 
-import { FORMS } from "../bench/answer_table.js";
+import { FORMS, isQuestion } from "../bench/answer_table.js";
 import { readRun, refusalOf } from "../bench/answers.js";
 import { readInputs } from "../bench/inputs.js";
 import { putNames } from "../bench/names_in_lines.js";
 import { LAST_ADDRESS, numberOf } from "../bench/numbers.js";
+import { goalOfText } from "../debug/becoming.js";
 import { keysOf } from "../testing/test_text.js";
 import { AdapterError, fail, wordsOf } from "./protocol.js";
+import { linesOfSet } from "./setting.js";
 import { valueOfExpression } from "./values.js";
 import * as say from "../../words/adapter.js";
 import { noKey } from "../../words/testing.js";
@@ -21,12 +23,11 @@ import { noKey } from "../../words/testing.js";
  */
 
 /** What a line begins with. */
-export const FIRST_WORDS = ["press", "release", "keys", "until", "change", "back", "forward", "help", "display", ...FORMS.keys()];
+export const FIRST_WORDS = ["press", "release", "keys", "until", "change", "back", "forward", "set", "help", "display", ...FORMS.keys()];
 /** So many characters of lines, and so many lines, are taken at once. */
 const LONGEST = 65536;
 const MOST_INPUTS = 1000;
-/** Lines that only ask. */
-const ASKS = new Set(["lamps", "regs", "ram", "list", "board", "breaks", "watches", "ports", "seq", "state", "count", "trace", "map"]);
+const COMPARES = /^[^\n]*[=<>]/;
 const RUNS = new Set(["run", "step"]);
 const BREAKS = new Set(["break", "unbreak", "watch", "unwatch"]);
 
@@ -65,7 +66,10 @@ export class Console {
     if ((word === "press" || word === "release") && !isNumbers) return this.moveKeys(word, rest);
     if (word === "keys" && rest.length > 0) return this.typeKeys(rest);
     if (word === "until" || word === "change" || word === "back" || word === "forward") return this.moveTo(word, rest);
-    return FORMS.has(word) ? this.serve(line) : this.valueOf(line);
+    if (word === "set" && !line.includes("\n")) return this.served(linesOfSet(line.slice("set".length), this.session));
+    if (word === "set") return this.serve(line);
+    // No line of the bench compares.
+    return FORMS.has(word) && !COMPARES.test(line) ? this.serve(line) : this.valueOf(line);
   }
 
   /** @param {string} line */
@@ -129,11 +133,28 @@ export class Console {
     /** @type {(act: () => void) => Done} */
     const move = (act) => ({ words: "", changes: false, move: act });
     if (word === "forward") return move(() => this.machine.forward());
-    if (word === "back") return move(() => this.machine.back(where === "" ? { kind: "instruction" } : { kind: "change", place: where }));
+    if (word === "back" && where === "") return move(() => this.machine.back({ kind: "instruction" }));
+    if (word === "back") {
+      const goal = this.goalOf(where);
+      return move(() => this.machine.back(goal));
+    }
     if (where === "") fail(say.placeForm(word === "until" ? say.UNTIL_FORM : say.CHANGE_FORM));
     if (word === "change") return move(() => this.machine.go({ kind: "change", place: where }));
+    if (/[\s=<>!]/.test(where)) {
+      const goal = this.goalOf(where);
+      return move(() => this.machine.go(goal));
+    }
     const address = addressOf(where, this.known);
     return move(() => this.machine.go({ kind: "here", address }));
+  }
+
+  /**
+   * The place, or the condition, that is looked for.
+   * @param {string} text
+   */
+  goalOf(text) {
+    const { goal, fault } = goalOfText(text, this.session.names);
+    return goal || fail(fault);
   }
 
   // --- lines of the bench ---
@@ -148,7 +169,7 @@ export class Console {
     const kinds = readInputs(lines).map(({ kind }) => kind);
     if (kinds.length > MOST_INPUTS) fail(say.tooManyLines(MOST_INPUTS));
     if (this.machine.isMoving && kinds.some((kind) => RUNS.has(kind))) fail(say.TIME_RUNS);
-    if (kinds.every((kind) => ASKS.has(kind))) return told(this.session.debugger.session.ask(lines).join("\n"));
+    if (kinds.every(isQuestion)) return told(this.session.debugger.session.ask(lines).join("\n"));
     const done = await this.served(lines);
     if (kinds.some((kind) => BREAKS.has(kind))) this.calls.breaksChanged();
     return done;

@@ -8,7 +8,7 @@ import { LAST_ADDRESS, hex } from "../bench/numbers.js";
 import { Face } from "../board/face.js";
 import { instructionOfLine } from "../debug/breakpoints.js";
 import { KINDS } from "../../words/debug.js";
-import { standsAt } from "../../words/stops.js";
+import { NO_CALL_WAITS, stoppedAt } from "../../words/stops.js";
 import { instructionsOf } from "../help/manual.js";
 import { fieldOf } from "../server/framing.js";
 import { Words } from "../bench/words.js";
@@ -18,7 +18,8 @@ import { ClientBreakpoints, dataOf, referenceOf } from "./client_breakpoints.js"
 import { Console, addressOf } from "./console.js";
 import { differenceWords, launch } from "./launching.js";
 import { Machine } from "./machine.js";
-import { NOT_STOPPED, fail, listOf, needNumber, needText, textOrNone } from "./protocol.js";
+import { framesOf } from "./frames.js";
+import { AdapterError, NOT_STOPPED, fail, listOf, needNumber, needText, textOrNone } from "./protocol.js";
 import { Scopes } from "./scopes.js";
 import { ShownBoard, changeKey } from "./shown_board.js";
 import * as say from "../../words/adapter.js";
@@ -65,7 +66,7 @@ const CAPABILITIES = {
 export class DebugAdapter {
   /**
    * @param {AdapterConnection} connection
-   * @param {import("../engine/engine.js").Engine} engine
+   * @param {import("../engine/engine_host.js").EngineHost} engine
    * @param {{ refusals: Record<string, string>, manual: import("../help/manual.js").ManualSection[] }} data of the page
    * @param {Host & { end: (status: number) => void }} host
    */
@@ -306,7 +307,7 @@ export class DebugAdapter {
       continue: (args) => new Followed({ allThreadsContinued: true }, this.follow(args, (machine) => machine.go(null)).after),
       next: move((machine) => machine.go({ kind: "over" })),
       stepIn: move((machine) => machine.into()),
-      stepOut: move((machine) => machine.go({ kind: "out" })),
+      stepOut: (args) => this.stepOut(args),
       stepBack: move((machine) => machine.back({ kind: "instruction" })),
       reverseContinue: move((machine) => machine.back({ kind: "arrival", place: "" })),
       pause: () => {
@@ -328,6 +329,13 @@ export class DebugAdapter {
     this.needThread(args);
     const { machine } = this.there;
     return new Followed(undefined, () => act(machine));
+  }
+
+  /** @param {any} args */
+  stepOut(args) {
+    const follow = this.follow(args, (machine) => machine.go({ kind: "out" }));
+    if (framesOf(this.there.launched.session).length === 1) throw new AdapterError(NO_CALL_WAITS, true);
+    return follow;
   }
 
   needStopped() {
@@ -437,8 +445,9 @@ export class DebugAdapter {
 
   /** A line has changed the machine: it is looked at anew. */
   tellChanged() {
+    this.ended = this.standing("step");
     if (this.takesInvalidated) this.connection.tell("invalidated", { areas: ["all"] });
-    else this.stopped(this.ended || { reason: "step", words: "", id: 0 });
+    else this.stopped(this.ended);
   }
 
   /**
@@ -478,7 +487,7 @@ export class DebugAdapter {
    * @returns {Ended}
    */
   standing(reason) {
-    return { reason, words: standsAt(this.there.launched.session.counterWords), id: 0 };
+    return { reason, words: stoppedAt(this.there.launched.session.counterWords), id: 0 };
   }
 
   /** @param {Ended} ended */

@@ -32,7 +32,8 @@ function listed(session, from, to) {
 }
 
 /**
- * So many instructions, the first one so many after the one at an address; before and behind ROM there is nothing.
+ * So many instructions, the first one so many after the one at an address. A row before or after ROM has nothing but an address of its own,
+ * which is negative before ROM.
  * @param {DebugSession} session
  * @param {number} address
  * @param {number} offset
@@ -42,13 +43,15 @@ function listed(session, from, to) {
 export function rowsAt(session, address, offset, count) {
   // Each has two bytes at most, and those of the program are in step with its lines.
   const begin = Math.max(0, address + 2 * Math.min(0, offset) - 1);
-  const inStep = upTo(4).map((more) => begin + more).find((each) => each <= address && session.map.beginsInstruction(each));
-  const before = listed(session, inStep === undefined ? begin : inStep, address).filter((each) => endOf(each) <= address);
+  const inStep = upTo(4).map((more) => begin + more).find((each) => each <= address && session.map.beginsInstruction(each)) ?? begin;
+  const whole = (/** @type {number} */ from, /** @type {number} */ to) => listed(session, from, to).filter((each) => endOf(each) <= to);
+  const before = [...whole(begin, inStep), ...whole(inStep, address)];
   const after = listed(session, address, Math.min(LAST_ADDRESS + 1, address + 2 * Math.max(0, offset + count)));
   const all = [...before, ...after];
   return upTo(count).map((at) => {
-    const found = all[before.length + offset + at];
-    return found ? rowOf(found, session) : nothingAt(offset + at < 0 ? -1 : LAST_ADDRESS + 1, offset + at);
+    const index = before.length + offset + at;
+    const found = all[index];
+    return found ? rowOf(found, session) : nothingAt(index < 0 ? index : LAST_ADDRESS + 1 + index - all.length);
   });
 }
 
@@ -63,12 +66,11 @@ function rowOf({ address, line }, { map }) {
 }
 
 /**
- * @param {number} address
- * @param {number} at
+ * @param {number} address that is none of ROM
  * @returns {Row}
  */
-function nothingAt(address, at) {
-  return { address: address < 0 ? at : address, bytes: "", words: "", line: 0, name: "" };
+function nothingAt(address) {
+  return { address, bytes: "", words: "", line: 0, name: "" };
 }
 
 /**

@@ -5,25 +5,26 @@ import { hex } from "../bench/numbers.js";
 import { DebugSession } from "../debug/debug_session.js";
 import { PROJECT_FILE, readProjectToml } from "../project/project_toml.js";
 import { fieldOf } from "../server/framing.js";
-import { boardUriOf } from "../server/kinds.js";
+import { boardFor } from "../server/kinds.js";
 import { faultsOfLines, sentText } from "../text/text_fault.js";
 import { readProgram, differenceOf } from "../engine/program_check.js";
 import { sourceOfRom } from "../engine/sources.js";
 import { KeptSession } from "./kept_session.js";
 import { AdapterError, flagOf, textOrNone } from "./protocol.js";
 import * as say from "../../words/adapter.js";
+import { leadsOut } from "../../words/server.js";
 
 /**
  * @typedef {import("../bench/answers.js").Refusal} Refusal
- * @typedef {import("../engine/engine.js").Engine} Engine
+ * @typedef {import("../engine/engine_host.js").EngineHost} Engine
  * @typedef {import("../bench/words.js").Words} Words
  * @typedef {import("./kept_session.js").OpenFile} OpenFile
  *
- * What the host gives: the whole name of a file, beside a folder where it is not whole; a text, null where none can be read; a program
- * that opens a session file, or makes one by some lines; and a turn for others.
+ * What the host gives: the whole name of a file, beside a folder where it is not whole; a text, null where none can be read; whether no
+ * link leads out of a folder; a program that opens a session file, or makes one by some lines; and a turn for others.
  * @typedef {{ nameOf: (name: string, folder: string) => string, beside: (name: string, other: string) => string,
- *   read: (name: string) => string | null, isThere: (name: string) => boolean, open: (name: string) => Promise<OpenFile>,
- *   make: (name: string) => Promise<OpenFile>, pause: () => Promise<void> }} Host
+ *   read: (name: string) => string | null, isThere: (name: string) => boolean, isInside: (name: string, folder: string) => boolean,
+ *   open: (name: string) => Promise<OpenFile>, make: (name: string) => Promise<OpenFile>, pause: () => Promise<void> }} Host
  *
  * What was launched: `program` is the name of its file, "" where its text was made of what stands in ROM.
  * `nameOf` gives the whole name of a file.
@@ -68,7 +69,12 @@ function filesOf(name, host) {
   if (text === null) throw new AdapterError(say.noProjectFile(file), true);
   const { names, faults: [fault] } = readProjectToml(text);
   if (!names) throw new AdapterError(`${file}, line ${fault.line}: ${fault.words}`, true);
-  return { board: host.beside(names.board.path, file), program: host.beside(names.program.path, file) };
+  const [board, program] = [names.board, names.program].map(({ path, key, line }) => {
+    const whole = host.beside(path, file);
+    if (!host.isInside(whole, host.beside(".", file))) throw new AdapterError(`${file}, line ${line}: ${key}: ${leadsOut(path)}`, true);
+    return whole;
+  });
+  return { board, program };
 }
 
 /**
@@ -80,7 +86,10 @@ function boardOf(program, host) {
   const address = `file://${program.split("/").map(encodeURIComponent).join("/")}`;
   /** @type {(uri: string) => string} */
   const nameOf = (uri) => decodeURIComponent(uri.slice("file://".length));
-  return nameOf(boardUriOf(address, (uri) => host.read(nameOf(uri))));
+  const { uri, folder } = boardFor(address, (each) => host.read(nameOf(each)));
+  const board = nameOf(uri);
+  if (folder !== "" && !host.isInside(board, nameOf(folder))) throw new AdapterError(leadsOut(board), true);
+  return board;
 }
 
 /**

@@ -1,59 +1,84 @@
 // Gives a place of the machine another value: what `poke` has, TEST, a pair of registers, a key.
 
 import { refusalOf } from "../bench/answers.js";
-import { hex, numberOf } from "../bench/numbers.js";
-import { largestOf } from "../debug/condition_terms.js";
+import { expressionOf } from "../conditions/conditions.js";
+import { largestOf } from "../conditions/places.js";
+import { Unreadable } from "../conditions/scanner.js";
+import { linesOfSetting, settablePlace, settingOf } from "../conditions/setting.js";
 import { lineOfChange } from "../engine/key_queue.js";
 import { AdapterError } from "./protocol.js";
 import * as say from "../../words/adapter.js";
+import { keysOf } from "../testing/test_text.js";
+import { cannotBeSet, inColumn } from "../../words/conditions.js";
 
 /** @typedef {import("../debug/debug_session.js").DebugSession} DebugSession */
 
 /**
- * The largest value of a place.
- * @param {string} place
+ * The number that a value is now: a numeral, a name of the program, a place, a sum.
+ * @param {string} text
+ * @param {DebugSession} session
+ * @param {number} [begin] its column in what was typed
  */
-function mostOf(place) {
-  return /^(p\d$|rom\.)/.test(place) ? 255 : largestOf(place);
+export function valueOf(text, session, begin = 0) {
+  // A client sends what it was shown, perhaps with words about it: `0x012, line 9`.
+  const told = text.trim().replace(/^(\w+),.*$/, "$1");
+  if (told === "") throw new AdapterError(say.noNumber(say.NOTHING));
+  const { expression, fault, column } = expressionOf(told, session.names);
+  if (!expression) throw new AdapterError(inColumn(fault, begin + column));
+  if (!expression.number) throw new AdapterError(say.noNumber(told));
+  return expression.number(session.debugger.told(expression.places));
 }
 
 /**
- * The number that a value says: a numeral, or a name of the program.
+ * Returns the lines that give a place a value, which may be one that the machine has now.
+ * @param {string} place as `settablePlace` gives it, or `key 0 2`
  * @param {string} text
  * @param {DebugSession} session
+ * @param {number} [begin] the column of the text in what was typed
  */
-export function valueOf(text, session) {
-  const word = text.trim().replace(/^@/, "").split(/[ ,]/)[0];
-  const number = /^0b[01]+$/i.test(word) ? parseInt(word.slice(2), 2) : numberOf(word);
-  if (!Number.isNaN(number)) return number;
-  const named = session.map.valueOf(word);
-  if (named === undefined) throw new AdapterError(say.noNumber(text.trim() || say.NOTHING));
-  return named;
-}
-
-/**
- * The lines that do so.
- * @param {string} place
- * @param {string} text
- * @param {DebugSession} session
- */
-function linesFor(place, text, session) {
+function linesFor(place, text, session, begin = 0) {
   if (place.startsWith("key ")) {
     const word = text.trim().toLowerCase();
     if (word !== say.DOWN && word !== say.UP) throw new AdapterError(say.KEY_IS);
     return `${lineOfChange({ key: place.slice(4), word: word === say.DOWN ? "press" : "release" })}\n`;
   }
-  const value = valueOf(text, session);
-  if (value > mostOf(place)) throw new AdapterError(say.holds(place, mostOf(place)));
-  if (place === "test") return `test ${value}\n`;
-  const pair = /^p([0-7])$/.exec(place);
-  if (pair) return `poke r${2 * Number(pair[1])} ${value >> 4}\npoke r${2 * Number(pair[1]) + 1} ${value & 15}\n`;
-  return `poke ${place} 0x${hex(value, 1)}\n`;
+  const value = valueOf(text, session, begin);
+  if (value < 0 || value > largestOf(place)) throw new AdapterError(say.holds(place, largestOf(place)));
+  return linesOfSetting(place, value);
+}
+
+/**
+ * Returns the lines that `set` stands for.
+ * @param {string} text what follows `set`: `r4 = r5 + 1`
+ * @param {DebugSession} session
+ */
+export function linesOfSet(text, session) {
+  try {
+    const { place, value } = settingOf(text);
+    return linesFor(place, value.text, session, value.column);
+  } catch (fault) {
+    throw fault instanceof Unreadable ? new AdapterError(inColumn(fault.message, Math.max(0, fault.column))) : fault;
+  }
+}
+
+/**
+ * Returns the place that an expression names, to be set: a place of the machine, or `key NAME`.
+ * @param {string} text
+ * @param {import("../board/face.js").Face} face
+ * @returns {string}
+ */
+export function placeToSet(text, face) {
+  const place = settablePlace(text);
+  const [, name = ""] = /^key\s+(.+)$/i.exec(text.trim()) || [];
+  const key = keysOf(face).get(name);
+  if (key) return `key ${key.press.replace(/^press /, "")}`;
+  if (place === "") throw new AdapterError(cannotBeSet(text.trim()));
+  return place;
 }
 
 /**
  * @param {DebugSession} session
- * @param {string} place as `poke` has it, or `p2`, `test`, `key 0 2`
+ * @param {string} place as `settablePlace` gives it, or `key 0 2`
  * @param {string} text
  */
 export async function setPlace(session, place, text) {

@@ -1,8 +1,12 @@
 // The front of a board for an editor that draws it: the board with its text, once; lamps, keys and TEST as they change; and a finger on a
 // key. editor_view.js draws it.
 
+import { readBoard } from "../bench/answers.js";
 import { LookReader } from "../bench/look.js";
+import { Face } from "../board/face.js";
 import { lineOfChange } from "../engine/key_queue.js";
+import { SEEN_QUESTION } from "../engine/seen_text.js";
+import { Shining } from "../engine/shining.js";
 import { fail } from "./protocol.js";
 import * as say from "../../words/adapter.js";
 
@@ -11,8 +15,9 @@ import * as say from "../../words/adapter.js";
  * @typedef {import("./machine.js").Machine} Machine
  *
  * What is new: the answers to `board` and the board's text; a mark for each lamp, `*` where it is lit; the keys that are down, as
- * `row.column`; the level of TEST; and whether time runs.
- * @typedef {{ board?: string[], boardText?: string, lamps?: string, keys?: string[], test?: string, isRunning?: boolean }} ShownNews
+ * `row.column`; the level of TEST; whether time runs; and while it runs, what is lit in the 30 ms that come next.
+ * @typedef {{ board?: string[], boardText?: string, lamps?: string, keys?: string[], test?: string, isRunning?: boolean,
+ *   shone?: import("../engine/shining.js").Shone }} ShownNews
  */
 
 const KEY = /^(\d{1,3} \d{1,3}|test [01])$/;
@@ -25,6 +30,10 @@ export class ShownBoard {
     this.board = "";
     /** @type {boolean | null} whether time ran when it was told last */
     this.isRunning = null;
+    this.face = new Face("");
+    this.lampCount = 0;
+    /** What was told last of what is lit, "" while time is paused. */
+    this.shone = "";
   }
 
   /**
@@ -40,12 +49,24 @@ export class ShownBoard {
     if (board !== this.board) {
       this.board = board;
       this.reader.forget();
+      this.face = new Face(session.boardText);
+      this.lampCount = readBoard(bench.lookQuestions.board).lamps.length;
       Object.assign(news, { board: bench.lookQuestions.board, boardText: session.boardText });
     }
     Object.assign(news, this.reader.take(bench.ask("state\n")));
     if (isMoving !== this.isRunning) news.isRunning = isMoving;
     this.isRunning = isMoving;
-    return news;
+    return { ...news, ...this.takeShone() };
+  }
+
+  /** What is new of what is lit while time runs. */
+  takeShone() {
+    const { machine, face, lampCount, shone: before } = this;
+    this.shone = "";
+    if (!machine.isMoving || lampCount === 0) return {};
+    const shone = new Shining(face, lampCount, 0).take([machine.session.debugger.session.ask(SEEN_QUESTION)]);
+    this.shone = JSON.stringify(shone);
+    return this.shone === before ? {} : { shone };
   }
 }
 

@@ -1,14 +1,13 @@
-// What an expression is now: a place, a pair, a name of the program, a lamp, the display, a condition.
+// What an expression is now: a place, a name of the program, a lamp, the display, a sum of values, a condition.
 
-import { readBoard } from "../bench/answers.js";
 import { hex } from "../bench/numbers.js";
-import { placeOf } from "../bench/places.js";
-import { conditionOf } from "../debug/conditions.js";
+import { expressionOf } from "../conditions/conditions.js";
+import { placeOf } from "../conditions/places.js";
 import { Standing } from "../debug/standing.js";
 import { textOf, valuesAt } from "../debug/value_words.js";
-import { readWatched } from "../debug/watched.js";
 import { AdapterError } from "./protocol.js";
 import * as say from "../../words/adapter.js";
+import { inColumn } from "../../words/conditions.js";
 
 /**
  * @typedef {import("../debug/debug_session.js").DebugSession} DebugSession
@@ -31,11 +30,11 @@ function placeValue(text, { session, face }) {
   const value = place ? session.values([name])[0] : "";
   if (value === "" || !place) return "";
   if (place.name.startsWith("lamp ")) return say.lampIs(value === "*");
-  return /^(acc|dcl|r\d+|ram\.\d\..*|st\..*|rom\d+|ram\d\.\d)$/.test(place.name) ? `0x${value}` : value;
+  return /^(acc|dcl|src|r\d+|p\d|ram\.\d\..*|st\..*|rom\d+|ram\d\.\d)$/.test(place.name) ? `0x${value}` : value;
 }
 
 /**
- * Of registers that `placeOf` does not have.
+ * Of the counter with its line, and of what is no place.
  * @param {string} text
  * @param {DebugSession} session
  */
@@ -43,9 +42,7 @@ function registerValue(text, session) {
   const word = text.toLowerCase();
   const { registers } = session;
   if (word === "pc") return `0x${registers.counter}${registers.counter && lineWords(session)}`;
-  if (word === "test" || word === "owed") return registers[word];
-  const pair = /^p([0-7])$/.exec(word);
-  return pair ? `0x${registers.registers[2 * Number(pair[1])]}${registers.registers[2 * Number(pair[1]) + 1]}` : "";
+  return word === "test" || word === "owed" ? registers[word] : "";
 }
 
 /** @param {DebugSession} session */
@@ -66,30 +63,19 @@ function nameValue(text, { map }) {
 }
 
 /**
- * What else is watched in the page: `ram 0 0x12`, `st 0 1 2`, `rom1`.
- * @param {string} text
- * @param {DebugSession} session
- */
-function watchedValue(text, session) {
-  const { watched } = readWatched(text);
-  return watched ? textOf(watched.pieces(new Standing(session.debugger.session.look()))) : "";
-}
-
-/**
  * @param {string} text
  * @param {Known} known
  */
 export function valueOfExpression(text, known) {
-  const { session, face } = known;
+  const { session } = known;
   const told = text.trim();
   if (told === "") throw new AdapterError(say.NOTHING_TO_EVALUATE);
   if (told === "display" || told === "lamps") return known.shown();
-  const value = registerValue(told, session) || nameValue(told, session) || placeValue(told, known) || watchedValue(told, session);
+  const value = registerValue(told, session) || nameValue(told, session) || placeValue(told, known);
   if (value) return value;
-  const board = readBoard(session.debugger.session.lookQuestions.board);
-  const { condition, fault } = conditionOf(told, { face, board, map: session.map });
-  if (!condition) throw new AdapterError(fault);
-  return String(condition.holds(session.debugger.told(condition.places)));
+  const { expression, fault, column } = expressionOf(told, session.names);
+  if (!expression) throw new AdapterError(inColumn(fault, column));
+  return expression.told(session.debugger.told(expression.places));
 }
 
 /**

@@ -3,12 +3,14 @@
 import table from "#answer-table";
 
 /**
- * What a word that begins a line of the bench means: whether it opens a text; the form of the first line of its answer, and of each
- * further one (null where there is none); and how many those are, as the table writes it.
- * @typedef {{ opensText: boolean, first: RegExp, further: RegExp | null, count: string }} Form
+ * What a word that begins a line of the bench means: whether it opens a text, and whether it only asks; the form of the first line of its
+ * answer, and of each further one (null where there is none); and how many those are, as the table writes it.
+ * @typedef {{ opensText: boolean, isQuestion: boolean, first: RegExp, further: RegExp | null, count: string }} Form
  */
 
 const COLUMNS = 5;
+/** Commands are answered so. */
+const DONE = "^ok ";
 
 /**
  * @param {string} text a table
@@ -17,12 +19,22 @@ const COLUMNS = 5;
 export function readForms(text) {
   const rows = text.split("\n").filter((line) => !line.startsWith("#")).map((line) => line.split("\t"));
   return new Map(rows.filter((row) => row.length === COLUMNS).map(([word, opens, first, further, count]) => [word, {
-    opensText: opens === "text", first: new RegExp(first), further: further === "-" ? null : new RegExp(further), count,
+    opensText: opens === "text", isQuestion: !first.startsWith(DONE), first: new RegExp(first),
+    further: further === "-" ? null : new RegExp(further), count,
   }]));
 }
 
 /** By the first word of a line. */
 export const FORMS = readForms(table);
+
+/**
+ * Whether a word begins a line that only asks.
+ * @param {string} word
+ */
+export function isQuestion(word) {
+  const form = FORMS.get(word);
+  return form !== undefined && form.isQuestion;
+}
 
 /** Each line of a listing. */
 const LISTED = /** @type {RegExp} */ (/** @type {Form} */ (FORMS.get("list")).further);

@@ -11,6 +11,7 @@ import { WorkerDied, unpackFault } from "./faults.js";
  * @typedef {import("./protocol.js").ToWorker} ToWorker
  * @typedef {"load" | "settled" | "make" | "texts" | "boardFault" | "open" | "recall" | "serve" | "serveTyped" | "ask" | "source"
  *   | "record" | "advance" | "press" | "release" | "forget" | "run" | "pace" | "halt" | "checkProgram" | "leftovers"
+ *   | "takeNames"
  *   | "setBreakpoints" | "goOn" | "drop" | "goBack" | "lastChange" | "heat" | "goForward" | "tryTexts" | "testFaults" | "runTests"
  *   | "propertyFaults" | "explore" | "exploreOn" | "stopAtFaults"
  *   | "recordLive" | "endRecording" | "watchLamps" | "watchRam" | "listenTo" | "printOn" | "tearPaper"} CallName

@@ -1,7 +1,6 @@
-// Finds the part of a board's text that is at fault, as tools/lib/board_fault.awk does: parts are taken away one after the other,
-// first those on which no other part depends, as long as the text that is left is refused as before. Of what is left in the end, the
-// part that depends on the others is the one to tell. A part is a table with its header, a key at the top with its value, or a line
-// `{ .. },` of an array.
+// Finds the part of a board's text that is at fault: parts are taken away one after the other, first those on which no other part depends,
+// as long as the text that is left is refused as before. Of what is left in the end, the part that depends on the others is the one to
+// tell. A part is a table with its header, a key at the top with its value, or a line `{ .. },` of an array.
 
 /** @typedef {import("../text/text_fault.js").Lines} Lines */
 

@@ -30,30 +30,49 @@ export function opensText(line) {
 }
 
 /**
+ * Whether a line is `seq` alone, which is answered by a count. Behind other lines its answer shows where theirs end.
+ * @param {string} line
+ */
+export function isSeq(line) {
+  return /^[ \t]*seq[ \t]*$/.test(line);
+}
+
+/** The answer to `seq`. */
+export const COUNTED = /^seq \d+$/;
+
+/**
+ * Returns the inputs among lines, each with the number of its line, from 1.
+ * @param {string} lines
+ */
+export function readPlacedInputs(lines) {
+  /** @type {{ input: Input, at: number }[]} */
+  const inputs = [];
+  /** @type {Input | null} */
+  let open = null;
+  lines.replace(/\n$/, "").split("\n").forEach((whole, index) => {
+    const line = withoutReturn(whole);
+    if (open) {
+      if (line === ".") open = null;
+      else open.text.push(line);
+      return;
+    }
+    const words = line.split(/[ \t]+/).filter((word) => word !== "");
+    if (words.length === 0 && line.length <= LONGEST_LINE) return;
+    /** @type {Input} */
+    const input = { line, words, kind: line.length > LONGEST_LINE ? "" : words[0], text: [] };
+    inputs.push({ input, at: index + 1 });
+    if (opensText(line)) open = input;
+  });
+  return inputs;
+}
+
+/**
  * The inputs among lines.
  * @param {string} lines
  * @returns {Input[]}
  */
 export function readInputs(lines) {
-  /** @type {Input[]} */
-  const inputs = [];
-  /** @type {Input | null} */
-  let open = null;
-  for (const whole of lines.replace(/\n$/, "").split("\n")) {
-    const line = withoutReturn(whole);
-    if (open) {
-      if (line === ".") open = null;
-      else open.text.push(line);
-      continue;
-    }
-    const words = line.split(/[ \t]+/).filter((word) => word !== "");
-    if (words.length === 0 && line.length <= LONGEST_LINE) continue;
-    /** @type {Input} */
-    const input = { line, words, kind: line.length > LONGEST_LINE ? "" : words[0], text: [] };
-    inputs.push(input);
-    if (opensText(line)) open = input;
-  }
-  return inputs;
+  return readPlacedInputs(lines).map(({ input }) => input);
 }
 
 /**
@@ -98,7 +117,7 @@ function goesOn(before, answer) {
  * @param {string} first
  * @param {string} count
  */
-function mostLines(input, first, count) {
+export function mostLines(input, first, count) {
   if (count === "all") return Infinity;
   if (count === "list") return numberOf(input.words[2]);
   const words = first.split(" ");
@@ -110,7 +129,7 @@ function mostLines(input, first, count) {
  * @param {string[]} answers
  * @param {number} from
  */
-function answerLength(input, answers, from) {
+export function answerLength(input, answers, from) {
   const form = FORMS.get(input.kind);
   if (!form || !form.further || !form.first.test(answers[from])) return 1;
   const most = mostLines(input, answers[from], form.count);

@@ -1,17 +1,20 @@
-// `@NAME` in lines stands for the value of a name of the program, as tools/names has it; not inside texts.
+// `@NAME` in lines stands for the value of a name of the program, and `set PLACE = VALUE` for the lines that do so; not inside texts.
 
+import { readSetting } from "../conditions/setting.js";
 import { opensText, withoutReturn } from "./inputs.js";
 import { hex } from "./numbers.js";
 import * as say from "../../words/bench.js";
+import { inColumn } from "../../words/conditions.js";
 
 /**
  * @typedef {import("../machine/source_map.js").SourceMap} SourceMap
  *
- * The lines with numbers in the place of names, or why there are none, in words.
- * @typedef {{ lines: string, words: string }} Put
+ * The lines with numbers in the place of names; or why there are none, in words, and the line of that, 0 for none.
+ * @typedef {{ lines: string, words: string, line: number }} Put
  */
 
 const NAME = /(^|[ \t])@([^ \t]*)/g;
+const SET = /^\s*set(?!\S)(.*)$/;
 
 /**
  * @param {string} lines
@@ -19,20 +22,32 @@ const NAME = /(^|[ \t])@([^ \t]*)/g;
  * @returns {Put}
  */
 export function putNames(lines, map) {
-  let words = "";
+  let [words, line] = ["", 0];
   let isOpen = false;
-  /** @type {(line: string) => string} */
-  const put = (line) => line.replace(NAME, (found, before, name) => {
+  /** @type {(wrong: string, at: number) => void} */
+  const refuse = (wrong, at) => {
+    if (words === "" && wrong !== "") [words, line] = [wrong, at];
+  };
+  /** @type {(text: string, at: number) => string} */
+  const put = (text, at) => {
+    const set = SET.exec(text);
+    if (!set) return named(text, at);
+    const { lines: setting, fault, column } = readSetting(set[1], map);
+    refuse(fault && `${inColumn(fault, column + text.length - set[1].length)}.`, at);
+    return setting.trimEnd();
+  };
+  /** @type {(text: string, at: number) => string} */
+  const named = (text, at) => text.replace(NAME, (found, before, name) => {
     const value = map ? map.valueOf(name) : undefined;
     if (value !== undefined) return `${before}0x${hex(value, 3)}`;
-    words = words || `${found.trim()}: ${map ? say.NO_SUCH_NAME : say.NAMES_UNKNOWN}.`;
+    refuse(`${found.trim()}: ${map ? say.NO_SUCH_NAME : say.NAMES_UNKNOWN}.`, at);
     return found;
   });
-  const told = lines.split("\n").map((whole) => {
-    const line = withoutReturn(whole);
+  const changed = lines.split("\n").map((whole, index) => {
+    const text = withoutReturn(whole);
     const isOfText = isOpen;
-    isOpen = isOpen ? line !== "." : opensText(line);
-    return isOfText ? whole : put(line);
+    isOpen = isOpen ? text !== "." : opensText(text);
+    return isOfText ? whole : put(text, index + 1);
   });
-  return { lines: told.join("\n"), words };
+  return { lines: changed.join("\n"), words, line };
 }

@@ -31,6 +31,17 @@ export function countOf(text, most) {
 }
 
 /**
+ * A number with one digit after the point, rounded as `printf` of C does: halfway between two, to the even one.
+ * @param {number} value not negative
+ */
+export function withTenths(value) {
+  // Only quarters are halfway in binary.
+  if ((value * 4) % 2 !== 1) return value.toFixed(1);
+  const lower = Math.floor(value * 10);
+  return ((lower + (lower % 2)) / 10).toFixed(1);
+}
+
+/**
  * So many of something, in words: `1 line`, `1,543 cycles`.
  * @param {number} count
  * @param {string} one

@@ -1,4 +1,4 @@
-// Images of ROM in files: bytes alone, and Intel HEX. tools/rom reads and writes the same.
+// Images of ROM in files: bytes alone, and Intel HEX. (S-records and BNPF: rom_formats.js.)
 
 import { ADDRESSES, NONE } from "./rom_bytes.js";
 import { hex } from "./numbers.js";
@@ -6,6 +6,9 @@ import * as say from "../../words/bench.js";
 
 /** Why bytes are no image, in words. */
 export class NotAnImage extends Error {}
+
+/** A line is no record: the file may be of another form. */
+export class NotARecord extends NotAnImage {}
 
 /** So many bytes stand in a record that is written. */
 const BYTES_OF_RECORD = 16;
@@ -16,18 +19,63 @@ const BASES = [2, 4];
 /** Where a program begins, as linkers tell it: the 4004 begins at 000. */
 const STARTS = [3, 5];
 
-/**
- * The bytes of an image that is bytes alone, from 000 on.
- * @param {Uint8Array} file
- */
-export function readBytes(file) {
-  if (file.length === 0) throw new NotAnImage(say.NO_BYTE);
-  if (file.length > ADDRESSES) {
-    throw new NotAnImage(say.tooManyBytes(file.length.toLocaleString("en"), ADDRESSES.toLocaleString("en")));
+/** The bytes of an image, as they are read. */
+export class ImageBytes {
+  /** @param {number} offset is added to each address */
+  constructor(offset) {
+    this.offset = offset;
+    this.bytes = new Int16Array(ADDRESSES).fill(NONE);
   }
-  const bytes = new Int16Array(ADDRESSES).fill(NONE);
-  bytes.set(file);
-  return bytes;
+
+  get isEmpty() {
+    return this.bytes.every((byte) => byte === NONE);
+  }
+
+  /**
+   * Puts bytes from an address on, where there are none yet.
+   * @param {number} address
+   * @param {ArrayLike<number>} data
+   */
+  put(address, data) {
+    const from = address + this.offset;
+    if (from + data.length > ADDRESSES) throw new NotAnImage(say.PAST_LAST);
+    for (let at = 0; at < data.length; at++) {
+      if (this.bytes[from + at] !== NONE) throw new NotAnImage(say.secondTime(hex(from + at, 3)));
+      this.bytes[from + at] = data[at];
+    }
+  }
+}
+
+/**
+ * The bytes of an image that is bytes alone.
+ * @param {Uint8Array} file
+ * @param {number} [from] the address of the first one
+ */
+export function readBytes(file, from = 0) {
+  if (file.length === 0) throw new NotAnImage(say.NO_BYTE);
+  if (from + file.length > ADDRESSES) {
+    const [size, room] = [file.length, ADDRESSES - from].map((count) => count.toLocaleString("en"));
+    throw new NotAnImage(from === 0 ? say.tooManyBytes(size, room) : say.tooManyFrom(size, room, hex(from, 3)));
+  }
+  const image = new ImageBytes(from);
+  image.put(0, file);
+  return image.bytes;
+}
+
+/**
+ * Reads a text line by line; a fault gets the number of its line.
+ * @param {string} text
+ * @param {(line: string) => void} read
+ */
+export function readLines(text, read) {
+  text.split("\n").forEach((line, at) => {
+    try {
+      read(line);
+    } catch (fault) {
+      if (fault instanceof NotAnImage) fault.message = say.imageLine(at + 1, fault.message);
+      throw fault;
+    }
+  });
 }
 
 /**
@@ -36,11 +84,11 @@ export function readBytes(file) {
  * @returns {{ address: number, type: number, data: number[] }}
  */
 function readRecord(text) {
-  if (!text.startsWith(":")) throw new NotAnImage(say.BEGINS_WITH_COLON);
-  if (!/^:([0-9A-F]{2}){5,}$/i.test(text)) throw new NotAnImage(say.RECORD_FORM);
+  if (!text.startsWith(":")) throw new NotARecord(say.BEGINS_WITH_COLON);
+  if (!/^:([0-9A-F]{2}){5,}$/i.test(text)) throw new NotARecord(say.RECORD_FORM);
   const bytes = (text.slice(1).match(/../g) || []).map((digits) => parseInt(digits, 16));
   const [count, high, low, type] = bytes;
-  if (bytes.length !== count + 5) throw new NotAnImage(say.otherCount(count, bytes.length - 5));
+  if (bytes.length !== count + 5) throw new NotARecord(say.otherCount(count, bytes.length - 5));
   const right = -bytes.slice(0, -1).reduce((sum, byte) => sum + byte, 0) & 0xff;
   if (bytes[count + 4] !== right) {
     throw new NotAnImage(say.otherSum(hex(bytes[count + 4], 2), hex(right, 2)));
@@ -48,46 +96,42 @@ function readRecord(text) {
   return { address: high * 256 + low, type, data: bytes.slice(4, -1) };
 }
 
+/** How many bytes a record has by its type, where that is fixed. */
+const SIZES = new Map([[LAST, 0], ...BASES.map((type) => /** @type {[number, number]} */ ([type, 2])),
+  ...STARTS.map((type) => /** @type {[number, number]} */ ([type, 4]))]);
+
 /**
  * What a record does: puts its bytes, or nothing; any other is refused.
  * @param {{ address: number, type: number, data: number[] }} record
- * @param {Int16Array} bytes
+ * @param {ImageBytes} image
  */
-function takeRecord({ address, type, data }, bytes) {
-  if (type === DATA) {
-    if (address + data.length > ADDRESSES) throw new NotAnImage(say.PAST_LAST);
-    const twice = data.findIndex((_, at) => bytes[address + at] !== NONE);
-    if (twice >= 0) throw new NotAnImage(say.secondTime(hex(address + twice, 3)));
-    bytes.set(data, address);
-  } else if (BASES.includes(type)) {
-    if (data.some((byte) => byte !== 0)) throw new NotAnImage(say.beyondAll(type));
-  } else if (type !== LAST && !STARTS.includes(type)) {
-    throw new NotAnImage(say.noType(hex(type, 2)));
-  }
+function takeRecord({ address, type, data }, image) {
+  const size = SIZES.get(type);
+  if (type === DATA) image.put(address, data);
+  else if (size === undefined) throw new NotAnImage(say.noType(hex(type, 2)));
+  else if (data.length !== size) throw new NotAnImage(say.otherSize(hex(type, 2), size));
+  else if (BASES.includes(type) && data.some((byte) => byte !== 0)) throw new NotAnImage(say.beyondAll(type));
 }
 
 /**
  * The bytes of an image in Intel HEX.
  * @param {string} text
+ * @param {number} [offset] is added to each address
  */
-export function readHex(text) {
-  const bytes = new Int16Array(ADDRESSES).fill(NONE);
+export function readHex(text, offset = 0) {
+  const image = new ImageBytes(offset);
   let isEnded = false;
-  text.split("\n").forEach((line, at) => {
+  readLines(text, (line) => {
     const record = line.trim();
     if (record === "") return;
-    try {
-      if (isEnded) throw new NotAnImage(say.AFTER_LAST);
-      const read = readRecord(record);
-      takeRecord(read, bytes);
-      isEnded = read.type === LAST;
-    } catch (fault) {
-      throw fault instanceof NotAnImage ? new NotAnImage(say.imageLine(at + 1, fault.message)) : fault;
-    }
+    if (isEnded) throw new NotAnImage(say.AFTER_LAST);
+    const read = readRecord(record);
+    takeRecord(read, image);
+    isEnded = read.type === LAST;
   });
   if (!isEnded) throw new NotAnImage(say.NO_LAST_RECORD);
-  if (bytes.every((byte) => byte === NONE)) throw new NotAnImage(say.NO_BYTE);
-  return bytes;
+  if (image.isEmpty) throw new NotAnImage(say.NO_BYTE);
+  return image.bytes;
 }
 
 /**
@@ -107,10 +151,12 @@ function recordOf(address, type, data) {
  * @param {Int16Array} bytes
  */
 export function hexOf(bytes) {
-  const records = [];
-  for (let at = 0; at < ADDRESSES; at += BYTES_OF_RECORD) {
-    const data = [...bytes.subarray(at, at + BYTES_OF_RECORD)].filter((byte) => byte !== NONE);
-    if (data.length > 0) records.push(recordOf(at, DATA, data));
+  let records = "";
+  for (let at = 0; at < ADDRESSES;) {
+    let end = at;
+    while (end < ADDRESSES && end < at + BYTES_OF_RECORD && bytes[end] !== NONE) end += 1;
+    if (end > at) records += recordOf(at, DATA, [...bytes.subarray(at, end)]);
+    at = Math.max(end, at + 1);
   }
-  return `${records.join("")}${recordOf(0, LAST, [])}`;
+  return records + recordOf(0, LAST, []);
 }

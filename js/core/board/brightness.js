@@ -19,6 +19,9 @@ export const SEEN_PART = 0.5;
 const LEAST_REST = 2;
 /** An eye tells dark lamps apart better than bright ones. */
 const GAMMA = 2.2;
+/** Where brightness has few levels, each begins at this part of the time: dim, half, full. */
+const LEVELS = [0.01, 0.15, 0.6];
+export const FULL_LEVEL = LEVELS.length;
 /** What is seen less than this part of the time is forgotten. */
 const LEAST_PART = 0.0001;
 const SEGMENTS = 8;
@@ -29,6 +32,14 @@ const SEGMENTS = 8;
  */
 export function shineOf(part) {
   return Math.round(100 * Math.min(1, part) ** (1 / GAMMA)) / 100;
+}
+
+/**
+ * Returns the level of a lamp that is lit for this part of the time, 0 for dark.
+ * @param {number} part
+ */
+export function levelOf(part) {
+  return LEVELS.filter((least) => part >= least).length;
 }
 
 /**

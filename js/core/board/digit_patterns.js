@@ -12,10 +12,19 @@ const LIT = "*".charCodeAt(0);
 
 /** @type {Map<number, string>} what the patterns of seven segments show */
 const SIGNS = new Map([...SEGMENTS].map(([marks, sign]) => [segmentsAt(marks, 0), sign]));
-/** What is lit for 0 to 9; the first form of a digit is that of a 7447. */
-const DIGITS = [..."0123456789"].map((digit) => [...SIGNS].filter(([, sign]) => sign === digit).map(([pattern]) => pattern)[0]);
 /** Four lamps that are no digit: a, b, e and g. */
 const NO_DIGIT = 1 + 2 + 16 + 64;
+/** What is lit for 0 to 9; the first form of a digit is that of a 7447. */
+const DIGITS = [..."0123456789"].map(patternOf);
+
+/**
+ * Returns the pattern that shows a digit, a minus or a blank; that of any other sign is no digit.
+ * @param {string} sign
+ */
+export function patternOf(sign) {
+  const [[pattern] = [NO_DIGIT]] = [...SIGNS].filter(([, each]) => each === sign);
+  return pattern;
+}
 
 /**
  * @param {string} marks a `*` for each lamp that is lit

@@ -1,4 +1,4 @@
-// What the displays of a board show in words, by the rule of tools/display.
+// What the displays of a board show in words, by the rule of mcs4 display.
 
 import { isLit, numberOf, patternsAt } from "./digit_patterns.js";
 
@@ -38,4 +38,12 @@ export class DisplayText {
     }
     return { number: minus + patterns.map(numberOf).join(" "), names };
   }
+}
+
+/**
+ * Returns what a display shows as one text.
+ * @param {{ number: string, names: string }} read
+ */
+export function wholeText({ number, names }) {
+  return names === "" ? number : `${number} ${names}`;
 }

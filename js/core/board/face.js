@@ -1,5 +1,4 @@
-// The face of a board: what the comments of its text tell of names, colours and places. Its words stand in tools/lib/face.txt, by which
-// tools/lib/face.awk reads the same; checks/faces has texts that both are tried with.
+// The face of a board: what the comments of its text tell of names, colours and places. Its words stand in tools/lib/face.txt.
 
 import { COLOURS, fitsHead, fitsWords, headOf, isNumber, limit, said, sizeOf, wordsOf } from "./face_words.js";
 import * as say from "../../words/board.js";

@@ -85,6 +85,26 @@ export function fittingGroups(face, count) {
 }
 
 /**
+ * The lamp that is the minus of a display, -1 where there is none.
+ * @param {Face} face
+ */
+export function minusOf({ lampNumbers }) {
+  return lampNumbers.get("minus") ?? -1;
+}
+
+/**
+ * Returns the lamps of so many that have no place: neither in a group nor on the grid.
+ * @param {Face} face
+ * @param {number} count
+ */
+export function looseLamps(face, count) {
+  const groups = fittingGroups(face, count);
+  const placed = new Set([...groups.flatMap(lampsOf), ...face.grid.map(({ lamp }) => lamp)]);
+  if (groups.some(({ kind }) => kind === "display")) placed.add(minusOf(face));
+  return upTo(count).filter((at) => !placed.has(at));
+}
+
+/**
  * Its strobe, and the four lines of its code.
  * @param {import("./face.js").Printer} printer
  */

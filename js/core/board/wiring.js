@@ -11,7 +11,8 @@ import * as say from "../../words/board.js";
  * A pin of a part. `line` is the line of the board that it is at, as the board's text names it ("" for the TEST pin); a lamp has a colour.
  * Its own name is that line where the part drives it or reads it, else what it is: `clock 0`, `data 0`, `row 1`, `column 2`, `lamp 3`,
  * `buzzer 0`.
- * @typedef {{ id: string, line: string, label: string, colour?: string, x: number, y: number }} Pin
+ * A pin of a chip has the number that it has on the package, of 16 pins.
+ * @typedef {{ id: string, line: string, label: string, colour?: string, number?: number, x: number, y: number }} Pin
  * @typedef {Omit<Pin, "x" | "y">} PinToPut
  *
  * A part: its name in the text (`rom 1`, `ram 0.2`, `chain 0`, `keys`, `lamps`, `test`, `buzzer`, `processor`), what it is called, and
@@ -49,6 +50,13 @@ const COLUMNS = [
 
 /** The longest name that a part of the first column has room for. */
 const LONGEST_NAME = 11;
+
+/** The numbers of pins on the package: TEST of the 4004, lines 0 to 3 of the 4001 and the 4002, inputs and bits 0 to 9 of the 4003. */
+const TEST_NUMBER = 10;
+const PORT_NUMBERS = [16, 15, 14, 13];
+const CLOCK_NUMBER = 1;
+const DATA_NUMBER = 2;
+const BIT_NUMBERS = [3, 4, 6, 7, 8, 9, 10, 11, 12, 14];
 
 /** Parts of one column, one below the other. */
 class Column {
@@ -144,7 +152,7 @@ class Uses {
  * @param {string} chip `rom1` or `ram0.2`
  */
 function linesOfPort(chip) {
-  return [0, 1, 2, 3].map((number) => ({ id: `${chip}.${number}`, line: `${chip}.${number}` }));
+  return PORT_NUMBERS.map((number, at) => ({ id: `${chip}.${at}`, line: `${chip}.${at}`, number }));
 }
 
 /**
@@ -154,7 +162,8 @@ function linesOfPort(chip) {
 function drawProcessor(column, test) {
   const says = [say.DOES_PROCESSOR,
     test ? say.testIsAt(test.kind, nameOf(test)) : say.TEST_IS_OWN];
-  return column.add({ id: "processor", kind: "processor", title: "4004", says }, [], [{ id: "TEST", line: "", label: "TEST" }]);
+  const pin = { id: "TEST", line: "", label: "TEST", number: TEST_NUMBER };
+  return column.add({ id: "processor", kind: "processor", title: "4004", says }, [], [pin]);
 }
 
 /** @param {TestPin} test */
@@ -207,11 +216,12 @@ function drawRam(column, bank, chip, uses) {
  */
 function drawChain(column, { clock, data, chips }, at, uses) {
   const bits = Array.from({ length: BITS * chips }, (_, bit) => (
-    { id: `chain${at}.${bit}`, line: `chain${at}.${bit}`, label: say.bitPin(bit) }));
+    { id: `chain${at}.${bit}`, line: `chain${at}.${bit}`, label: say.bitPin(bit), number: BIT_NUMBERS[bit % BITS] }));
   const used = bits.filter(({ line }) => uses.of(line).length > 0).sort((one, other) => uses.orderOf(one.line) - uses.orderOf(other.line));
   const free = bits.filter(({ line }) => uses.of(line).length === 0).slice(0, FREE_BITS);
   const says = [say.clockIs(clock), say.dataIs(data), ...used.map(({ line, label }) => uses.say(label, line))];
-  const inputs = [{ id: `clock ${at}`, line: clock, label: say.CLOCK_PIN }, { id: `data ${at}`, line: data, label: say.DATA_PIN }];
+  const inputs = [{ id: `clock ${at}`, line: clock, label: say.CLOCK_PIN, number: CLOCK_NUMBER },
+    { id: `data ${at}`, line: data, label: say.DATA_PIN, number: DATA_NUMBER }];
   return column.add({ id: `chain ${at}`, kind: "chain", title: say.chainTitle(at, chips), says }, inputs, [...used, ...free]);
 }
 

@@ -5,10 +5,10 @@ import { Cancelled } from "../bench/faults.js";
 import { LONGEST_RUN } from "../engine/key_queue.js";
 import { FIRST_CYCLES, PieceSize } from "../engine/pieces.js";
 import { Answers } from "../engine/tracing.js";
-import { LARGEST_PIECE, watcherOf } from "./goals.js";
+import { LARGEST_PIECE, endWithout, watcherOf } from "./goals.js";
 
 /**
- * @typedef {import("../engine/engine.js").Engine} Engine
+ * @typedef {import("../engine/engine_host.js").EngineHost} Engine
  * @typedef {import("../engine/key_queue.js").PlannedLine} PlannedLine
  * @typedef {import("./goals.js").Found} Found
  * @typedef {import("./goals.js").Goal} Goal
@@ -58,7 +58,7 @@ function foundIn(answers, watcher) {
 export async function seek(engine, file, goal, goesOn, most, codes) {
   const copy = file.slice();
   const watcher = watcherOf(engine, file, goal, codes);
-  if (!watcher) return { cycles: 0, isReached: false, end: "lacks" };
+  if (!watcher) return { cycles: 0, isReached: false, end: endWithout(goal) };
   if (watcher.first) engine.serve(copy, watcher.first, copy);
   const piece = new PieceSize(FIRST_CYCLES, 1, LARGEST_PIECE);
   for (let done = 0; done < most;) {

@@ -1,12 +1,12 @@
 // Breakpoints that do not stop each time: with a condition, from some hit on, or with a note that is logged in place of a stop. They are
 // found ahead, on a copy that has them as breakpoints, and that tells at each arrival what stands at the places they ask for.
 
-import { Answers, valuesOf } from "../engine/tracing.js";
+import { Probes } from "../conditions/probes.js";
+import { Answers } from "../engine/tracing.js";
 import { cyclesOfLine } from "./ahead.js";
-import { MOST_PLACES } from "./conditions.js";
 
 /**
- * @typedef {import("../engine/engine.js").Engine} Engine
+ * @typedef {import("../engine/engine_host.js").EngineHost} Engine
  * @typedef {import("../engine/key_queue.js").PlannedLine} PlannedLine
  *
  * `from`: it stops from this hit on; `holds` and `words` get what stands at its places; `words` is null where it stops.
@@ -38,7 +38,8 @@ export class Arrivals {
     this.places = ["pc", ...new Set(breakpoints.flatMap(({ places }) => places))];
     this.looks = new Map(breakpoints.map(({ id, places }) => [id, places.map((place) => this.places.indexOf(place))]));
     this.first = breakpoints.map(({ address }) => `break ${address}\n`).join("");
-    this.probes = this.probeLines();
+    /** What is asked at an arrival. */
+    this.probes = new Probes(this.places);
     /** How many arrivals there were in a cycle, of late. */
     this.density = 0;
     this.copy = new Uint8Array(0);
@@ -46,15 +47,6 @@ export class Arrivals {
 
   get isEmpty() {
     return this.breakpoints.length === 0;
-  }
-
-  /** The questions at an arrival: each takes so many places. */
-  probeLines() {
-    const lines = [];
-    for (let from = 0; from < this.places.length; from += MOST_PLACES) {
-      lines.push(`trace 1 ${this.places.slice(from, from + MOST_PLACES).join(" ")}\n`);
-    }
-    return lines;
   }
 
   /**
@@ -111,13 +103,13 @@ export class Arrivals {
     while (ran < cycles) {
       const left = cycles - ran;
       const runs = Math.min(left, MOST_RUNS, Math.max(1, Math.round(2 * this.density * left)));
-      const pair = `run ${Math.floor(left / runs)}\n${this.probes.join("")}`;
+      const pair = `run ${Math.floor(left / runs)}\n${this.probes.lines}`;
       const answers = new Answers(engine.serve(file, before + pair.repeat(runs), file).answers);
       answers.skip(skipped);
       [before, skipped] = ["", 0];
       while (!answers.isEmpty) {
         const { cycles: part, end } = answers.takeRun();
-        const row = this.probes.flatMap(() => valuesOf(answers.takeTrace().row));
+        const row = this.probes.take(answers);
         ran += part;
         if (end === "end") continue;
         arrivals += 1;

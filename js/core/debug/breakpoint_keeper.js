@@ -20,44 +20,68 @@ import * as say from "../../words/debug.js";
  */
 
 const TOO_MANY = say.tooManyOn(MOST_ON);
+/** How many sessions have their lists remembered. */
+const MOST_LISTS = 30;
 
 export class BreakpointKeeper {
   /** @param {KeeperCalls} calls */
   constructor(calls) {
     this.calls = calls;
     this.list = new BreakpointList();
+    /** @type {Map<string, BreakpointList>} the lists of sessions that were shown, the last one last */
+    this.lists = new Map();
     /** @type {SourceMap | null} the program that stands in ROM, where the source is that program */
     this.map = null;
     /** Why it is not. */
     this.words = "";
+    /** @type {string[]} the values that are watched, whose names conditions may have */
+    this.watched = [];
     /** @type {Map<number, string>} why one cannot be read, by its id */
     this.faults = new Map();
     /** @type {Set<number> | null} the addresses that the bench has; null until it has told of a session */
     this.told = null;
+    /** @type {string[] | null} what the bench has told while it was asked to have the list: it is taken once that is done */
+    this.waiting = null;
     /** Whether the list of a session is one that was kept. */
     this.isKept = false;
-    /** How many times the bench is yet to be asked to have the list, and what it was asked last. */
+    /** How many answers of the bench are yet to come, and what it was asked last. */
     this.asked = 0;
     this.last = "";
     /** @type {Promise<void>} all that was asked for is done */
     this.settled = Promise.resolve();
+    /** @type {{ id: number, some: Partial<KeptBreakpoint> } | null} words of a breakpoint that are typed and not entered yet */
+    this.typed = null;
   }
 
   // --- what others tell ---
 
   /**
-   * Another session is shown.
+   * Another session is shown. Its list is the one that it had here before, where that is what was kept: it knows what an undo brings back.
+   * @param {string} id of the session
    * @param {KeptBreakpoint[] | undefined} kept undefined where none were kept: those of its file count
    */
-  open(kept) {
-    this.list = new BreakpointList(kept);
+  open(id, kept) {
+    const old = this.lists.get(id);
+    this.list = old && JSON.stringify(old.kept) === JSON.stringify(kept) ? old : new BreakpointList(kept);
+    this.list.forgetHits();
+    this.lists.delete(id);
+    this.lists.set(id, this.list);
+    for (const oldest of [...this.lists.keys()].slice(0, -MOST_LISTS)) this.lists.delete(oldest);
     this.isKept = kept !== undefined;
     this.map = null;
     this.words = "";
     this.told = null;
+    this.waiting = null;
     this.last = "";
+    this.typed = null;
     this.faults.clear();
     this.calls.changed();
+  }
+
+  /** @param {string[]} texts of the values that are watched from here on */
+  takeWatched(texts) {
+    this.watched = texts;
+    if (this.told) this.apply();
   }
 
   /** The bench was begun anew: it knows of none. */
@@ -69,7 +93,9 @@ export class BreakpointKeeper {
   /** @param {Edit[]} edits of the source, one after the other */
   edited(edits) {
     const moved = edits.filter((edit) => this.list.edit(edit));
-    if (moved.length > 0) this.calls.changed();
+    if (moved.length === 0) return;
+    if (this.told) this.apply();
+    else this.calls.changed();
   }
 
   /**
@@ -93,6 +119,10 @@ export class BreakpointKeeper {
   take(breaks) {
     const addresses = breaks.map((address) => parseInt(address, 16));
     const before = this.told;
+    if (before && this.isApplying) {
+      this.waiting = breaks;
+      return;
+    }
     this.told = new Set(addresses);
     if (!before) {
       // The session was just opened. What its file has beside the list was put there by another program.
@@ -100,7 +130,6 @@ export class BreakpointKeeper {
       this.calls.changed();
       return;
     }
-    if (this.isApplying) return;
     const wanted = new Set(this.hard);
     for (const address of addresses.filter((each) => !wanted.has(each) && !before.has(each))) this.adopt(address);
     for (const address of [...wanted].filter((each) => before.has(each) && !addresses.includes(each))) this.drop(address);
@@ -206,6 +235,26 @@ export class BreakpointKeeper {
   }
 
   /**
+   * Keeps the words of a breakpoint as they are typed. The bench gets them once they are entered.
+   * @param {number} id
+   * @param {Partial<KeptBreakpoint>} some
+   */
+  type(id, some) {
+    this.typed = { id, some };
+    this.calls.changed();
+    this.calls.touched();
+  }
+
+  /**
+   * Returns the breakpoints as the session keeps them, with what is typed.
+   * @returns {KeptBreakpoint[]}
+   */
+  get kept() {
+    const { list, typed } = this;
+    return list.kept.map((each, at) => (typed && typed.id === list.all[at].id ? { ...each, ...typed.some } : each));
+  }
+
+  /**
    * Other words, or on or off.
    * @param {number} id
    * @param {Partial<KeptBreakpoint>} some
@@ -213,6 +262,8 @@ export class BreakpointKeeper {
   change(id, some) {
     const found = this.list.get(id);
     if (!found) return;
+    if (this.typed && this.typed.id === id) this.typed = null;
+    else if (JSON.stringify({ ...found, ...some }) === JSON.stringify(found)) return;
     if (some.isOn && !found.isOn && this.list.countOn >= MOST_ON) {
       this.calls.tell(TOO_MANY);
       this.calls.changed();
@@ -239,7 +290,7 @@ export class BreakpointKeeper {
 
   /** Hits are counted anew. */
   forgetHits() {
-    for (const each of this.list.all) each.hits = 0;
+    this.list.forgetHits();
     this.last = "";
     this.apply();
   }
@@ -260,23 +311,48 @@ export class BreakpointKeeper {
     this.calls.changed();
     const { placed } = this.list;
     // Names in conditions may mean something else in another text.
-    const names = this.map && placed.some(isSoft) ? this.map.text : "";
+    const names = placed.some(isSoft) ? [this.map ? this.map.text : "", this.watched] : [];
     const next = JSON.stringify([names, placed.map((each) => ({ ...each, line: 0, hits: 0 }))]);
     const isNone = placed.length === 0 && this.told !== null && this.told.size === 0;
     if (next === this.last || (this.last === "" && isNone)) return;
     this.last = next;
-    this.asked += 1;
-    this.settled = this.settled.then(() => this.set()).catch((fault) => this.calls.failed(fault));
+    this.send(placed);
   }
 
-  async set() {
-    const { list } = this;
-    try {
-      const faults = list === this.list ? await this.calls.set(list.placed) : [];
-      if (list === this.list) this.faults = new Map(faults);
-    } finally {
-      this.asked -= 1;
-    }
-    if (list === this.list) this.calls.changed();
+  /**
+   * Sends the list at once, so that nothing that the bench is asked for later overtakes it. Answers are taken in the order of the lists.
+   * @param {Placed[]} placed
+   */
+  send(placed) {
+    const { list, hard } = this;
+    this.asked += 1;
+    this.settled = Promise.all([this.calls.set(placed), this.settled])
+      .finally(() => {
+        this.asked -= 1;
+      })
+      .then(([faults]) => this.sent(list, hard, faults))
+      .catch((fault) => this.calls.failed(fault));
+  }
+
+  /**
+   * The bench has a list.
+   * @param {BreakpointList} list
+   * @param {number[]} hard the addresses of those that always stop
+   * @param {[number, string][]} faults
+   */
+  sent(list, hard, faults) {
+    if (list !== this.list) return;
+    this.faults = new Map(faults);
+    this.told = new Set(hard);
+    this.calls.changed();
+    this.takeWaiting();
+  }
+
+  /** A line that was typed meanwhile may have set or taken away some. */
+  takeWaiting() {
+    const { waiting } = this;
+    if (this.isApplying || !waiting) return;
+    this.waiting = null;
+    this.take(waiting);
   }
 }

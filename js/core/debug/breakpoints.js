@@ -13,9 +13,9 @@ import * as say from "../../words/debug.js";
  *   Breakpoint
  * @typedef {Omit<Breakpoint, "id" | "hits">} KeptBreakpoint as a session and a project keep it
  *
- * An edit of the text: of its lines (from 0) those from one to another one were replaced by so many.
+ * An edit of the text: the lines between two positions (lines count from 0) were replaced by others. `isWhole`: all of the text was.
  * @typedef {{ from: { line: number, ch: number }, to: { line: number, ch: number }, text: string[], removed?: string[],
- *   origin?: string }} Edit
+ *   origin?: string, isWhole?: boolean }} Edit
  */
 
 /** The bench has so many that always stop, and a copy of it as many again with the others. */
@@ -24,6 +24,8 @@ export const MOST_ON = 32;
 export const MOST_BREAKPOINTS = 256;
 /** So many that went with their lines come back with them, when that is undone. */
 const MOST_GONE = 256;
+/** How many replaced texts have their breakpoints remembered. */
+const MOST_TEXTS = 30;
 
 /** @type {Omit<Breakpoint, "id" | "line" | "address">} */
 const PLAIN = { isOn: true, condition: "", from: 1, note: "", hits: 0 };
@@ -36,6 +38,8 @@ export class BreakpointList {
     this.all = kept.map((each) => this.make(each));
     /** @type {{ text: string, breakpoint: Breakpoint }[]} those that went with their lines, the last one last */
     this.gone = [];
+    /** @type {Map<string, Breakpoint[]>} those of texts that were replaced as a whole, the last one last */
+    this.ofTexts = new Map();
     this.sort();
   }
 
@@ -106,10 +110,55 @@ export class BreakpointList {
   }
 
   /**
-   * The text was edited. A breakpoint moves with its line; one whose whole line is gone goes with it. Gives whether one has another place.
+   * The text was edited. Gives whether a breakpoint has another place.
    * @param {Edit} edit
    */
   edit(edit) {
+    return (edit.isWhole === true && this.exchange(edit)) || this.move(edit);
+  }
+
+  /**
+   * All of the text is replaced: its breakpoints are remembered. A text that was here before gets back those that it had. Gives whether
+   * it was here before.
+   * @param {Edit} edit
+   */
+  exchange({ removed = [], text }) {
+    this.remember(removed.join("\n"));
+    const known = this.ofTexts.get(text.join("\n"));
+    if (!known) return false;
+    const ids = new Set(known.map(({ id }) => id));
+    // What was changed of a breakpoint meanwhile stays changed; and one that has no line belongs to ROM, not to the text.
+    const back = known.filter(({ id, line }) => line > 0 || this.get(id))
+      .map((each) => ({ ...(this.get(each.id) || each), line: each.line, address: each.address }));
+    const ofRom = this.all.filter(({ id, line, address }) => !ids.has(id) && line === 0 && !back.some((each) => each.address === address));
+    this.all = [...back, ...ofRom];
+    this.gone = this.gone.filter(({ breakpoint }) => !ids.has(breakpoint.id));
+    this.sort();
+    this.limit();
+    return true;
+  }
+
+  /** @param {string} text whose breakpoints are those that are here */
+  remember(text) {
+    this.ofTexts.delete(text);
+    this.ofTexts.set(text, [...this.all]);
+    for (const oldest of [...this.ofTexts.keys()].slice(0, -MOST_TEXTS)) this.ofTexts.delete(oldest);
+  }
+
+  /** No more are kept, and no more are on, than there can be. */
+  limit() {
+    let count = 0;
+    this.all = this.all.slice(0, MOST_BREAKPOINTS).map((each) => {
+      count += each.isOn ? 1 : 0;
+      return each.isOn && count > MOST_ON ? { ...each, isOn: false } : each;
+    });
+  }
+
+  /**
+   * A breakpoint moves with its line; one whose whole line is gone goes with it. Gives whether one has another place.
+   * @param {Edit} edit
+   */
+  move(edit) {
     const { first, last, count, isOther } = replacedLines(edit);
     if (isOther) return this.leaveText();
     const more = count - (last - first + 1);
@@ -159,6 +208,7 @@ export class BreakpointList {
       this.all.push({ ...breakpoint, line });
     }
     this.sort();
+    this.limit();
     return this.all.length > before;
   }
 
@@ -200,6 +250,11 @@ export class BreakpointList {
     }
   }
 
+  /** Hits are counted anew. */
+  forgetHits() {
+    this.all = this.all.map((each) => ({ ...each, hits: 0 }));
+  }
+
   /** @returns {KeptBreakpoint[]} */
   get kept() {
     return this.all.map(({ line, address, isOn, condition, from, note }) => ({ line, address, isOn, condition, from, note }));
@@ -223,16 +278,17 @@ function sameLines(olds, news, most, isAtEnd) {
 
 /**
  * The lines that an edit replaces, from 1, and by how many: those at its beginning and its end that stay are none of them. What is put in
- * at the beginning of a line stands before the line. `isOther`: a whole text from its first line on is another one, to its last line.
+ * at the beginning of a line stands before the line. `isOther`: all of the text is another one, from its first line to its last.
  * @param {Edit} edit
  */
-function replacedLines({ from, to, text, removed = Array(to.line - from.line + 1).fill("\n") }) {
+function replacedLines({ from, to, text, removed = Array(to.line - from.line + 1).fill("\n"), isWhole = false }) {
   const most = Math.min(removed.length, text.length);
   const isBefore = from.ch === 0;
   const one = sameLines(removed, text, most, isBefore);
   const other = sameLines(removed, text, most - one, !isBefore);
   const [before, after] = isBefore ? [other, one] : [one, other];
-  const isOther = isBefore && from.line === 0 && before + after === 0 && removed.length > 2 && text.length > 2;
+  const staying = [...text.slice(0, before), ...text.slice(text.length - after)];
+  const isOther = isWhole && staying.join("").trim() === "" && removed.length > 2 && text.length > 2;
   return { first: from.line + 1 + before, last: to.line + 1 - after, count: text.length - before - after, isOther };
 }
 

@@ -1,6 +1,6 @@
 // A session in memory with its debugger, the program's lines, and breakpoints at these: what an editor, a prompt or a test in node opens.
 //
-//     const engine = await Engine.load(bytes of the module);         (worker/engine.js)
+//     const engine = await Engine.load(bytes of the module);         (engine/engine.js)
 //     const session = new DebugSession(engine, { board, program });  texts; or { file, board, program } for the bytes of a .mcs
 //     session.refused;                                               what was refused of them
 //     session.breakpoints.add({ line: 12, condition: "r9 = 9" }); await session.applyBreakpoints();
@@ -26,7 +26,7 @@ import * as say from "../../words/debug.js";
 
 /**
  * @typedef {import("../bench/answers.js").Refusal} Refusal
- * @typedef {import("../engine/engine.js").Engine} Engine
+ * @typedef {import("../engine/engine_host.js").EngineHost} Engine
  * @typedef {import("../engine/going_back.js").BackGoal} BackGoal
  * @typedef {import("./debugger.js").GoesOn} GoesOn
  * @typedef {import("./debugger.js").Stop} Stop
@@ -37,7 +37,7 @@ import * as say from "../../words/debug.js";
  */
 
 const FIRST_PIECE = 50000;
-/** What is done again for a step back is no more than a piece (worker/timeline.js). */
+/** What is done again for a step back is no more than a piece (engine/timeline.js). */
 const LARGEST_PIECE = 500000;
 
 /** @type {GoesOn} */
@@ -62,6 +62,8 @@ export class DebugSession {
     }
     this.debugger = new Debugger(new WorkerSession(engine, own));
     this.breakpoints = new BreakpointList();
+    /** @type {Map<number, string>} why a breakpoint cannot be read, by its id */
+    this.faults = new Map();
     this.map = this.readMap();
   }
 
@@ -88,6 +90,11 @@ export class DebugSession {
 
   // --- program and breakpoints ---
 
+  /** The names that conditions may have. */
+  get names() {
+    return { face: new Face(this.boardText), board: readBoard(this.debugger.session.lookQuestions.board), map: this.map };
+  }
+
   /**
    * Assembles another text; the machine stays where it is. Gives why it is refused, or null.
    * @param {string} program
@@ -110,9 +117,9 @@ export class DebugSession {
   async applyBreakpoints() {
     const { session } = this.debugger;
     const moved = this.breakpoints.locate(this.map);
-    const names = { face: new Face(this.boardText), board: readBoard(session.lookQuestions.board), map: this.map };
-    const { lines, faults } = this.debugger.setBreakpoints(this.breakpoints.placed, names);
+    const { lines, faults } = this.debugger.setBreakpoints(this.breakpoints.placed, this.names);
     if (lines) await session.serve(lines, always);
+    this.faults = new Map(faults);
     return { moved, faults };
   }
 
@@ -130,6 +137,7 @@ export class DebugSession {
       debug.begin();
       return this.runOn(null, goesOn);
     }
+    debug.names = this.names;
     const { found, tally } = await debug.goOn(goal, nearOf(goal), goesOn);
     this.breakpoints.count(tally.hits);
     if (debug.isMoving) return this.runOn(goal, goesOn);
@@ -180,7 +188,15 @@ export class DebugSession {
    * @returns {Stopped}
    */
   stopped(goal, stop, tally) {
-    return { ...stop, words: wordsOfStop(goal, stop, this.counterWords, wordsOfWhen(this.breakpoints.get(stop.id))), tally };
+    return { ...stop, words: wordsOfStop(goal, stop, this.counterWords, this.wordsOfBreakpoint(stop.id)), tally };
+  }
+
+  /**
+   * When the breakpoint stops that stopped time.
+   * @param {number} id
+   */
+  wordsOfBreakpoint(id) {
+    return wordsOfWhen(this.breakpoints.get(id), this.faults.get(id));
   }
 
   /**
@@ -200,6 +216,7 @@ export class DebugSession {
    * @param {GoesOn} [goesOn]
    */
   async back(goal, goesOn = always) {
+    this.debugger.names = this.names;
     const went = await this.debugger.goBack(goal, (done = 0) => goesOn(done));
     return { ...went, words: wordsOfGone(goal, went, this.counterWords, this.breakpoints.get(went.id)) };
   }
@@ -247,7 +264,7 @@ export class DebugSession {
   }
 
   /**
-   * What stands at places, by the names of bench/places.js.
+   * What stands at places, by the names of conditions/places.js.
    * @param {string[]} names
    */
   values(names) {

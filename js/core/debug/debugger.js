@@ -14,14 +14,15 @@
 
 import { readBoard, readRun } from "../bench/answers.js";
 import { hex } from "../bench/numbers.js";
-import { placeOf } from "../bench/places.js";
+import { placeOf } from "../conditions/places.js";
+import { Probes } from "../conditions/probes.js";
 import { NOTHING_TOLD, aimBack } from "../engine/going_back.js";
 import { runLines } from "../engine/key_queue.js";
 import { LOOKED_CYCLES } from "../engine/pieces.js";
-import { Answers, valuesOf } from "../engine/tracing.js";
+import { Answers } from "../engine/tracing.js";
 import { cyclesToGoal, seek, linesUpTo } from "./ahead.js";
 import { Arrivals, MOST_NOTES, nothingSeen } from "./arrivals.js";
-import { MOST_PLACES } from "./conditions.js";
+import { askedOf } from "./becoming.js";
 import { counterOf, watcherOf } from "./goals.js";
 import { lastArrival } from "./last_arrival.js";
 import { isSoft, softBreakpointOf } from "./soft_breakpoints.js";
@@ -32,7 +33,7 @@ import { UsualFaults } from "./usual_faults.js";
  * @typedef {import("./arrivals.js").Logged} Logged
  * @typedef {import("./arrivals.js").Seen} Seen
  * @typedef {import("./arrivals.js").SoftBreakpoint} SoftBreakpoint
- * @typedef {import("./conditions.js").Names} Names
+ * @typedef {import("../conditions/conditions.js").Names} Names
  * @typedef {import("./goals.js").Found} Found
  * @typedef {import("./goals.js").Goal} Goal
  * @typedef {import("./goals.js").Watcher} Watcher
@@ -91,7 +92,7 @@ export function bothTallies(one, other) {
  * @param {Goal} goal
  */
 export function nearOf({ kind }) {
-  if (kind === "change") return NEAR_CHANGE;
+  if (kind === "change" || kind === "when") return NEAR_CHANGE;
   return kind === "count" ? ALL : NEAR;
 }
 
@@ -107,6 +108,8 @@ export class Debugger {
     this.late = [];
     /** @type {Map<number, number> | null} the ids of the breakpoints that always stop, by their addresses; null until some are set */
     this.hard = null;
+    /** @type {import("../conditions/conditions.js").Names | null} that conditions may have, null until somebody says */
+    this.names = null;
     /** @type {Watcher | null} of the move that is under way */
     this.watcher = null;
     /** The cycles that were counted where the move began, or where time began to run. */
@@ -122,7 +125,7 @@ export class Debugger {
 
   /**
    * The breakpoints from here on, each at an address of its own. Gives the lines that make the bench have those that always stop, which
-   * are not sent here; and of each that cannot be read, by its id, why.
+   * are not sent here; and of each that cannot be read, and so stops at each arrival, by its id, why.
    * @param {Placed[]} placed those that are on
    * @param {Names} names
    * @returns {{ lines: string, faults: [number, string][] }}
@@ -132,9 +135,10 @@ export class Debugger {
     const faults = [];
     const softs = placed.filter(isSoft).flatMap((each) => {
       const { soft, fault } = softBreakpointOf(each, names);
-      if (!soft) faults.push([each.id, fault]);
-      return soft ? [soft] : [];
+      if (fault) faults.push([each.id, fault]);
+      return soft;
     });
+    this.names = names;
     this.arrivals = new Arrivals(softs);
     this.hard = new Map(placed.filter((each) => !isSoft(each)).map(({ id, address }) => [address, id]));
     return { lines: this.breakLines(), faults };
@@ -277,19 +281,20 @@ export class Debugger {
   /**
    * Goes on to a goal, or to what stops time before, where one of them comes within so many cycles. Where neither does, nothing is done,
    * and the move is under way: `advance` goes on with it.
-   * @param {Goal} goal
+   * @param {Goal} wanted
    * @param {number} near
    * @param {GoesOn} goesOn
    * @returns {Promise<Went>}
    */
-  async goOn(goal, near, goesOn) {
+  async goOn(wanted, near, goesOn) {
     this.begin();
     const { session } = this;
+    const goal = this.readGoal(wanted);
     const codes = () => session.codes;
     const watcher = watcherOf(session.engine, session.file, goal, codes);
     const returns = watcher !== null && watcher.returns;
     const sought = { ...await seek(session.engine, session.file, goal, goesOn, near, codes), id: 0, returns };
-    if (sought.end === "lacks") return { found: sought, told: null, tally: NO_TALLY };
+    if (!watcher) return { found: sought, told: null, tally: NO_TALLY };
     const seen = await this.seenIn(sought.cycles, goesOn);
     if (sought.end === "bound" && seen.cycles < 0) {
       this.watcher = watcher;
@@ -349,6 +354,19 @@ export class Debugger {
     }
   }
 
+  /**
+   * The goal, with its condition read. It was found right where it was asked for.
+   * @template {Goal | BackGoal} Wanted
+   * @param {Wanted} goal
+   * @returns {Wanted}
+   */
+  readGoal(goal) {
+    if (goal.kind !== "when" || !this.names) return goal;
+    const { asked, fault } = askedOf(goal.condition, this.names);
+    if (!asked) throw new Error(fault);
+    return { ...goal, asked };
+  }
+
   // --- the past ---
 
   /**
@@ -361,7 +379,7 @@ export class Debugger {
     this.begin();
     const { session } = this;
     const { moment, present: found, ...told } = goal.kind === "arrival" ? await lastArrival(session, this.stopping(), goal.place, goesOn)
-      : await aimBack(session.engine, session, goal, goesOn);
+      : await aimBack(session.engine, session, this.readGoal(goal), goesOn);
     if (!moment) return { ...told, isDone: false, wires: false, cycles: 0 };
     const present = found || await session.timeline.at(session.engine, moment, goesOn);
     session.timeline.goBack(moment, session);
@@ -435,16 +453,12 @@ export class Debugger {
   }
 
   /**
-   * What `trace` tells of its places now.
-   * @param {string[]} probes
+   * What the bench tells of places of conditions now.
+   * @param {string[]} places
    */
-  told(probes) {
-    /** @type {string[]} */
-    const values = [];
-    for (let from = 0; from < probes.length; from += MOST_PLACES) {
-      const answers = this.session.ask(`trace 1 ${probes.slice(from, from + MOST_PLACES).join(" ")}\n`);
-      values.push(...valuesOf(new Answers(answers).takeTrace().row));
-    }
-    return values;
+  told(places) {
+    if (places.length === 0) return [];
+    const probes = new Probes(places);
+    return probes.take(new Answers(this.session.ask(probes.lines)));
   }
 }

@@ -1,20 +1,25 @@
 // Goals of time that passes: what is watched for each, run by run. The bench is asked before each run what it would do, and does it not.
 
-import { readBoard, readCounter } from "../bench/answers.js";
-import { placeOf } from "../bench/places.js";
+import { readBoard, readCounter, readRegisters } from "../bench/answers.js";
+import { placeOf } from "../conditions/places.js";
+import { callBefore } from "../machine/returns.js";
 import { LONGEST_RUN } from "../engine/key_queue.js";
 import { isCall, isReturn, romCodes } from "../engine/rom_codes.js";
 import { readTraced } from "../engine/tracing.js";
+import { becomesTrue } from "./becoming.js";
 
 /**
- * @typedef {import("../engine/engine.js").Engine} Engine
+ * @typedef {import("../engine/engine_host.js").EngineHost} Engine
  * @typedef {import("../engine/tracing.js").Answers} Answers
  * @typedef {import("../engine/tracing.js").Traced} Traced
+ * @typedef {import("./becoming.js").Asked} Asked
  * @typedef {{ kind: "over" } | { kind: "out" } | { kind: "here", address: number } | { kind: "count", count: number }
- *   | { kind: "change", place: string }} Goal past the subroutine that is called here, out of the one that this is, to an address, so
- *   many instructions, or until the value of a place is another one
+ *   | { kind: "change", place: string } | { kind: "when", condition: string, asked?: Asked }} Goal past the subroutine that is called
+ *   here, out of the one that this is, to an address, so many instructions, until the value of a place is another one, or until a
+ *   condition becomes true, which `asked` is once the debugger has read it
  * @typedef {{ cycles: number, isReached: boolean, end: string }} Found the cycles up to the goal, or up to an earlier stop, and what
- *   stopped it: a word of the answer to a run; "bound" where neither came, "lacks" where the board has no such place
+ *   stopped it: a word of the answer to a run; "bound" where neither came. Where there is no such goal nothing is tried: "lacks" if the
+ *   board has no such place, "outside" if no subroutine is open
  *
  * Watches for a goal: how many cycles can be run at most without going past it; lines that come first, once, and how many answers they
  * have; what is asked before and after a run of so many cycles, and what came of that run. `returns`: it is reached by a return.
@@ -55,6 +60,31 @@ function traced(places, goal) {
       return { ...ran, isReached: false };
     },
     returns: false,
+  };
+}
+
+/**
+ * Reached when a condition becomes true. A change of a key may have made it true before a run; the run's first cycle is done then.
+ * @param {Asked} asked
+ * @returns {Watcher}
+ */
+function becoming(asked) {
+  let before = "";
+  const watcher = traced(` ${asked.places.join(" ")}`, () => -1);
+  return {
+    ...watcher,
+    take: (answers) => {
+      const { row, lines } = answers.takeTrace();
+      const ran = answers.takeRun();
+      if (before !== "" && becomesTrue(asked, before, row)) return { cycles: 1, isReached: true, end: "" };
+      before = row;
+      for (const line of lines) {
+        const { cycles, row: after } = readTraced(line);
+        if (becomesTrue(asked, before, after)) return { cycles: cycles + 1, isReached: true, end: "" };
+        before = after;
+      }
+      return { ...ran, isReached: false };
+    },
   };
 }
 
@@ -140,11 +170,28 @@ function beginning(address) {
 }
 
 /**
+ * Whether a subroutine is open: the newest return address is behind a JMS.
+ * @param {string} regs
+ * @param {Uint8Array} codes
+ */
+function isInSubroutine(regs, codes) {
+  return isCall(codes[callBefore(parseInt(readRegisters(regs).returns[0], 16))]);
+}
+
+/**
+ * What a search for a goal that is not there ends with.
+ * @param {Goal} goal
+ */
+export function endWithout(goal) {
+  return goal.kind === "out" ? "outside" : "lacks";
+}
+
+/**
  * @param {Engine} engine
  * @param {Uint8Array} file the session, which stays as it is
  * @param {Goal} goal
  * @param {() => Uint8Array} [codes] gives what stands in ROM
- * @returns {Watcher | null} null where the board has no such place
+ * @returns {Watcher | null} null where there is no such goal
  */
 export function watcherOf(engine, file, goal, codes = () => romCodes(engine, file)) {
   if (goal.kind === "here") return arrived(engine, file, goal.address);
@@ -153,8 +200,10 @@ export function watcherOf(engine, file, goal, codes = () => romCodes(engine, fil
     const probes = place ? place.probesOn(readBoard(engine.ask(file, "board\n").answers)) : [];
     return probes.length > 0 ? traced(` ${probes.join(" ")}`, ({ cycles }) => cycles + 1) : null;
   }
-  const { counter, isOwed } = counterOf(engine.ask(file, "regs\n").answers[0]);
+  if (goal.kind === "when") return goal.asked ? becoming(goal.asked) : null;
+  const [regs] = engine.ask(file, "regs\n").answers;
+  const { counter, isOwed } = counterOf(regs);
   if (goal.kind === "count") return counted(goal.count, isOwed);
-  if (goal.kind === "out") return returned(codes(), -1);
+  if (goal.kind === "out") return isInSubroutine(regs, codes()) ? returned(codes(), -1) : null;
   return isOwed || !isCall(codes()[counter]) ? counted(1, isOwed) : returned(codes(), 0);
 }

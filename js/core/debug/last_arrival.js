@@ -7,7 +7,7 @@ import { Arrivals } from "./arrivals.js";
 import { counterOf } from "./goals.js";
 
 /**
- * @typedef {import("../engine/engine.js").Engine} Engine
+ * @typedef {import("../engine/engine_host.js").EngineHost} Engine
  * @typedef {import("../engine/going_back.js").Aim} Aim
  * @typedef {import("../engine/going_back.js").Finder} Finder
  * @typedef {import("../engine/timeline.js").GoesOn} GoesOn

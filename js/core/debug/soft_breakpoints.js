@@ -1,12 +1,13 @@
 // What a breakpoint's condition, count and note mean on a board with a program: read once, before time runs.
 
-import { placeOf } from "../bench/places.js";
-import { conditionOf } from "./conditions.js";
+import { conditionOf, expressionOf } from "../conditions/conditions.js";
+import { placeOf } from "../conditions/places.js";
+import { boardLacks, inColumn } from "../../words/conditions.js";
 import * as say from "../../words/debug.js";
 
 /**
  * @typedef {import("./arrivals.js").SoftBreakpoint} SoftBreakpoint
- * @typedef {import("./conditions.js").Names} Names
+ * @typedef {import("../conditions/conditions.js").Names} Names
  *
  * A breakpoint at an address. `condition`: a text as conditions.js reads it, "" for none; `from`: it stops from this hit on, 1 for each;
  * `note`: a text that is logged in place of a stop, with places in braces, "" for none; `hits`: how many there were.
@@ -20,28 +21,46 @@ export function isSoft({ condition, from, note }) {
 }
 
 /**
- * A note: `digit {r4}, lamps {lamps}`. A place in braces is told as its value; its fault where the board lacks one.
+ * Reads what stands in braces: a place, as `trace` writes it, another value, a condition.
+ * @param {string} text
+ * @param {Names} names
+ * @returns {{ note: Note, fault: "", column: -1 } | { note: null, fault: string, column: number }}
+ */
+function partOf(text, names) {
+  const lamp = names.face.lampNumbers.get(text.trim());
+  const place = placeOf(lamp === undefined ? text : `lamp ${lamp}`);
+  const probes = place ? place.probesOn(names.board) : [];
+  if (place && probes.length > 0) return { note: { places: probes, words: place.value }, fault: "", column: -1 };
+  if (place) return { note: null, fault: boardLacks(place.name), column: 0 };
+  const { expression, fault, column } = expressionOf(text, names);
+  return expression ? { note: { places: expression.places, words: expression.told }, fault: "", column: -1 }
+    : { note: null, fault, column };
+}
+
+/**
+ * A note: `digit {r4}, lamps {lamps}, next {r4 + 1}`. What stands in braces is told as its value; its fault, with its column in the note.
  * @param {string} text
  * @param {Names} names
  * @returns {{ note: Note, fault: string }}
  */
-export function noteOf(text, { board, face }) {
+export function noteOf(text, names) {
   /** @type {string[]} */
   const places = [];
   let fault = "";
+  let begin = text.length - text.trimStart().length;
   const parts = text.trim().split(/(\{[^{}]*\})/).map((part) => {
+    const at = begin;
+    begin += part.length;
     const found = /^\{(.*)\}$/.exec(part);
     if (!found) return () => part;
-    const lamp = face.lampNumbers.get(found[1].trim());
-    const place = placeOf(lamp === undefined ? found[1] : `lamp ${lamp}`);
-    const probes = place ? place.probesOn(board) : [];
-    if (!place || probes.length === 0) {
-      fault = fault || say.noteAsks(part, place !== null);
+    const { note, fault: wrong, column } = partOf(found[1], names);
+    if (!note) {
+      fault = fault || inColumn(say.noteAsks(part, wrong), at + 1 + column);
       return () => part;
     }
     const from = places.length;
-    places.push(...probes);
-    return (/** @type {string[]} */ values) => place.value(values.slice(from, from + probes.length));
+    places.push(...note.places);
+    return (/** @type {string[]} */ values) => note.words(values.slice(from, from + note.places.length));
   });
   return { note: { places, words: (values) => parts.map((part) => part(values)).join("") }, fault };
 }
@@ -49,16 +68,16 @@ export function noteOf(text, { board, face }) {
 /**
  * @param {Placed} placed
  * @param {Names} names
- * @returns {{ soft: SoftBreakpoint | null, fault: string }} with a fault, in words, there is none
+ * @returns {{ soft: SoftBreakpoint, fault: string }} one with a fault, in words, stops at each arrival, as nobody knows when it should not
  */
 export function softBreakpointOf(placed, names) {
   const { id, address, from, hits } = placed;
   const isAlways = placed.condition.trim() === "";
-  const { condition, fault } = isAlways ? { condition: null, fault: "" } : conditionOf(placed.condition, names);
-  if (fault) return { soft: null, fault };
-  const own = condition ? condition.places : [];
+  const { condition, fault, column } = isAlways ? { condition: null, fault: "", column: -1 } : conditionOf(placed.condition, names);
   const told = placed.note.trim() === "" ? null : noteOf(placed.note, names);
-  if (told && told.fault) return { soft: null, fault: told.fault };
+  const wrong = fault ? inColumn(fault, column) : told ? told.fault : "";
+  if (wrong) return { soft: { id, address, from: 1, hits, places: [], holds: () => true, words: null }, fault: wrong };
+  const own = condition ? condition.places : [];
   const note = told && told.note;
   const soft = {
     id, address, from, hits,

@@ -9,7 +9,7 @@ import { LONGEST_RUN } from "../engine/key_queue.js";
 
 /**
  * @typedef {import("../bench/inputs.js").Input} Input
- * @typedef {import("../engine/engine.js").Engine} Engine
+ * @typedef {import("../engine/engine_host.js").EngineHost} Engine
  * @typedef {import("./arrivals.js").Arrivals} Arrivals
  * @typedef {import("./arrivals.js").Seen} Seen
  *

@@ -1,23 +1,32 @@
-// Watched expressions, with names of the user's own: `count = R5`, `digit = ram 0 0x12`. Without a document.
+// Watched expressions, with names of the user's own: `count = R5`, `digit = ram 0 0x12`, `r5 + 1 > limit`. Without a document.
 //
-//     const { watched, fault } = readWatched("digit = ram 0 0x12");
-//     watched.pieces(standing)           what it is now, in pieces (value_words.js)
+//     const { watched, fault } = readWatched("digit = ram 0 0x12", names);
+//     watched.pieces(standing, names)    what it is now, in pieces (value_words.js)
 
-import { hex, numberOf } from "../bench/numbers.js";
+import { expressionOf } from "../conditions/conditions.js";
+import { WORDS, parse } from "../conditions/parser.js";
+import { placeOf } from "../conditions/places.js";
+import { Unreadable, numeralOf } from "../conditions/scanner.js";
+import { inColumn } from "../../words/conditions.js";
+import { answerAt } from "./standing_places.js";
 import { NAME } from "../text/assembly.js";
 import * as say from "../../words/debug.js";
 
 /**
  * @typedef {import("./standing.js").Standing} Standing
  * @typedef {import("./value_words.js").Piece} Piece
- * `text` is as it is kept; `place` is what `poke` calls a character of RAM, "" for what is none.
- * @typedef {{ name: string, text: string, place: string, pieces: (standing: Standing) => Piece[] }} Watched
- * @typedef {(standing: Standing) => Piece[]} Reader
+ * @typedef {import("../conditions/conditions.js").Names} Names
+ * `text` is as it is kept; `place` is what `poke` calls a character of RAM, "" for what is none; `value` is the expression that the name
+ * stands for.
+ * @typedef {{ name: string, text: string, place: string, value: string, pieces: Reader }} Watched
+ * @typedef {(standing: Standing, names: Names) => Piece[]} Reader
  */
 
 /** So many are watched, and a text of one has so many characters. */
 export const MOST_WATCHED = 40;
-const LONGEST = 60;
+const LONGEST = 200;
+/** A number above it shows its hexadecimal digits, too. */
+const LAST_PLAIN = 9;
 
 /**
  * A value that `poke` knows by a place; words where the board has none.
@@ -32,32 +41,23 @@ function cell(place, value) {
   };
 }
 
+/** @type {Record<string, (standing: Standing) => string>} */
+const REGISTERS = {
+  acc: ({ registers }) => registers.accumulator, cy: ({ registers }) => registers.carry, dcl: ({ registers }) => registers.bank,
+};
+
 /**
- * @param {string[]} words
+ * @param {string} place
  * @returns {Reader | null}
  */
-function machineReader([word, ...more]) {
-  if (more.length > 0) return null;
-  if (word === "acc") return cell("acc", ({ registers }) => registers.accumulator);
-  if (word === "cy") return cell("cy", ({ registers }) => registers.carry);
-  if (word === "dcl") return cell("dcl", ({ registers }) => registers.bank);
-  const register = /^r(\d|1[0-5])$/.exec(word);
-  if (register) return cell(word, (standing) => standing.register(Number(register[1])));
-  const pair = /^p([0-7])$/.exec(word);
+function machineReader(place) {
+  if (Object.prototype.hasOwnProperty.call(REGISTERS, place)) return cell(place, REGISTERS[place]);
+  const register = /^r(\d+)$/.exec(place);
+  if (register) return cell(place, (standing) => standing.register(Number(register[1])));
+  const pair = /^p(\d)$/.exec(place);
   if (!pair) return null;
   const halves = [0, 1].map((half) => 2 * Number(pair[1]) + half);
   return (standing) => halves.map((half) => ({ place: `r${half}`, name: `R${half}`, value: standing.register(half) }));
-}
-
-/**
- * What `poke` calls a character or a status character; "" where the words name none.
- * @param {string[]} words
- */
-function characterPlace([kind, ...words]) {
-  const [bank, at, number = 0] = words.map(numberOf);
-  if (!(bank <= 7)) return "";
-  if (kind === "ram" && words.length === 2 && at <= 255) return `ram.${bank}.0x${hex(at, 2)}`;
-  return kind === "st" && words.length === 3 && at <= 15 && number <= 3 ? `st.${bank}.${at}.${number}` : "";
 }
 
 /**
@@ -65,25 +65,24 @@ function characterPlace([kind, ...words]) {
  * @returns {Reader | null}
  */
 function memoryReader(place) {
-  if (place === "") return null;
   const [kind, bank, at, number] = place.split(".");
   if (kind === "ram") return cell(place, (standing) => standing.character(Number(bank), Number(at)));
-  return cell(place, (standing) => standing.status(Number(bank), Number(at), Number(number)));
+  return kind === "st" ? cell(place, (standing) => standing.status(Number(bank), Number(at), Number(number))) : null;
 }
 
 /**
- * @param {string} text
+ * @param {string} place
  * @returns {Reader | null}
  */
-function portReader(text) {
-  const rom = /^rom(\d|1[0-5])$/.exec(text);
+function portReader(place) {
+  const rom = /^rom(\d+)$/.exec(place);
   if (rom) {
     return (standing) => {
       const port = standing.romPort(Number(rom[1]));
       return [port ? say.outAndIn(port.out, port.in) : say.LACKED];
     };
   }
-  const ram = /^ram([0-7])\.([0-3])$/.exec(text);
+  const ram = /^ram(\d)\.(\d)$/.exec(place);
   if (!ram) return null;
   return (standing) => {
     const out = standing.ramPort(Number(ram[1]), Number(ram[2]));
@@ -92,33 +91,104 @@ function portReader(text) {
 }
 
 /**
- * Reads one; where it cannot be read, why.
- * @param {string} text
- * @returns {{ watched: Watched | null, fault: string }}
+ * A place that is shown, and cannot be edited.
+ * @param {import("../conditions/places.js").Place} place
+ * @returns {Reader}
  */
-export function readWatched(text) {
-  const equals = text.indexOf("=");
-  const name = equals < 0 ? "" : text.slice(0, equals).trim();
-  const place = text.slice(equals + 1).trim();
-  if (text.length > LONGEST) return { watched: null, fault: say.tooLong(LONGEST) };
-  if (equals >= 0 && !NAME.test(name)) return { watched: null, fault: say.NAME_FORM };
-  const lower = place.toLowerCase();
-  const words = lower.split(/[\s.]+/);
-  const character = characterPlace(words);
-  const pieces = machineReader(words) || portReader(lower) || memoryReader(character);
-  if (!pieces) return { watched: null, fault: say.nothingToWatch(place || say.NOTHING, say.WATCHED_FORMS) };
-  return { watched: { name: name || place, text: name ? `${name} = ${place}` : place, place: character, pieces }, fault: "" };
+function placeReader(place) {
+  return (standing, { board }) => {
+    const probes = place.probesOn(board);
+    return [probes.length === 0 ? say.LACKED : place.value(probes.map((probe) => answerAt(probe, standing, board)))];
+  };
 }
 
 /**
- * Those of texts that were kept, which may be anything.
+ * A sum, a comparison, a name.
+ * @param {string} text
+ * @returns {Reader}
+ */
+function expressionReader(text) {
+  return (standing, names) => {
+    const { expression, fault } = expressionOf(text, names);
+    if (!expression) return [fault];
+    const answers = expression.places.map((place) => answerAt(place, standing, names.board));
+    const number = expression.number ? expression.number(answers) : 0;
+    const told = expression.told(answers);
+    return [number > LAST_PLAIN && /^\d+$/.test(told) ? say.withHex(told, number.toString(16).toUpperCase()) : told];
+  };
+}
+
+/**
+ * The name and the expression of a text: `count = R5` gives a name, `r5 = 10` compares.
+ * @param {string} text
+ */
+function partsOfWatched(text) {
+  const [, name, value] = /^\s*([^\s=<>!&+()-]*)\s*=(?!=)\s*(.*?)\s*$/.exec(text) || [];
+  // A name for a number would be of no use.
+  const isCompared = name === undefined || WORDS.has(name.toLowerCase()) || /^(test|owed)$/i.test(name) || placeOf(name) !== null
+    || !Number.isNaN(numeralOf(value));
+  if (isCompared) return { name: "", value: text.trim(), column: text.length - text.trimStart().length };
+  return { name, value, column: text.trimEnd().length - value.length };
+}
+
+/**
+ * What is wrong with an expression, with its column; "" for nothing. Without names its form alone is judged.
+ * @param {string} value
+ * @param {number} begin its column in the text
+ * @param {Names | null} names
+ */
+function faultOf(value, begin, names) {
+  if (names) {
+    const { fault, column } = expressionOf(value, names);
+    return fault && inColumn(fault, begin + column);
+  }
+  try {
+    parse(value);
+    return "";
+  } catch (fault) {
+    if (fault instanceof Unreadable) return inColumn(fault.message, begin + Math.max(0, fault.column));
+    throw fault;
+  }
+}
+
+/**
+ * Reads one; where it cannot be read, why.
+ * @param {string} text
+ * @param {Names | null} [names] of the board and the program, if they are known
+ * @returns {{ watched: Watched | null, fault: string }}
+ */
+export function readWatched(text, names = null) {
+  if (text.length > LONGEST) return { watched: null, fault: say.tooLong(LONGEST) };
+  const { name, value, column } = partsOfWatched(text);
+  if (name !== "" && !NAME.test(name)) return { watched: null, fault: say.NAME_FORM };
+  if (value === "") return { watched: null, fault: say.EXPRESSION_MISSING };
+  const place = placeOf(value);
+  const fault = place ? "" : faultOf(value, column, names);
+  if (fault) return { watched: null, fault };
+  const spelled = place ? place.name : "";
+  const pieces = machineReader(spelled) || portReader(spelled) || memoryReader(spelled)
+    || (place ? placeReader(place) : expressionReader(value));
+  const character = /^(ram|st)\./.test(spelled) ? spelled : "";
+  return { watched: { name: name || value, text: name ? `${name} = ${value}` : value, place: character, value, pieces }, fault: "" };
+}
+
+/**
+ * Reads the texts that were kept, which may be anything. `fault` says what is wrong with the first one that cannot be read.
  * @param {unknown} texts
- * @returns {Watched[]}
+ * @returns {{ all: Watched[], fault: string }}
  */
 export function readAllWatched(texts) {
-  if (!Array.isArray(texts)) return [];
-  return texts.slice(0, MOST_WATCHED).flatMap((text) => {
-    const { watched } = readWatched(String(text));
-    return watched ? [watched] : [];
-  });
+  if (!Array.isArray(texts)) return { all: [], fault: "" };
+  const read = texts.slice(0, MOST_WATCHED).flatMap((text) => (typeof text === "string" ? [readWatched(text)] : []));
+  const wrong = read.find(({ fault }) => fault !== "");
+  return { all: read.flatMap(({ watched }) => (watched ? [watched] : [])), fault: wrong ? wrong.fault : "" };
+}
+
+/**
+ * The names of the user's own, which conditions may have, with their expressions.
+ * @param {unknown} texts
+ * @returns {Map<string, string>}
+ */
+export function namesOfWatched(texts) {
+  return new Map(readAllWatched(texts).all.filter(({ name, text }) => name !== text).map(({ name, value }) => [name, value]));
 }

@@ -24,6 +24,7 @@ import { LiveRecorder } from "./live_recorder.js";
 import { Printing } from "./printing.js";
 import { Shining } from "./shining.js";
 import { Sounding } from "./sounding.js";
+import { namesOfWatched } from "../debug/watched.js";
 import { readTrigger } from "../waves/trigger.js";
 import { recordAfter, recordBefore } from "./wave_recorder.js";
 
@@ -46,8 +47,8 @@ import { recordAfter, recordBefore } from "./wave_recorder.js";
  * @typedef {import("../bench/protocol.js").ServedLines} ServedLines
  * @typedef {import("../bench/protocol.js").TypedLines} TypedLines
  * @typedef {import("../bench/protocol.js").Shown} Shown
- * @typedef {{ board: string, program: string, values?: string[] }} WaveTexts the texts that have the names of a recording's lines, and
- *   what is recorded beside the lines of the board, by its names
+ * @typedef {{ board: string, program: string, values?: string[], watched?: string[] }} WaveTexts the texts that have the names of a
+ *   recording's lines, what is recorded beside the lines of the board, by its names, and the values that are watched
  * @typedef {(done: number, total: number) => Promise<boolean>} GoesOn is told how far long work is, and says whether to go on
  */
 
@@ -296,13 +297,14 @@ export class BenchCalls {
   /**
    * The breakpoints from here on: those that always stop are the bench's own, and are served to it.
    * @param {Placed[]} placed
-   * @param {{ board: string, program: string }} texts those that have the names
+   * @param {{ board: string, program: string, watched?: string[] }} texts those that have the names
    * @returns {Promise<BrokenLines>}
    */
   async setBreakpoints(placed, texts) {
     const { session } = this;
     const { map } = this.checkProgram(texts.program);
-    const names = { face: new Face(texts.board), board: readBoard(session.lookQuestions.board), map: new SourceMap(map, texts.program) };
+    const names = { face: new Face(texts.board), board: readBoard(session.lookQuestions.board), map: new SourceMap(map, texts.program),
+      watched: namesOfWatched(texts.watched) };
     const { lines, faults } = this.debugger.setBreakpoints(placed, names);
     return { ...(lines ? await this.serve(lines) : this.nothingServed()), faults };
   }
@@ -313,6 +315,14 @@ export class BenchCalls {
    */
   nothingServed() {
     return { entries: [], first: "", status: 0, touchesRom: false, wires: false, ...this.shown(this.session.look(), false) };
+  }
+
+  /**
+   * The names that a condition may have which is looked for.
+   * @param {{ board: string, program: string, watched?: string[] }} texts
+   */
+  takeNames(texts) {
+    this.debugger.names = this.namesOf(texts);
   }
 
   /**
@@ -475,12 +485,13 @@ export class BenchCalls {
 
   /**
    * The names that conditions may have.
-   * @param {{ board: string, program: string }} texts
+   * @param {{ board: string, program: string, watched?: string[] }} texts
    */
-  namesOf({ board, program }) {
+  namesOf({ board, program, watched }) {
     const sent = sentText(program, ";");
     const { map } = this.checkProgram(sent);
-    return { face: new Face(board), board: readBoard(this.session.lookQuestions.board), map: new SourceMap(map, sent) };
+    return { face: new Face(board), board: readBoard(this.session.lookQuestions.board), map: new SourceMap(map, sent),
+      watched: namesOfWatched(watched) };
   }
 
   /**

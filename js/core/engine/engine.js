@@ -179,6 +179,27 @@ export class Engine {
     return this.answersOf("page_ask", file, lines);
   }
 
+  /** A call takes the bytes of a state as fast as any other one. */
+  keep() {
+    // Nothing is to be prepared.
+  }
+
+  /**
+   * Returns the bytes of the session's file: they are the state itself.
+   * @param {Uint8Array} file
+   */
+  bytesOf(file) {
+    return file.slice();
+  }
+
+  /**
+   * Returns the state of a session file.
+   * @param {Uint8Array} bytes
+   */
+  stateOf(bytes) {
+    return bytes.slice();
+  }
+
   /**
    * @param {ServingCall} name
    * @param {Uint8Array} file

@@ -3,21 +3,23 @@
 
 import { readBoard, readCounter } from "../bench/answers.js";
 import { Cancelled } from "../bench/faults.js";
-import { placeOf } from "../bench/places.js";
+import { placeOf } from "../conditions/places.js";
+import { becomesTrue } from "../debug/becoming.js";
 import { changesIn } from "./past_changes.js";
 import { LOOKED_CYCLES, LOOKED_UNITS } from "./pieces.js";
 import { valuesOf } from "./tracing.js";
 import { cyclesOf, piecesOf, unitsBetween } from "./units.js";
 
 /**
- * @typedef {import("./engine.js").Engine} Engine
- * @typedef {import("../bench/places.js").Place} Place
+ * @typedef {import("./engine_host.js").EngineHost} Engine
+ * @typedef {import("../conditions/places.js").Place} Place
  * @typedef {import("./timeline.js").GoesOn} GoesOn
  * @typedef {import("./timeline.js").Moment} Moment
  * @typedef {import("./timeline.js").Timeline} Timeline
  * @typedef {import("./units.js").Unit} Unit
- * @typedef {{ kind: "stop" } | { kind: "instruction" } | { kind: "change", place: string } | { kind: "arrival", place: string }} BackGoal
- *   an arrival at a breakpoint, or before a change of what is watched, `place` too, "" for none
+ * @typedef {{ kind: "stop" } | { kind: "instruction" } | { kind: "change", place: string } | { kind: "arrival", place: string }
+ *   | { kind: "when", condition: string, asked?: import("../debug/becoming.js").Asked }} BackGoal an arrival at a breakpoint, or before a
+ *   change of what is watched, `place` too, "" for none; or before a condition becomes true, which the debugger has read as `asked`
  *
  * The moment, or null and why there is none: the past does not reach so far, or the board lacks the place. Of a change, its place, what it
  * was from and to, and the command that made it, "" where an instruction did. Of an arrival, what is there: a breakpoint, with its id, a
@@ -67,7 +69,7 @@ async function lastInstruction(engine, timeline, goesOn) {
 export class LastChange {
   /**
    * @param {Engine} engine
-   * @param {Place} place
+   * @param {Place | null} place
    * @param {string[]} probes
    */
   constructor(engine, place, probes) {
@@ -84,15 +86,48 @@ export class LastChange {
 
   /** @param {Unit[]} units which are asked about ahead */
   among(units) {
-    const { engine, file, place, probes } = this;
+    const { engine, file, probes } = this;
     /** @type {Aim | null} */
     let found = null;
     changesIn(engine, file, units, [probes], ({ before, after, unit, cycles, line }) => {
       const moment = { ...unit.moment, cycles: unit.moment.cycles + cycles };
-      const [from, to] = [before, after].map((row) => place.value(valuesOf(row)));
-      found = aim({ moment, line, place: place.name, from, to, end: "change" });
+      const told = this.told(before, after);
+      if (told) found = aim({ moment, line, ...told, end: "change" });
     });
     return found;
+  }
+
+  /**
+   * What is told of a change; null where it is none that is looked for.
+   * @param {string} before the rows of the places
+   * @param {string} after
+   * @returns {Partial<Aim> | null}
+   */
+  told(before, after) {
+    const { place } = this;
+    if (!place) return null;
+    const [from, to] = [before, after].map((row) => place.value(valuesOf(row)));
+    return { place: place.name, from, to };
+  }
+}
+
+/** Finds where a condition became true last. */
+class LastBecoming extends LastChange {
+  /**
+   * @param {Engine} engine
+   * @param {import("../debug/becoming.js").Asked} asked
+   */
+  constructor(engine, asked) {
+    super(engine, null, asked.places);
+    this.asked = asked;
+  }
+
+  /**
+   * @param {string} before
+   * @param {string} after
+   */
+  told(before, after) {
+    return becomesTrue(this.asked, before, after) ? {} : null;
   }
 }
 
@@ -151,6 +186,10 @@ export async function aimBack(engine, { timeline, file }, goal, goesOn) {
     const finder = changeFinder(engine, file, goal.place);
     if (!finder) return aim({ why: "lacks", place: goal.place });
     return (await lastInPast(engine, timeline, finder, goesOn)).found || aim({ why: "short", place: goal.place });
+  }
+  if (goal.kind === "when") {
+    const found = goal.asked ? (await lastInPast(engine, timeline, new LastBecoming(engine, goal.asked), goesOn)).found : null;
+    return found || aim({ why: "short" });
   }
   if (goal.kind === "instruction") return lastInstruction(engine, timeline, goesOn);
   const moment = timeline.lastStop();

@@ -3,7 +3,7 @@
 
 import { Cancelled } from "../bench/faults.js";
 import { hex, upTo } from "../bench/numbers.js";
-import { CHARACTERS, STATUS } from "../bench/places.js";
+import { CHARACTERS, STATUS } from "../conditions/places.js";
 import { changesIn } from "./past_changes.js";
 import { FIRST_CYCLES, LOOKED_CYCLES, LOOKED_UNITS } from "./pieces.js";
 import { valuesOf } from "./tracing.js";
@@ -11,7 +11,7 @@ import { cyclesOf, piecesOf, shortUnits, unitsBetween } from "./units.js";
 
 /**
  * @typedef {import("../bench/answers.js").Board} Board
- * @typedef {import("./engine.js").Engine} Engine
+ * @typedef {import("./engine_host.js").EngineHost} Engine
  * @typedef {import("./past_changes.js").PastChange} PastChange
  * @typedef {import("./timeline.js").GoesOn} GoesOn
  * @typedef {import("./timeline.js").Moment} Moment

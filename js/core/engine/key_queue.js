@@ -1,7 +1,7 @@
 // Changes of keys that wait for their time. A program reads the keys only now and then, so that a key has to stay down, and then up,
 // for some time to be seen, however short the press was.
 
-/** 43 ms down and 22 ms up, as tools/panel has it, in cycles. */
+/** 43 ms down and 22 ms up, in cycles. */
 export const DOWN_CYCLES = 4000;
 export const UP_CYCLES = 2000;
 /** The longest run of one line. */

@@ -12,7 +12,7 @@ import { RECORDED_CYCLES, RECORDED_UNITS } from "./pieces.js";
 
 /**
  * @typedef {import("./accepted.js").Accepted} Accepted
- * @typedef {import("./engine.js").Engine} Engine
+ * @typedef {import("./engine_host.js").EngineHost} Engine
  * @typedef {import("./key_queue.js").PlannedLine} PlannedLine
  * @typedef {import("./wave_recorder.js").Recorded} Recorded
  * @typedef {import("./wave_recorder.js").RecordedPart} RecordedPart

@@ -3,7 +3,7 @@
 import { Answers, readTraced } from "./tracing.js";
 
 /**
- * @typedef {import("./engine.js").Engine} Engine
+ * @typedef {import("./engine_host.js").EngineHost} Engine
  * @typedef {import("./tracing.js").Trace} Trace
  * @typedef {import("./units.js").Unit} Unit
  *

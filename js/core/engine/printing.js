@@ -7,7 +7,7 @@ import { Answers, readTraced, valuesOf } from "./tracing.js";
 
 /**
  * @typedef {import("./accepted.js").Accepted} Accepted
- * @typedef {import("./engine.js").Engine} Engine
+ * @typedef {import("./engine_host.js").EngineHost} Engine
  * @typedef {import("./key_queue.js").PlannedLine} PlannedLine
  *
  * The lines of a printer, its strobe and the port of its code, and what was sent: each code with the cycles that were counted when it came.

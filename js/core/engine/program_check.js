@@ -9,7 +9,7 @@ import { LONGEST_TEXT, TEXT_TOO_LONG } from "../text/text_fault.js";
 
 /**
  * @typedef {import("../bench/answers.js").Refusal} Refusal
- * @typedef {import("./engine.js").Engine} Engine
+ * @typedef {import("./engine_host.js").EngineHost} Engine
  *
  * A program: the answers to `map`, or why the text is refused; and the byte that it puts at each address, -1 where it puts none.
  * @typedef {{ text: string, map: string[], refusal: Refusal | null, bytes: Int16Array }} Program
@@ -27,7 +27,7 @@ export const ALL_ROMS = `wire\n${PAGES.map((chip) => `[[rom]]\nchip = ${chip}\np
  * @param {string} text
  * @returns {Refusal | null}
  */
-function faultOfText(text) {
+export function faultOfText(text) {
   if (text.length > LONGEST_TEXT) return { number: TEXT_TOO_LONG, line: 0 };
   const dot = text.split("\n").findIndex((line) => line === "." || line === ".\r");
   return dot < 0 ? null : { number: 0, line: dot + 1 };

@@ -1,8 +1,8 @@
 // The bytes in ROM, as the bench lists them.
 
-import { PAGES, bytesOf, listsOf } from "../bench/rom_bytes.js";
+import { ADDRESSES, PAGES, PAGE_BYTES, bytesOf, listsOf } from "../bench/rom_bytes.js";
 
-/** @typedef {import("./engine.js").Engine} Engine */
+/** @typedef {import("./engine_host.js").EngineHost} Engine */
 
 /**
  * The bytes at the addresses 000 to FFF; 0 where the board has no ROM.
@@ -10,7 +10,15 @@ import { PAGES, bytesOf, listsOf } from "../bench/rom_bytes.js";
  * @param {Uint8Array} file
  */
 export function romCodes(engine, file) {
-  return Uint8Array.from(bytesOf(engine.ask(file, listsOf(PAGES)).answers), (byte) => Math.max(0, byte));
+  return codesOf(engine.ask(file, listsOf(PAGES)).answers);
+}
+
+/**
+ * Returns these bytes by the answers to the questions for all of them.
+ * @param {string[]} answers
+ */
+export function codesOf(answers) {
+  return Uint8Array.from(bytesOf(answers), (byte) => Math.max(0, byte));
 }
 
 /** @param {number} code */
@@ -24,6 +32,15 @@ export function isReturn(code) {
 }
 
 /**
+ * The address that the JMS or JUN at an address goes to.
+ * @param {Uint8Array} codes
+ * @param {number} address
+ */
+export function targetOf(codes, address) {
+  return (codes[address] % 16) * PAGE_BYTES + codes[(address + 1) % ADDRESSES];
+}
+
+/**
  * Whether an instruction goes on at one of two places: JCN and ISZ do.
  * @param {number} code
  */
@@ -32,11 +49,18 @@ export function hasWays(code) {
 }
 
 /**
- * How many cycles an instruction takes: two have those of two words (JUN, JMS, JCN, ISZ, FIM), and FIN.
+ * Returns how many words an instruction has: JUN, JMS, JCN, ISZ and FIM have two.
+ * @param {number} code
+ */
+export function wordsOf(code) {
+  const kind = code >> 4;
+  return hasWays(code) || isCall(code) || kind === 0x4 || (kind === 0x2 && code % 2 === 0) ? 2 : 1;
+}
+
+/**
+ * How many cycles an instruction takes: two have those of two words, and FIN.
  * @param {number} code
  */
 export function cyclesOf(code) {
-  const kind = code >> 4;
-  const hasAddress = hasWays(code) || isCall(code) || kind === 0x4;
-  return hasAddress || ((kind === 0x2 || kind === 0x3) && code % 2 === 0) ? 2 : 1;
+  return wordsOf(code) === 2 || (code >> 4 === 0x3 && code % 2 === 0) ? 2 : 1;
 }

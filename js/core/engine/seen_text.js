@@ -1,4 +1,5 @@
-// What the displays of a board show to an eye, in words: by what is lit in the 30 ms that come next, if nothing is pressed.
+// What an eye sees of a board in the 30 ms that come next, if nothing is pressed: the brightness of its lamps, and what its displays show
+// in words.
 
 import { Brightness } from "../board/brightness.js";
 import { DisplayText } from "../board/display_text.js";
@@ -20,6 +21,18 @@ export function hasScannedDisplay(face) {
   return face.groups.some((group) => group.kind === "display" && isScanned(group));
 }
 
+/**
+ * Returns how bright lamps are in the time of the question alone.
+ * @param {Face} face
+ * @param {number} count of the board's lamps
+ * @param {string[]} answers to the question
+ */
+export function seenBrightness(face, count, answers) {
+  const brightness = new Brightness(face, count);
+  brightness.add(new Shining(face, count, 0).take([answers]), Infinity);
+  return brightness;
+}
+
 export class SeenText {
   /**
    * @param {Face} face
@@ -34,8 +47,11 @@ export class SeenText {
 
   /** @param {string[]} answers to the question */
   read(answers) {
-    const brightness = new Brightness(this.face, this.count);
-    brightness.add(new Shining(this.face, this.count, 0).take([answers]), Infinity);
+    return this.ofBrightness(seenBrightness(this.face, this.count, answers));
+  }
+
+  /** @param {Brightness} brightness */
+  ofBrightness(brightness) {
     return this.text.words(brightness.patterns, (lamp) => brightness.isOn[lamp]);
   }
 }

@@ -10,7 +10,7 @@ import { MOST_LISTED, PAGES, listsOf } from "../bench/rom_bytes.js";
 /**
  * @typedef {import("./examples.js").Example} Example
  * @typedef {{ boardText: string, programText: string, testText: string, propertiesText: string }} Texts
- * @typedef {import("./engine.js").Engine} Engine
+ * @typedef {import("./engine_host.js").EngineHost} Engine
  */
 
 /** No tests and no properties. */

@@ -8,7 +8,7 @@ import { CycleCount } from "./accepted.js";
 
 /**
  * @typedef {import("./accepted.js").Accepted} Accepted
- * @typedef {import("./engine.js").Engine} Engine
+ * @typedef {import("./engine_host.js").EngineHost} Engine
  * @typedef {{ line: string, cycles: number, resets: boolean, isStop: boolean }} Entry a command; `isStop`: time stood still before it
  * @typedef {{ file: Uint8Array, count: CycleCount, entries: Entry[], cycles: number, letters: number, follows: boolean,
  *   marks: Mark[] }} Segment a file, the cycles that were counted up to it, and what came after it; `follows`: it is where the segment

@@ -4,7 +4,7 @@ import { faultsOfLines, sentText } from "../text/text_fault.js";
 import { wordsOfLine } from "../../words/stops.js";
 
 /**
- * @typedef {import("./engine.js").Engine} Engine
+ * @typedef {import("./engine_host.js").EngineHost} Engine
  * @typedef {{ boardText: string, programText: string }} Texts
  * @typedef {{ word: "wire" | "asm", answer: string }} Refused a text by the line before it, and what is answered to it
  * @typedef {{ file: Uint8Array, board: string[], refused: Refused[] }} Tried the session with what was accepted, and the answer to `board`

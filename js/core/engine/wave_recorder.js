@@ -12,7 +12,7 @@ import { piecesOf, unitsBetween } from "./units.js";
 import { WaveTaking } from "./wave_taking.js";
 
 /**
- * @typedef {import("./engine.js").Engine} Engine
+ * @typedef {import("./engine_host.js").EngineHost} Engine
  * @typedef {import("./timeline.js").Moment} Moment
  * @typedef {import("./timeline.js").Timeline} Timeline
  * @typedef {import("./units.js").Unit} Unit
@@ -99,9 +99,20 @@ export function listedAt(engine, file, addresses) {
  * The lines that take away all breakpoints and watches.
  * @param {string[]} told the answers to `breaks` and `watches`
  */
-function linesWithoutStops([breaks, watches]) {
+export function linesWithoutStops([breaks, watches]) {
   const unwatches = readMarks(watches).map((each) => each.split(".")).map(([bank, source]) => `unwatch ${bank} 0x${source}`);
   return linesOf([...readMarks(breaks).map((address) => `unbreak 0x${address}`), ...unwatches]);
+}
+
+/**
+ * Returns a copy of a state without breakpoints and watches.
+ * @param {Engine} engine
+ * @param {Uint8Array} file
+ */
+export function withoutStops(engine, file) {
+  const copy = file.slice();
+  engine.serve(copy, linesWithoutStops(engine.ask(copy, "breaks\nwatches\n").answers), copy);
+  return copy;
 }
 
 /**
@@ -113,9 +124,7 @@ function linesWithoutStops([breaks, watches]) {
  * @param {GoesOn} goesOn
  */
 export async function recordAfter(engine, file, cycles, texts, goesOn) {
-  const copy = file.slice();
-  engine.serve(copy, linesWithoutStops(engine.ask(copy, "breaks\nwatches\n").answers), copy);
-  const recorder = new WaveRecorder(engine, copy, texts);
+  const recorder = new WaveRecorder(engine, withoutStops(engine, file), texts);
   const { taking } = recorder;
   const piece = new PieceSize(FIRST_CYCLES, FIRST_CYCLES, LONGEST_RUN);
   while (taking.elapsed < cycles && !taking.isStuck) {

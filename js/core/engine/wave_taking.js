@@ -1,7 +1,7 @@
 // What is taken of the bench's answers for a recording: the moments at which each line changes, and those at which each instruction begins.
 
 import { valueIn } from "../bench/state_line.js";
-import { MOST_PLACES } from "../debug/conditions.js";
+import { MOST_PLACES } from "../conditions/conditions.js";
 import { Growing } from "../waves/growing.js";
 import { Track, emptyTrack } from "../waves/track.js";
 import { readTraced, valuesOf } from "./tracing.js";
@@ -120,9 +120,13 @@ function isSame(one, other, from, to) {
 
 /** Takes the answers to its questions and to runs, and those to other commands. */
 export class WaveTaking {
-  /** @param {WaveLine[]} lines */
-  constructor(lines) {
+  /**
+   * @param {WaveLine[]} lines
+   * @param {boolean} [hasCounter] whether the instructions that are begun are wanted
+   */
+  constructor(lines, hasCounter = true) {
     this.lines = lines;
+    this.hasCounter = hasCounter;
     this.elapsed = 0;
     /** Whether no instruction is at the counter. */
     this.isStuck = false;
@@ -142,7 +146,7 @@ export class WaveTaking {
    */
   questions(cycles) {
     const groups = this.groups.map(({ asked }) => `trace ${cycles} ${asked.map(({ place }) => place).join(" ")}\n`);
-    return `trace ${cycles}\n${groups.join("")}`;
+    return `${this.hasCounter ? `trace ${cycles}\n` : ""}${groups.join("")}`;
   }
 
   /**
@@ -153,7 +157,7 @@ export class WaveTaking {
     const state = answers.take();
     this.isOwed = valueIn(state, "owed") === "1";
     this.takeState(state);
-    answers.takeTrace();
+    if (this.hasCounter) answers.takeTrace();
     for (const group of this.groups) this.takeRow(group, answers.takeTrace().row, 0);
     for (const track of this.tracks) track.take();
   }
@@ -171,7 +175,7 @@ export class WaveTaking {
 
   /** @param {Answers} answers to the questions */
   takeQuestions(answers) {
-    for (const line of answers.takeTrace().lines) this.takeBegun(line);
+    if (this.hasCounter) for (const line of answers.takeTrace().lines) this.takeBegun(line);
     for (const group of this.groups) {
       const trace = answers.takeTrace();
       // A command may have changed it.

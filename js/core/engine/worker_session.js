@@ -15,7 +15,7 @@ import { SEGMENT_ENTRIES, Timeline } from "./timeline.js";
 
 /**
  * @typedef {import("./accepted.js").Accepted} Accepted
- * @typedef {import("./engine.js").Engine} Engine
+ * @typedef {import("./engine_host.js").EngineHost} Engine
  * @typedef {import("./engine.js").Served} Served
  * @typedef {import("../bench/inputs.js").Input} Input
  * @typedef {import("./key_queue.js").PlannedLine} PlannedLine

@@ -62,7 +62,7 @@ export class AllStates {
     this.watcher = new Watcher(subject, campaign, null);
     this.watcher.counts = true;
     /** @type {number[]} the properties that hold so far */
-    this.open = campaign.properties.flatMap(({ form }, at) => (FORMS.has(form) ? [at] : []));
+    this.open = campaign.properties.flatMap(({ form, guards }, at) => (FORMS.has(form) && guards.length === 0 ? [at] : []));
     this.files = new KeptFiles(start.file);
     /** @type {Set<string>} */
     this.seen = new Set();

@@ -3,19 +3,23 @@
 
 import { LONGEST_RUN } from "../engine/key_queue.js";
 import { hasScannedDisplay } from "../engine/seen_text.js";
-import { conditionOf } from "../debug/conditions.js";
-import { durationOf, wholeDuration } from "../debug/durations.js";
+import { tracedConditionOf } from "../conditions/conditions.js";
+import { durationOf, wholeDuration } from "../conditions/durations.js";
+import { placeOf } from "../conditions/places.js";
 import { keysOf, namesOfInputs, pinOf } from "./inputs.js";
-import { afterPress, always, alwaysOn, at, every, model, never, neverFor, once, onlyAfter, reach, reachAt } from "./properties.js";
-import { NO_DISPLAY, noLabel } from "../../words/debug.js";
+import {
+  GUARDED, afterPress, always, alwaysOn, at, every, guarded, model, never, neverFor, once, onlyAfter, reach, reachAt,
+} from "./properties.js";
+import { NO_DISPLAY, boardLacks, inColumn, noLabel } from "../../words/conditions.js";
 import * as say from "../../words/explore.js";
 import { noKey } from "../../words/testing.js";
 
 /**
  * @typedef {import("./inputs.js").Input} Input
+ * @typedef {import("./properties.js").Guard} Guard
  * @typedef {import("./properties.js").Property} Property
  * @typedef {import("./subject.js").Subject} Subject
- * @typedef {{ line: number, words: string }} Fault
+ * @typedef {{ line: number, column: number, words: string }} Fault `column` counts from 0, -1 if none is known
  *
  * @typedef {{ inputs: Input[], together: number, canReset: boolean, shortest: number, longest: number, held: number, apart: number,
  *   begin: number, down: number, up: number, notes: string[], properties: Property[], command: string, from: From | null,
@@ -28,15 +32,39 @@ import { noKey } from "../../words/testing.js";
  * @typedef {{ state: string, file: string, line: number }} From
  */
 
-/** A line that cannot be read. */
-class Unreadable extends Error {}
+/** A line that cannot be read, and from which of its columns on. */
+class Unreadable extends Error {
+  /**
+   * @param {string} words
+   * @param {number} column from 0, -1 if none is known
+   */
+  constructor(words, column) {
+    super(words);
+    this.column = column;
+  }
+}
 
 /**
  * @param {string} words
+ * @param {number} [column]
  * @returns {never}
  */
-function fail(words) {
-  throw new Unreadable(words);
+function fail(words, column = -1) {
+  throw new Unreadable(words, column);
+}
+
+/**
+ * Returns the column in a line of one in the same line with single blanks.
+ * @param {string} whole
+ * @param {number} column
+ */
+function columnIn(whole, column) {
+  let place = whole.length - whole.trimStart().length;
+  for (let left = column; left > 0 && place < whole.length - 1; left--) {
+    place += 1;
+    while (/\s/.test(whole[place]) && /\s/.test(whole[place - 1]) && place < whole.length - 1) place += 1;
+  }
+  return place;
 }
 
 const MOST_NOTES = 16;
@@ -69,12 +97,35 @@ class Reader {
     this.command = "";
     /** @type {{ state: string, file: string } | null} */
     this.from = null;
+    /** What has to hold while the property of this line is judged; "" for nothing. */
+    this.during = "";
+    /** The line that is read, and from where on a condition of it is looked for. */
+    this.line = "";
+    this.looked = 0;
   }
 
   /** @param {string} text */
   condition(text) {
-    const { condition, fault } = conditionOf(text, this.names);
-    return condition || fail(fault);
+    const { condition, fault, column } = tracedConditionOf(text, this.names);
+    return condition || fail(fault, Math.max(0, this.line.indexOf(text, this.looked)) + column);
+  }
+
+  /**
+   * Returns a condition that is broken, or reached, only while another one holds.
+   * @param {string} text
+   */
+  met(text) {
+    const condition = this.condition(text);
+    return this.during === "" ? condition : this.condition(`(${this.during}) and (${text})`);
+  }
+
+  /**
+   * Returns a condition that has to hold only while another one does.
+   * @param {string} text
+   */
+  due(text) {
+    const condition = this.condition(text);
+    return this.during === "" ? condition : this.condition(`not (${this.during}) or (${text})`);
   }
 
   /** @param {string} word */
@@ -178,23 +229,23 @@ const SETTINGS = {
   },
   note: (reader, words) => {
     if (words.length === 0) fail(say.NOTE_FORM);
-    for (const word of words) reader.notes.push(placeOfNote(reader, word));
+    for (const word of words) reader.notes.push(...placesOfNote(reader, word));
     if (reader.notes.length > MOST_NOTES) fail(say.mostNoted(MOST_NOTES));
   },
 };
 
 /**
- * A place of `trace` that the board has.
+ * Returns the places of `trace` that a word names.
  * @param {Reader} reader
  * @param {string} word
+ * @returns {string[]}
  */
-function placeOfNote(reader, word) {
-  if (/^(lamps|src|ret)$/.test(word)) return word;
-  if (word === "pc") fail(say.NOT_PC);
-  const value = /^chain\d+$/.test(word) ? "?".repeat(10 * (reader.names.board.chains[Number(word.slice(5))] || { chips: 1 }).chips) : "0";
-  const way = /^rom\d+$/.test(word) ? "in " : /^ram\d+\.\d+$/.test(word) ? "out " : "";
-  const { places } = reader.condition(`${word} ${way}${value}`);
-  return places[0] || fail(say.noTrace(word));
+function placesOfNote({ names }, word) {
+  if (word.toLowerCase() === "pc") fail(say.NOT_PC);
+  const place = placeOf(word);
+  const places = place ? place.probesOn(names.board) : [];
+  if (places.length > 0) return places;
+  return fail(place ? boardLacks(place.name) : say.noTrace(word));
 }
 
 /** `lamp open on for 1.1 s`: the condition, and how long it holds. */
@@ -208,14 +259,13 @@ const PROPERTIES = {
   never: (reader, rest, text) => {
     const [, condition, time] = FOR.exec(rest) || ["", rest, ""];
     if (condition === "") fail(say.NEVER_FORM);
-    return time ? neverFor(text, reader.condition(condition), reader.time(time, say.FOR_FORM))
-      : never(text, reader.condition(condition));
+    return time ? neverFor(text, reader.met(condition), reader.time(time, say.FOR_FORM)) : never(text, reader.met(condition));
   },
-  always: (reader, rest, text) => always(text, reader.condition(rest)),
+  always: (reader, rest, text) => always(text, reader.due(rest)),
   at: (reader, rest, text) => {
     const [word, ...words] = rest.split(" ");
     if (words.length === 0) fail(say.AT_FORM);
-    return at(text, reader.condition(words.join(" ")), reader.label(word));
+    return at(text, reader.due(words.join(" ")), reader.label(word));
   },
   after: (reader, rest, text) => {
     const form = say.AFTER_FORM;
@@ -234,11 +284,12 @@ const PROPERTIES = {
     return every(text, reader.label(words[words.length - 1]), reader.time(words.slice(0, -1).join(" "), form));
   },
   reach: (reader, rest, text) => {
-    if (/^@\S+$/.test(rest)) return reachAt(text, reader.label(rest));
     const line = /^line (\d+)$/.exec(rest);
-    if (!line) return reach(text, reader.condition(rest));
-    const there = reader.instructions.find((each) => each.line === Number(line[1]));
-    return there ? reachAt(text, there.address) : fail(say.noInstructionIn(line[1]));
+    if (!line && !/^@\S+$/.test(rest)) return reach(text, reader.met(rest));
+    const there = line && reader.instructions.find((each) => each.line === Number(line[1]));
+    if (line && !there) fail(say.noInstructionIn(line[1]));
+    const address = there ? there.address : reader.label(rest);
+    return reader.during === "" ? reachAt(text, address) : reach(text, reader.met(`pc = ${address}`));
   },
   model: (reader, rest, text) => {
     if (reader.command) fail(say.MODEL_ALREADY);
@@ -254,6 +305,66 @@ const PROPERTIES = {
   },
 };
 
+/** `while lamp open on, never lamp alarm on`: the guard, and the property. */
+const GUARD = /^(while|once|after press)\b/;
+
+/**
+ * Cuts a line behind its first guard, at a comma that is in no text; null if it has none.
+ * @param {string} text
+ */
+function cutGuard(text) {
+  if (!GUARD.test(text)) return null;
+  const [, guard, rest] = /^((?:"[^"]*"|[^"])*?),(?: (.*))?$/.exec(text) || [];
+  if (text.startsWith("after") && !/^after press \S+( within \S+( \S+)?)?$/.test(guard || "")) return null;
+  return guard === undefined ? fail(say.GUARD_FORM) : { guard, rest: rest || "" };
+}
+
+/**
+ * @param {Reader} reader
+ * @param {string} text `once C`, `after press K`, `after press K within TIME`
+ * @returns {Guard}
+ */
+function guardOf(reader, text) {
+  const [, condition] = /^once (.+)$/.exec(text) || [];
+  if (condition !== undefined) return { kind: "once", key: "", limit: 0, condition: reader.condition(condition) };
+  const [, key, time] = /^after press (\S+)(?: within (.+))?$/.exec(text) || [];
+  if (key === undefined) return fail(say.GUARD_FORM);
+  return { kind: "press", key: reader.input(key).name, limit: time === undefined ? 0 : reader.time(time, say.GUARD_FORM), condition: null };
+}
+
+/**
+ * A property with guards before it.
+ * @param {Reader} reader
+ * @param {string} text
+ * @param {{ guard: string, rest: string } | null} cut
+ * @returns {Property | null} null for a line without guards
+ */
+function guardedLine(reader, text, cut) {
+  /** @type {Guard[]} */
+  const guards = [];
+  let rest = "";
+  let count = 0;
+  for (let next = cut; next; next = cutGuard(rest)) {
+    reader.looked = text.length - (rest || text).length;
+    ({ rest } = next);
+    count += 1;
+    if (count > MOST_GUARDS) fail(say.mostGuards(MOST_GUARDS));
+    const [, during] = /^while (.+)$/.exec(next.guard) || [];
+    if (during === undefined) guards.push(guardOf(reader, next.guard));
+    else reader.during = `${reader.during && `${reader.during} and `}(${reader.condition(during).text})`;
+  }
+  if (rest === "") return cut ? fail(say.GUARD_FORM) : null;
+  reader.looked = text.length - rest.length;
+  const property = lineWithoutGuard(reader, rest);
+  if (!property || !GUARDED.has(property.form)) return fail(say.GUARD_FORM);
+  // Of a press it matters what holds then.
+  if (property.form === "after press" && reader.during !== "") {
+    guards.push({ kind: "while", key: "", limit: 0, condition: reader.condition(reader.during) });
+  }
+  return guards.length > 0 ? guarded(text, property, guards) : { ...property, text };
+}
+
+const MOST_GUARDS = 4;
 const ONLY_AFTER = /^(.+) only after (.+)$/;
 const ONCE = /^(@\S+) at most once for each press$/;
 
@@ -263,6 +374,18 @@ const ONCE = /^(@\S+) at most once for each press$/;
  * @returns {Property | null} null for a line that is a setting
  */
 function lineOf(reader, text) {
+  reader.during = "";
+  reader.line = text;
+  reader.looked = 0;
+  return guardedLine(reader, text, cutGuard(text)) || lineWithoutGuard(reader, text);
+}
+
+/**
+ * @param {Reader} reader
+ * @param {string} text
+ * @returns {Property | null} null for a setting
+ */
+function lineWithoutGuard(reader, text) {
   const after = ONLY_AFTER.exec(text);
   if (after) {
     const keys = after[2].split(/ *, */).map((each) => (/^press (\S+)$/.exec(each)
@@ -306,9 +429,10 @@ function complete(reader, text) {
  * Reads a text of properties.
  * @param {string} text
  * @param {Subject} subject
+ * @param {boolean} [needsInputs] whether it is a fault that nothing can change
  * @returns {{ campaign: Campaign, faults: Fault[] }}
  */
-export function readCampaign(text, subject) {
+export function readCampaign(text, subject, needsInputs = true) {
   const reader = new Reader(subject);
   /** @type {Fault[]} */
   const faults = [];
@@ -322,14 +446,17 @@ export function readCampaign(text, subject) {
       if (property) reader.properties.push({ ...property, line: index + 1 });
     } catch (fault) {
       if (!(fault instanceof Unreadable)) throw fault;
-      faults.push({ line: index + 1, words: fault.message });
+      const column = fault.column < 0 ? -1 : columnIn(whole, fault.column);
+      faults.push({ line: index + 1, column, words: column < 0 ? fault.message : inColumn(fault.message, column) });
     }
   });
   const last = Math.max(1, text.trimEnd().split("\n").length);
-  if (!complete(reader, text) && faults.length === 0) faults.push({ line: last, words: say.NOTHING_CHANGES });
+  if (!complete(reader, text) && needsInputs && faults.length === 0) {
+    faults.push({ line: last, column: -1, words: say.NOTHING_CHANGES });
+  }
   if (faults.length === 0 && !hasKeysForModel(reader)) {
     const { line } = reader.properties.find(({ form }) => form === "model") || { line: 1 };
-    faults.push({ line, words: say.MODEL_NEEDS_KEYS });
+    faults.push({ line, column: -1, words: say.MODEL_NEEDS_KEYS });
   }
   const { inputs, together, canReset, shortest, longest, held, apart, begin, down, up, notes, properties, command } = reader;
   const campaign = { inputs, together, canReset, shortest, longest, held, apart, begin, down, up, notes, command,

@@ -1,7 +1,7 @@
 // A campaign at work: the search, finds that are made short and confirmed, and what is told of them.
 
 import { AllStates } from "./all_states.js";
-import { linesOfFind, testsOf } from "./find_test.js";
+import { linesOfFind, testOf } from "./find_test.js";
 import { Model } from "./model.js";
 import { Search } from "./search.js";
 import { Shortening } from "./shortening.js";
@@ -92,7 +92,7 @@ export class CampaignRun {
    * @returns {Promise<Taken | null>}
    */
   async askModel(model) {
-    const difference = model.tryChains();
+    const difference = await model.tryChains();
     if (!difference) return null;
     const test = model.test(this.campaign.properties[this.modelled].text, difference);
     if (!(await this.confirm(test, false))) return this.doubt(this.modelled, test);
@@ -137,21 +137,11 @@ export class CampaignRun {
     const { campaign, subject, search: { start } } = this;
     const short = await new Shortening(subject, campaign, start, find, this.patience, this.breathe).shorten();
     const { isGoal } = campaign.properties[short.property];
-    const tests = testsOf(subject, start.file, campaign, short);
-    const test = await this.firstConfirmed(tests, isGoal);
-    if (test === null) return this.doubt(short.property, tests[0]);
+    const test = testOf(subject, start.file, campaign, short);
+    if (!(await this.confirm(test, isGoal))) return this.doubt(short.property, test);
     const found = { test, steps: short.steps.length, cycles: short.time, seed: this.seed };
     this.put(short.property, found);
     return { property: short.property, found, find: short };
-  }
-
-  /**
-   * @param {string[]} tests
-   * @param {boolean} isGoal
-   */
-  async firstConfirmed(tests, isGoal) {
-    for (const test of tests) if (await this.confirm(test, isGoal)) return test;
-    return null;
   }
 
   /**
@@ -194,8 +184,9 @@ export class CampaignRun {
     return {
       form: "explore 1", ...given, seeds: [this.seed], steps: search.steps, states: search.stateCount, covered: search.coverage.text,
       instructions,
-      properties: properties.map(({ text, line, isGoal }, at) => ({
-        text, line, isGoal, applied: search.applied.has(at) || isGoal, chains: this.model && at === this.modelled ? this.model.chains : 0,
+      properties: properties.map(({ text, line, isGoal, form }, at) => ({
+        text, line, isGoal, isSkipped: form === "model" && this.model === null,
+        applied: search.applied.has(at) || isGoal, chains: this.model && at === this.modelled ? this.model.chains : 0,
         states: all.isDone && all.open.includes(at) ? all.count : 0, found: this.found[at],
       })),
     };

@@ -25,7 +25,10 @@ const FORMS = new Set(["code", "never", "always", "never for", "reach", "reach a
  * @param {boolean[][]} holds after each of the steps, by the numbers of properties
  */
 export function followsFromLooks(properties, open, holds) {
-  return open.every((at) => FORMS.has(properties[at].form) && !(properties[at].form === "never for" && holds.some((each) => each[at])));
+  return open.every((at) => {
+    const { form, guards } = properties[at];
+    return FORMS.has(form) && guards.length === 0 && !(form === "never for" && holds.some((each) => each[at]));
+  });
 }
 
 /**

@@ -1,5 +1,5 @@
 // What must hold of a program, on the page: the text of properties is read, and keys that break them are looked for, piece by piece.
-// Without a document: the page's worker calls it. What is found is what tools/explore finds with the same seed.
+// Without a document: the page's worker calls it. What is found is what mcs4 explore finds with the same seed.
 //
 //     const { readable, faults } = await readToExplore(engine, texts);
 //     const exploring = new Exploring(engine, texts, readable, { seed: 1, seconds: 20 }, async () => {});
@@ -15,7 +15,7 @@ import * as say from "../../words/explore.js";
 
 /**
  * @typedef {import("../testing/prepared.js").TextFault} TextFault
- * @typedef {import("../engine/engine.js").Engine} Engine
+ * @typedef {import("../engine/engine_host.js").EngineHost} Engine
  * @typedef {import("./campaign.js").Campaign} Campaign
  * @typedef {import("./report.js").Report} Report
  * @typedef {import("./subject.js").Subject} Subject
@@ -45,17 +45,17 @@ export function readExplored(engine, { boardText, programText, testText, propert
   const { from } = campaign;
   if (from) {
     const { words } = testsThatLead(prepared.names, testText, from.state);
-    if (words) wrong.push({ line: from.line, words });
+    if (words) wrong.push({ line: from.line, column: -1, words });
   }
   return wrong.length === 0 ? { read: { subject, campaign, prepared }, faults: [] } : { read: null, faults: ofProperties(wrong) };
 }
 
 /**
- * @param {import("./campaign.js").Fault[]} faults
+ * @param {{ line: number, words: string }[]} faults
  * @returns {TextFault[]}
  */
 function ofProperties(faults) {
-  return faults.map((fault) => ({ text: "properties", number: 0, ...fault }));
+  return faults.map(({ line, words }) => ({ text: "properties", number: 0, line, words }));
 }
 
 /**

@@ -1,9 +1,8 @@
-// A find as a test in the words of tools/test: it fails for as long as the program is as it is (of a goal: it passes).
+// A find as a test in the words of mcs4 test: it fails for as long as the program is as it is (of a goal: it passes).
 
-import { readMarks } from "../bench/answers.js";
+import { readCounter } from "../bench/answers.js";
 import { hex } from "../bench/numbers.js";
 import { runLines } from "../engine/key_queue.js";
-import { Answers, valuesOf } from "../engine/tracing.js";
 import { linesOf } from "./walks.js";
 import * as say from "../../words/explore.js";
 
@@ -13,32 +12,7 @@ import * as say from "../../words/explore.js";
  * @typedef {import("./search.js").Find} Find
  * @typedef {import("./subject.js").Subject} Subject
  * @typedef {import("./walks.js").WalkStep} WalkStep
- *
- * One of the conditions that `and` joins, in the words of a test.
- * @typedef {{ words: string, isNot: boolean, place: string }} Part `place` has its present value put behind it; it is "" where the words
- *   of a test say all
  */
-
-const COMPARED = /^(\S+(?: (?:in|out))?) ?(=|!=|<=|>=|<|>) ?(\S+)$/;
-
-/**
- * The conditions that `and` joins.
- * @param {string} text
- * @returns {Part[]}
- */
-export function partsOf(text) {
-  return text.split(" and ").map((each) => {
-    const [, nots, words] = /** @type {RegExpExecArray} */ (/^((?:not )*)(.*)$/.exec(each.trim()));
-    const isNot = (nots.length / 4) % 2 === 1;
-    const at = /^at @?(\S+)$/.exec(words);
-    if (at) return { words: `@${at[1]}`, isNot, place: "" };
-    const compared = /^(lamps?|display) /.test(words) ? null : COMPARED.exec(words);
-    if (!compared) return { words: words.replace(/ = /, " "), isNot, place: "" };
-    const [, place, sign, value] = compared;
-    if (sign === "=" || sign === "!=") return { words: `${place} ${value}`, isNot: isNot !== (sign === "!="), place: "" };
-    return { words: "", isNot, place };
-  });
-}
 
 /**
  * The lines that lead to a find, from where all is begun with.
@@ -100,40 +74,20 @@ class Writer {
     this.putWait();
   }
 
-  /**
-   * What the bench says of a place when the property is broken.
-   * @param {string} place
-   */
-  valueOf(place) {
-    const { answers } = this.subject.engine.ask(this.file, `${this.linesThere}trace 1 ${place.replace(/ .*/, "")}\n`);
-    const told = new Answers(answers.filter((answer) => answer.startsWith("trace ")).slice(-1));
-    return parseInt(valuesOf(told.takeTrace().row)[0], 16);
+  /** The counter when the property is broken. */
+  get counterNow() {
+    const { answers } = this.subject.engine.ask(this.file, `${this.linesThere}regs\n`);
+    return parseInt(readCounter(answers[answers.length - 1]).counter, 16);
   }
 
   /**
-   * What the lamps are when the property is broken.
-   */
-  get lamps() {
-    const { answers } = this.subject.engine.ask(this.file, `${this.linesThere}lamps\n`);
-    return readMarks(answers[answers.length - 1]).join("");
-  }
-
-  /**
-   * A part of a condition, or that it does not hold. Where several say together what the lamps must not be, that is what they are.
-   * @param {Part} part
+   * Returns the property's condition, or its negation.
    * @param {boolean} holds
    */
-  wordsOf({ words, isNot, place }, holds) {
-    const { condition } = this.property;
-    if (!holds && condition && this.parts.length > 1 && condition.places.join() === "lamps") return `not lamps ${this.lamps}`;
-    if (place !== "") return `not ${place} ${this.valueOf(place)}`;
-    return isNot === holds ? `not ${words}` : words;
-  }
-
-  /** The parts of the property's condition. */
-  get parts() {
+  words(holds) {
     const { condition, address } = this.property;
-    return condition ? partsOf(condition.text) : [{ words: this.counter(address), isNot: false, place: "" }];
+    if (condition) return holds ? condition.text : condition.negation;
+    return holds ? this.counter(address) : `not ${this.counter(address)}`;
   }
 
   /** @param {string} words */
@@ -164,26 +118,26 @@ class Writer {
 }
 
 /**
- * What has to be, by the form of the property. Of several conditions one decides, whose number is told.
- * @type {Record<Property["form"], (writer: Writer, at: number) => void>}
+ * What has to be, by the form of the property.
+ * @type {Record<Property["form"], (writer: Writer) => void>}
  */
 const JUDGED = {
-  never: (writer, at) => writer.expect(writer.wordsOf(writer.parts[at], false)),
-  always: (writer, at) => writer.expect(writer.wordsOf(writer.parts[at], true)),
-  at: (writer, at) => writer.expect(writer.wordsOf(writer.parts[at], true)),
-  "only after": (writer, at) => writer.expect(writer.wordsOf(writer.parts[at], false)),
-  "never for": (writer, at) => writer.until(writer.wordsOf(writer.parts[at], false), writer.time - writer.property.limit),
+  never: (writer) => writer.expect(writer.words(false)),
+  always: (writer) => writer.expect(writer.words(true)),
+  at: (writer) => writer.expect(writer.words(true)),
+  "only after": (writer) => writer.expect(writer.words(false)),
+  "never for": (writer) => writer.until(writer.words(false), writer.time - writer.property.limit),
   every: (writer) => writer.until(writer.counter(writer.property.address), writer.time - writer.property.limit),
-  "after press": (writer, at) => writer.until(writer.wordsOf(writer.parts[at], true), writer.time - writer.property.limit),
+  "after press": (writer) => writer.until(writer.words(true), writer.time - writer.property.limit),
   once: (writer) => writer.expect(`not ${writer.counter(writer.property.address)}`),
-  reach: (writer, at) => writer.expect(writer.wordsOf(writer.parts[at], true)),
+  reach: (writer) => writer.expect(writer.words(true)),
   "reach at": (writer) => writer.expect(writer.counter(writer.property.address)),
   model: () => undefined,
   code: (writer) => {
     writer.putRest(writer.time + 1);
   },
-  calls: (writer) => writer.expect(`not ${writer.counter(writer.valueOf("pc"))}`),
-  returns: (writer) => writer.expect(`not ${writer.counter(writer.valueOf("pc"))}`),
+  calls: (writer) => writer.expect(`not ${writer.counter(writer.counterNow)}`),
+  returns: (writer) => writer.expect(`not ${writer.counter(writer.counterNow)}`),
 };
 
 /** @type {Partial<Record<Property["form"], string>>} */
@@ -194,24 +148,18 @@ const NOTES = {
 };
 
 /**
- * Tests of a find, of which the first that tools/test judges as it should is the one to keep: where several conditions are joined, a
- * test can name one of them.
+ * Returns the test of a find.
  * @param {Subject} subject
  * @param {Uint8Array} file
  * @param {Campaign} campaign
  * @param {Find} find
- * @returns {string[]}
  */
-export function testsOf(subject, file, campaign, find) {
-  const { form, condition } = campaign.properties[find.property];
-  const count = condition ? partsOf(condition.text).length : 1;
-  return [...Array(count).keys()].map((at) => {
-    const writer = new Writer(subject, file, campaign, find);
-    const note = NOTES[form];
-    writer.putSteps();
-    JUDGED[form](writer, at);
-    if (count > 1) writer.lines.splice(1, 0, say.oneOf(condition ? condition.text : ""));
-    if (note) writer.lines.splice(1, 0, `  # ${note}`);
-    return `${writer.lines.join("\n")}\n`;
-  });
+export function testOf(subject, file, campaign, find) {
+  const { form } = campaign.properties[find.property];
+  const writer = new Writer(subject, file, campaign, find);
+  const note = NOTES[form];
+  writer.putSteps();
+  JUDGED[form](writer);
+  if (note) writer.lines.splice(1, 0, `  # ${note}`);
+  return `${writer.lines.join("\n")}\n`;
 }

@@ -3,7 +3,7 @@
 // with, at the pace of the properties.
 
 import { readMarks } from "../bench/answers.js";
-import { conditionOf } from "../debug/conditions.js";
+import { DisplayText } from "../board/display_text.js";
 import { lineOf, upToRandom } from "./walks.js";
 import { runLines } from "../engine/key_queue.js";
 
@@ -14,10 +14,12 @@ import { runLines } from "../engine/key_queue.js";
  * @typedef {import("./watching.js").Start} Start
  *
  * What the display has to show after each chain of keys, or words of what is wrong with the command.
- * @typedef {(chains: string[]) => { shown: string[], fault: string }} Asked
+ * @typedef {{ shown: string[], fault: string }} Said
+ * @typedef {(chains: string[]) => Said | Promise<Said>} Asked
  *
  * A chain by which the display shows something else.
- * @typedef {{ keys: number[], wanted: string, cycles: number }} Difference
+ * @typedef {{ keys: number[], wanted: string, lit: string[], cycles: number }} Difference `lit` are names of lamps that are on, and should
+ *   be off
  */
 
 const CHAINS = 40;
@@ -46,57 +48,64 @@ export class Model {
 
   /**
    * Tries some chains.
-   * @returns {Difference | null}
+   * @returns {Promise<Difference | null>}
    */
-  tryChains() {
+  async tryChains() {
     const chains = [...Array(CHAINS)].map(() => (
       [...Array(1 + upToRandom(this.random, LONGEST_CHAIN))].map(() => this.keys[upToRandom(this.random, this.keys.length)])));
     this.chains += chains.length;
-    const difference = this.differenceIn(chains);
+    const difference = await this.differenceIn(chains);
     return difference && this.shorten(difference);
   }
 
   /**
    * The first chain by which the display shows something else.
    * @param {number[][]} chains
-   * @returns {Difference | null}
+   * @returns {Promise<Difference | null>}
    */
-  differenceIn(chains) {
-    const { shown, fault } = this.asked(chains.map((keys) => keys.map((at) => this.campaign.inputs[at].name).join(" ")));
+  async differenceIn(chains) {
+    const names = chains.map((keys) => keys.map((at) => this.campaign.inputs[at].name).join(" "));
+    const { shown, fault } = await this.asked(names);
     this.fault = fault;
     for (const [at, keys] of chains.entries()) {
       if (fault !== "") return null;
       const wanted = shown[at].trim();
       const cycles = keys.length * (this.campaign.down + this.campaign.up);
-      if (wanted !== "" && !this.shows(keys, wanted)) return { keys, wanted, cycles };
+      const { number, whole, lit } = this.shownAfter(keys);
+      if (wanted !== "" && whole !== wanted) return { keys, wanted, lit: number === wanted ? lit : [], cycles };
     }
     return null;
   }
 
   /**
-   * Whether the display shows this after a chain.
+   * Returns what the display shows after a chain: the number, the names of the lamps that are on beside it, and both, as mcs4 display
+   * prints them.
    * @param {number[]} keys
-   * @param {string} wanted
    */
-  shows(keys, wanted) {
+  shownAfter(keys) {
     const { down, up } = this.campaign;
+    const { face } = this.subject.names;
     const lines = keys.map((input) => (
       `${lineOf(this.campaign, { wait: 0, kind: "down", input })}${runLines(down)}`
       + `${lineOf(this.campaign, { wait: 0, kind: "up", input })}${runLines(up)}`)).join("");
     const { answers } = this.subject.engine.ask(this.start.file, `${lines}lamps\n`);
-    const { condition } = conditionOf(`display ${wanted}`, this.subject.names);
-    return condition !== null && condition.holds([readMarks(answers[answers.length - 1]).join("")]);
+    const marks = readMarks(answers[answers.length - 1]).join("");
+    const lamps = [...face.lamps].map(([at, { text }]) => ({ at, text }));
+    const { number, names } = new DisplayText(face.groups.filter(({ kind }) => kind === "display"), lamps).read(marks);
+    const lit = lamps.filter(({ at, text }) => marks[at] === "*" && text !== "minus").map(({ text }) => text);
+    return { number, whole: names === "" ? number : `${number} ${names}`, lit };
   }
 
   /**
    * Keys are left out, as long as there is a difference.
    * @param {Difference} difference
    */
-  shorten(difference) {
+  async shorten(difference) {
     let shortest = difference;
     for (;;) {
       const { keys } = shortest;
-      const shorter = this.differenceIn(keys.map((_, at) => keys.filter((_key, index) => index !== at)).filter(({ length }) => length > 0));
+      const fewer = keys.map((_, at) => keys.filter((_key, index) => index !== at)).filter(({ length }) => length > 0);
+      const shorter = await this.differenceIn(fewer);
       if (!shorter) return shortest;
       shortest = shorter;
     }
@@ -107,10 +116,11 @@ export class Model {
    * @param {string} name
    * @param {Difference} difference
    */
-  test(name, { keys, wanted }) {
+  test(name, { keys, wanted, lit }) {
     const { down, up, begin, inputs, before } = this.campaign;
     const lines = [`test ${name}`, ...before, ...(begin > 0 ? [`  run ${begin}`] : []), `  pace ${down} ${up}`,
-      `  keys ${keys.map((at) => inputs[at].name).join(" ")}`, `  expect display ${wanted}`];
+      `  keys ${keys.map((at) => inputs[at].name).join(" ")}`, `  expect display ${wanted}`,
+      ...lit.map((lamp) => `  expect lamp ${lamp} off`)];
     return `${lines.join("\n")}\n`;
   }
 }

@@ -1,8 +1,10 @@
 // The places of `trace` that properties and notes look at, in questions of at most 16, and where each condition finds its values.
 
 import { refusalOf } from "../bench/answers.js";
-import { MOST_PLACES } from "../debug/conditions.js";
+import { MOST_PLACES } from "../conditions/conditions.js";
 import { Answers, readTraced, valuesOf } from "../engine/tracing.js";
+
+/** @typedef {import("./properties.js").Property} Property */
 
 export class Places {
   /** @param {string[]} names */
@@ -28,6 +30,52 @@ export class Places {
   indexes(places) {
     return places.map((place) => this.names.indexOf(place));
   }
+}
+
+/**
+ * Returns the conditions that a property asks: its own, and those of its guards.
+ * @param {Property} property
+ */
+export function conditionsOf({ condition, guards }) {
+  return [condition, ...guards.map((guard) => guard.condition)];
+}
+
+/** @type {boolean[]} */
+const NONE = [];
+
+/** The conditions of a property, by the values of all places. */
+export class Conditions {
+  /**
+   * @param {Property} property
+   * @param {{ indexes: (places: string[]) => number[] }} places
+   */
+  constructor(property, places) {
+    const [own, ...guards] = conditionsOf(property).map((condition) => (
+      { condition, indexes: condition ? places.indexes(condition.places) : [] }));
+    this.own = own;
+    this.guards = guards;
+  }
+
+  /** @param {string[]} values */
+  holds(values) {
+    return holdsBy(this.own, values);
+  }
+
+  /**
+   * Whether those of the guards hold.
+   * @param {string[]} values
+   */
+  opens(values) {
+    return this.guards.length === 0 ? NONE : this.guards.map((guard) => holdsBy(guard, values));
+  }
+}
+
+/**
+ * @param {{ condition: import("../conditions/conditions.js").Condition | null, indexes: number[] }} asked
+ * @param {string[]} values
+ */
+function holdsBy({ condition, indexes }, values) {
+  return condition !== null && condition.holds(indexes.map((at) => values[at]));
 }
 
 /** Answers that follow each other, to questions about places. */

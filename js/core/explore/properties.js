@@ -5,20 +5,25 @@
 import * as say from "../../words/explore.js";
 
 /**
- * @typedef {import("../debug/conditions.js").Condition} Condition
+ * @typedef {import("../conditions/conditions.js").Condition} Condition
  * @typedef {import("./inputs.js").Input} Input
  *
  * What happens: `values` are what the condition looks at, now; `label`: the counter comes to the address; `down`: an input goes down;
  * `reset`; `end`: a wait is over; `call` and `return`: a subroutine's.
  * @typedef {"values" | "label" | "down" | "reset" | "end" | "call" | "return"} Event
- * @typedef {{ time: number, holds: boolean, input: string, isDown: number }} Moment cycles from power-on; whether the condition holds now;
- *   the input that goes down; how many are down
+ * @typedef {{ time: number, holds: boolean, opens: boolean[], input: string, isDown: number }} Moment cycles from power-on; whether the
+ *   condition holds now, and those of the guards; the input that goes down; how many are down
+ *
+ * When a property is judged: from a press on, for `limit` cycles or, where that is 0, without an end; once a condition has held; while it
+ * holds.
+ * @typedef {{ kind: "press" | "once" | "while", key: string, limit: number, condition: Condition | null }} Guard
  *
  * `from` begins a memory; `see` gives the time at which the property is broken, -1 where it is not; `mark` is what of its memory makes a
  * state new; `address` is that of its label, -1 without one; `form` is what a test has to say of it.
  * @typedef {{ form: Form, text: string, line: number, condition: Condition | null, address: number, limit: number, isGoal: boolean,
- *   keys: string[], from: (time: number, isDown: number) => number[], see: (memory: number[], event: Event, moment: Moment) => number,
- *   mark: (memory: number[]) => string, applies: (memory: number[]) => boolean }} Property
+ *   keys: string[], guards: Guard[], from: (time: number, isDown: number) => number[],
+ *   see: (memory: number[], event: Event, moment: Moment) => number, mark: (memory: number[]) => string,
+ *   applies: (memory: number[]) => boolean }} Property
  * @typedef {"never" | "always" | "never for" | "at" | "only after" | "every" | "after press" | "once" | "reach" | "reach at" | "model"
  *   | "code" | "calls" | "returns"} Form
  */
@@ -27,9 +32,9 @@ const NOT = -1;
 /** The 4004 keeps three return addresses. */
 const DEEPEST = 3;
 
-/** @type {Pick<Property, "line" | "condition" | "address" | "limit" | "isGoal" | "keys" | "from" | "see" | "mark" | "applies">} */
+/** @type {Omit<Property, "form" | "text">} */
 const PLAIN = {
-  line: 0, condition: null, address: NOT, limit: 0, isGoal: false, keys: [], from: () => [], see: () => NOT, mark: () => "",
+  line: 0, condition: null, address: NOT, limit: 0, isGoal: false, keys: [], guards: [], from: () => [], see: () => NOT, mark: () => "",
   applies: () => true,
 };
 
@@ -221,6 +226,82 @@ export function reach(text, condition) {
  */
 export function reachAt(text, address) {
   return { ...PLAIN, form: "reach at", text, address, isGoal: true, see: (_, event, { time }) => (event === "label" ? time : NOT) };
+}
+
+/** Forms that can have a guard. */
+export const GUARDED = new Set(["never", "never for", "always", "at", "after press", "reach", "reach at"]);
+
+/**
+ * Returns what a guard remembers: since when it is open, or since when for the last time; NOT if it is closed.
+ * @param {Guard} guard
+ * @param {number} since
+ * @param {Event} event
+ * @param {Moment} moment
+ * @param {boolean} holds whether its condition does
+ */
+function guardAfter({ kind, key }, since, event, { time, input }, holds) {
+  if (event === "reset") return NOT;
+  if (kind === "press") return event === "down" && input === key ? time : since;
+  if (event !== "values" && event !== "label" && event !== "down") return since;
+  if (kind === "once") return since === NOT && holds ? time : since;
+  return holds ? time : NOT;
+}
+
+/**
+ * Returns the last cycle at which a guard is open.
+ * @param {Guard} guard
+ * @param {number} since
+ */
+function lastOf({ kind, limit }, since) {
+  if (since === NOT) return NOT;
+  return kind === "press" && limit > 0 ? since + limit : Infinity;
+}
+
+/**
+ * Tells a guarded property what happens, in the memory of its own.
+ * @param {Property} property
+ * @param {number[]} memory
+ * @param {Event} event
+ * @param {Moment} moment
+ * @param {boolean} isOpen
+ */
+function seeGuarded({ form, see, keys }, memory, event, moment, isOpen) {
+  if (form === "never for") return see(memory, event, { ...moment, holds: moment.holds && isOpen });
+  // A press counts where it comes; what it is to bring about may come later.
+  if (form === "after press") return event === "down" && moment.input === keys[0] && !isOpen ? NOT : see(memory, event, moment);
+  return isOpen || event === "reset" ? see(memory, event, moment) : NOT;
+}
+
+/**
+ * The same property, judged where all its guards are open. It remembers each guard, whether all were ever open, and what it remembers
+ * itself.
+ * @param {string} text
+ * @param {Property} property
+ * @param {Guard[]} guards
+ * @returns {Property}
+ */
+export function guarded(text, property, guards) {
+  const own = guards.length + 1;
+  return {
+    ...property, text, guards, from: (time, isDown) => [...guards.map(() => NOT), 0, ...property.from(time, isDown)],
+    mark: (memory) => guards.map((_, index) => (memory[index] === NOT ? "-" : "+")).join("") + property.mark(memory.slice(own)),
+    applies: (memory) => memory[own - 1] > 0 && property.applies(memory.slice(own)),
+    see: (memory, event, moment) => {
+      const inner = memory.slice(own);
+      const last = Math.min(...guards.map((guard, index) => lastOf(guard, memory[index])));
+      // What lasts is over where the guard closed before this moment.
+      const hasClosed = property.form === "never for" && last < moment.time && last !== NOT;
+      let when = hasClosed ? property.see(inner, "values", { ...moment, time: last + 1, holds: false }) : NOT;
+      guards.forEach((guard, index) => {
+        memory[index] = guardAfter(guard, memory[index], event, moment, moment.opens[index] === true);
+      });
+      const isOpen = guards.every((guard, index) => memory[index] !== NOT && moment.time <= lastOf(guard, memory[index]));
+      if (isOpen) memory[own - 1] = 1;
+      if (when === NOT) when = seeGuarded(property, inner, event, moment, isOpen);
+      memory.splice(own, inner.length, ...inner);
+      return when;
+    },
+  };
 }
 
 /**

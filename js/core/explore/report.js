@@ -1,6 +1,7 @@
 // What a search has come to, and its output as TAP. Reports of searches with other seeds, by other processes or machines, are joined.
 
 import { counted } from "../bench/numbers.js";
+import { TAP_HEAD, described, quoted } from "../testing/tap.js";
 import { Coverage } from "./coverage.js";
 import { andMore } from "../../words/debug.js";
 import * as say from "../../words/explore.js";
@@ -12,9 +13,10 @@ import * as say from "../../words/explore.js";
  * A find: its test, how many steps it has, how many cycles pass, and the seed by which it was found.
  * @typedef {{ test: string, steps: number, cycles: number, seed: number }} Found
  *
- * A property, as it is told: `states` are how many states there are, where all of them were seen and it holds in each, else 0; `chains`
- * are those of keys that a model was asked about.
- * @typedef {{ text: string, line: number, isGoal: boolean, applied: boolean, states: number, chains: number, found: Found | null }} Told
+ * A property, as it is told: `isSkipped` says that it is a model whose command was not run; `states` are how many states there are, where
+ * all of them were seen and it holds in each, else 0; `chains` are those of keys that a model was asked about.
+ * @typedef {{ text: string, line: number, isGoal: boolean, isSkipped: boolean, applied: boolean, states: number, chains: number,
+ *   found: Found | null }} Told
  *
  * @typedef {{ form: "explore 1", names: { board: string, program: string, properties: string }, sums: string, properties: Told[],
  *   seeds: number[], steps: number, states: number, seconds: number, covered: string, instructions: Instruction[],
@@ -59,7 +61,8 @@ export function joinReports(reports) {
     properties: first.properties.map((property, at) => {
       const all = reports.map(({ properties }) => properties[at]);
       return {
-        ...property, applied: all.some(({ applied }) => applied), states: Math.max(...all.map(({ states }) => states)),
+        ...property, isSkipped: all.every(({ isSkipped }) => isSkipped), applied: all.some(({ applied }) => applied),
+        states: Math.max(...all.map(({ states }) => states)),
         chains: all.reduce((sum, { chains }) => sum + chains, 0),
         found: all.map(({ found }) => found).reduce(shorterOf, null),
       };
@@ -68,8 +71,8 @@ export function joinReports(reports) {
 }
 
 /** @param {Told} property */
-export function isRight({ isGoal, found }) {
-  return isGoal === (found !== null);
+export function isRight({ isGoal, isSkipped, found }) {
+  return !isSkipped && isGoal === (found !== null);
 }
 
 /**
@@ -93,9 +96,6 @@ export function lineOfProperty({ line }, { names }) {
   return line > 0 ? `${names.properties}:${line}` : names.properties;
 }
 
-/** @param {string} text */
-const quoted = (text) => `"${text.replace(/\\/g, "\\\\").replace(/"/g, '\\"')}"`;
-
 /**
  * The lines of a property.
  * @param {Told} property
@@ -104,8 +104,7 @@ const quoted = (text) => `"${text.replace(/\\/g, "\\\\").replace(/"/g, '\\"')}"`
  */
 function linesOf(property, at, report) {
   const { text, found } = property;
-  const name = text.replace(/\\/g, "\\\\").replace(/#/g, "\\#");
-  const lines = [`${isRight(property) ? "" : "not "}ok ${at + 1} - ${name} # ${remarkOf(property, report)}`];
+  const lines = [`${isRight(property) ? "" : "not "}ok ${at + 1} - ${described(text)} # ${remarkOf(property, report)}`];
   if (!found) return lines;
   const how = property.isGoal ? "reached" : "broken";
   const words = say.foundBy(how, stepsOf(found.steps), grouped(found.cycles), found.seed);
@@ -135,12 +134,15 @@ export function coverageLines({ covered, instructions }) {
 }
 
 /**
+ * Returns the report as TAP. A property that was not run is a comment alone.
  * @param {Report} report
  */
 export function tapOf(report) {
   const { properties, seeds, steps, seconds, states, isStopped } = report;
-  const lines = ["TAP version 13", `1..${properties.length}`];
-  properties.forEach((property, at) => lines.push(...linesOf(property, at, report)));
+  const judged = properties.filter(({ isSkipped }) => !isSkipped);
+  const lines = [TAP_HEAD, `1..${judged.length}`];
+  judged.forEach((property, at) => lines.push(...linesOf(property, at, report)));
+  for (const property of properties) if (property.isSkipped) lines.push(`# ${say.notRun(lineOfProperty(property, report), property.text)}`);
   const rate = seconds > 0 ? say.aSecond(grouped(steps / seconds)) : "";
   lines.push(...coverageLines(report).map((line) => `# ${line}`));
   lines.push(say.figures(seeds, grouped(steps), seconds.toFixed(1), rate, grouped(states), isStopped));

@@ -6,7 +6,7 @@ import { countWalk, followsFromLooks } from "./counting.js";
 import { Coverage } from "./coverage.js";
 import { KeptFiles } from "./kept_files.js";
 import { Looks } from "./looks.js";
-import { Told } from "./places.js";
+import { Conditions, Told, conditionsOf } from "./places.js";
 import { chooseStep, downAfter, downAtFirst, lineOf, linesOf, randomFrom } from "./walks.js";
 import { sinceAfter, sinceAtFirst, upToRandom } from "./walks.js";
 import { Watcher } from "./watching.js";
@@ -27,8 +27,8 @@ import { LONGEST_RUN, runLines } from "../engine/key_queue.js";
  * What broke a property (or reached a goal): its number, the steps from power-on that were done before, and when it came.
  * @typedef {{ property: number, steps: WalkStep[], time: number }} Find
  *
- * How a state looks after a step: the values of what is noted, and whether conditions hold, in the order of properties.
- * @typedef {{ notes: string, holds: boolean[] }} Look
+ * How a state looks after a step: the values of what is noted; whether conditions hold, and those of guards, in the order of properties.
+ * @typedef {{ notes: string, holds: boolean[], opens: boolean[][] }} Look
  */
 
 const LONGEST_WALK = 16;
@@ -55,10 +55,10 @@ export class Search {
     this.random = randomFrom(seed);
     this.coverage = new Coverage();
     this.watcher = new Watcher(subject, campaign, this.coverage);
-    const looked = campaign.properties.flatMap(({ condition }) => (condition ? condition.places : []));
+    const looked = campaign.properties.flatMap(conditionsOf).flatMap((condition) => (condition ? condition.places : []));
     this.places = new Looks([...campaign.notes, ...looked], subject.names.board);
     this.notes = this.places.indexes(campaign.notes);
-    this.indexes = campaign.properties.map(({ condition }) => (condition ? this.places.indexes(condition.places) : []));
+    this.conditions = campaign.properties.map((property) => new Conditions(property, this.places));
     /** @type {number[]} the properties that are not broken so far */
     this.open = campaign.properties.flatMap(({ form }, at) => (form === "model" ? [] : [at]));
     /** @type {Set<number>} those that applied to something */
@@ -264,8 +264,8 @@ export class Search {
     const values = row.split(" ");
     const look = {
       notes: this.notes.map((at) => values[at]).join(" "),
-      holds: this.campaign.properties.map(({ condition }, at) => (
-        condition !== null && condition.holds(this.indexes[at].map((each) => values[each])))),
+      holds: this.conditions.map((each) => each.holds(values)),
+      opens: this.conditions.map((each) => each.opens(values)),
     };
     if (this.looks.size >= MOST_LOOKS) this.looks.clear();
     this.looks.set(row, look);
@@ -331,12 +331,15 @@ function pathOf(state) {
   return parts.flat();
 }
 
+/** @type {boolean[]} */
+const NONE = [];
+
 /**
  * Whether a property may be broken wherever the counter comes to its label.
  * @param {Property} property
  */
-function stopsAtLabel({ form }) {
-  return form === "at" || form === "reach at" || form === "never";
+function stopsAtLabel({ form, guards }) {
+  return guards.length === 0 && (form === "at" || form === "reach at" || form === "never");
 }
 
 /**
@@ -361,11 +364,11 @@ class Seeming {
    * @param {Look} look
    * @param {import("../engine/tracing.js").Counted[]} begun how often each address was begun at
    */
-  isBroken(step, { holds }, begun) {
+  isBroken(step, { holds, opens }, begun) {
     const { campaign: { properties, inputs }, asked, memories } = this;
     this.down = downAfter(this.down, step);
     const input = step.kind === "down" ? inputs[step.input].name : "";
-    const moment = { time: this.time + step.wait, holds: false, input, isDown: this.down.length };
+    const moment = { time: this.time + step.wait, holds: false, opens: NONE, input, isDown: this.down.length };
     const isAtLabel = this.ofLabels.some((at) => {
       const count = (begun.find(({ address }) => address === properties[at].address) || { begun: 0 }).begun;
       return this.mayBreakAtLabel(properties[at], memories[at], moment, step, count);
@@ -374,9 +377,9 @@ class Seeming {
     return isAtLabel || asked.some((at) => {
       const { see } = properties[at];
       const memory = memories[at];
-      if (step.kind === "down" && see(memory, "down", moment) >= 0) return true;
+      if (step.kind === "down" && see(memory, "down", { ...moment, opens: opens[at] }) >= 0) return true;
       if (step.kind === "reset" && see(memory, "reset", moment) >= 0) return true;
-      return see(memory, "values", { ...moment, holds: holds[at] }) >= 0;
+      return see(memory, "values", { ...moment, holds: holds[at], opens: opens[at] }) >= 0;
     });
   }
 
@@ -388,7 +391,9 @@ class Seeming {
    * @param {number} count how often its label was come to
    */
   mayBreakAtLabel(property, memory, moment, step, count) {
-    const { form, see, limit } = property;
+    const { form, see, limit, guards } = property;
+    // Whether it was open then is known to one who watches.
+    if (guards.length > 0) return count > 0 || form === "after press";
     if (stopsAtLabel(property)) return count > 0;
     if (form === "after press" && memory[0] >= 0 && (count > 0 || moment.time > memory[0] + limit)) {
       if (moment.time > memory[0] + limit) return true;

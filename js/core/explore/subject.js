@@ -9,8 +9,8 @@ import { hasWays, romCodes } from "../engine/rom_codes.js";
 import * as say from "../../words/explore.js";
 
 /**
- * @typedef {import("../engine/engine.js").Engine} Engine
- * @typedef {import("../debug/conditions.js").Names} Names
+ * @typedef {import("../engine/engine_host.js").EngineHost} Engine
+ * @typedef {import("../conditions/conditions.js").Names} Names
  *
  * An instruction of the program: its line, its address, and whether it goes on at one of two places.
  * @typedef {{ line: number, address: number, hasWays: boolean }} Instruction

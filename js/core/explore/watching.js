@@ -3,7 +3,7 @@
 
 import { cyclesOf, isCall, isReturn } from "../engine/rom_codes.js";
 import { readTraced } from "../engine/tracing.js";
-import { Places, Told } from "./places.js";
+import { Conditions, Places, Told, conditionsOf } from "./places.js";
 import { downAfter, lineOf } from "./walks.js";
 
 /**
@@ -39,10 +39,10 @@ export class Watcher {
     this.subject = subject;
     this.campaign = campaign;
     this.coverage = coverage;
-    const looked = campaign.properties.flatMap(({ condition }) => (condition ? condition.places : []));
+    const looked = campaign.properties.flatMap(conditionsOf).flatMap((condition) => (condition ? condition.places : []));
     this.calls = campaign.properties.flatMap(({ form }, at) => (form === "calls" || form === "returns" ? [at] : []));
     this.places = new Places(this.calls.length > 0 ? [...looked, "ret"] : looked);
-    this.indexes = campaign.properties.map(({ condition }) => (condition ? this.places.indexes(condition.places) : []));
+    this.conditions = campaign.properties.map((property) => new Conditions(property, this.places));
     /** @type {Set<number>} the labels of the properties that are open */
     this.labels = new Set();
     /** Whether `count` is asked. */
@@ -160,14 +160,15 @@ class Walk {
    * @param {string} input
    */
   tell(event, time, address = -1, input = "") {
-    const { watcher: { campaign: { properties }, indexes, calls }, values } = this;
+    const { watcher: { campaign: { properties }, conditions, calls }, values } = this;
     const isOfCalls = event === "call" || event === "return";
     for (const at of isOfCalls ? calls : this.open) {
-      const { condition, see, address: own } = properties[at];
+      const { see, address: own } = properties[at];
       if (event === "label" && own !== address) continue;
-      const isAsked = condition !== null && (event === "values" || event === "label");
-      const holds = isAsked && condition.holds(indexes[at].map((each) => values[each]));
-      const when = see(this.memories[at], event, { time, holds, input, isDown: this.down.length });
+      const isAsked = event === "values" || event === "label";
+      const holds = isAsked && conditions[at].holds(values);
+      const opens = isAsked || event === "down" ? conditions[at].opens(values) : NONE;
+      const when = see(this.memories[at], event, { time, holds, opens, input, isDown: this.down.length });
       if (when >= 0 && this.open.includes(at) && (!this.broken || when < this.broken.time)) this.broken = { property: at, time: when };
     }
   }
@@ -253,4 +254,6 @@ class Walk {
   }
 }
 
-const NOTHING = { time: 0, holds: false, input: "", isDown: 0 };
+/** @type {boolean[]} */
+const NONE = [];
+const NOTHING = { time: 0, holds: false, opens: NONE, input: "", isDown: 0 };

@@ -79,6 +79,16 @@ export function instructionsOf(manual) {
 }
 
 /**
+ * Returns what each condition of JCN asks for, by its number.
+ * @param {ManualSection[]} manual
+ * @returns {Map<number, string>}
+ */
+export function conditionsOf(manual) {
+  const rows = rowsOf(manual, say.CONDITIONS_OF_JCN);
+  return new Map(rows.flatMap(([low, ifLow, high, ifHigh]) => [[Number(low), plain(ifLow)], [Number(high), plain(ifHigh)]]));
+}
+
+/**
  * The lines of the bench: each form with what it does.
  * @param {ManualSection[]} manual
  * @returns {{ form: string, does: string }[]}

@@ -8,10 +8,11 @@ import * as say from "../../words/help.js";
  * down, and why a run ended last in this step (`break`, `watch`, "" for no end).
  * @typedef {{ lamps: string, patterns: number, keysDown: number, end: string }} Seen
  *
- * A step: its title, what is to be done, the program that is typed ("" where it stays), and when it is done. A paragraph of a story has
- * places that do something.
+ * A step: its title, what is to be done, the program that is typed ("" where it stays), what the step points at, and when it is done. A
+ * paragraph of a story has places that do something.
  * @typedef {string | { words: string, act: import("./story.js").Act }} Part
- * @typedef {{ title: string, words: (string | Part[])[], program: string, isDone: (seen: Seen) => boolean }} TourStep
+ * @typedef {"send" | "key" | "margin" | "ram"} Target the button that assembles, a key, the margin of the source, a character of RAM
+ * @typedef {{ title: string, words: (string | Part[])[], program: string, target?: Target, isDone: (seen: Seen) => boolean }} TourStep
  */
 
 /**
@@ -28,26 +29,31 @@ export const TOUR = [
   {
     ...say.STEP_LAMP,
     program: say.LAMP,
+    target: "send",
     isDone: ({ lamps }) => lamps[0] === "*",
   },
   {
     ...say.STEP_COUNT,
     program: say.COUNT,
+    target: "send",
     isDone: ({ patterns }) => patterns >= 4,
   },
   {
     ...say.STEP_KEY,
     program: say.KEY,
+    target: "key",
     isDone: ({ lamps, keysDown }) => keysDown > 0 && lamps.includes("*"),
   },
   {
     ...say.STEP_BREAKPOINT,
     program: "",
+    target: "margin",
     isDone: ({ end }) => end === "break",
   },
   {
     ...say.STEP_WATCH,
     program: say.REMEMBER,
+    target: "ram",
     isDone: ({ end }) => end === "watch",
   },
 ];

@@ -14,23 +14,31 @@ const LOGS = "\u25B8";
 const NEVER = "\u25CB";
 
 /**
+ * When a breakpoint stops, and what it logs; "" if it stops at each arrival.
+ * @param {Pick<Breakpoint, "condition" | "from" | "note">} breakpoint
+ */
+export function detailsOfBreakpoint({ condition, from, note }) {
+  const when = condition.trim() ? say.whereHolds(condition.trim()) : "";
+  const since = from > 1 ? say.fromHit(from) : "";
+  return `${when}${since}${note.trim() && say.logs(note.trim())}`.replace(/^:? /, "");
+}
+
+/**
  * What a breakpoint does, in words.
  * @param {Pick<Breakpoint, "condition" | "from" | "note">} breakpoint
  */
-export function wordsOfBreakpoint({ condition, from, note }) {
-  const when = condition.trim() ? say.whereHolds(condition.trim()) : "";
-  const since = from > 1 ? say.fromHit(from) : "";
-  return say.breakpointThat(when, since, note.trim() && say.logs(note.trim()));
+export function wordsOfBreakpoint(breakpoint) {
+  return say.breakpointThat(detailsOfBreakpoint(breakpoint));
 }
 
 /**
  * @param {Breakpoint} breakpoint
- * @param {string} fault why it cannot be read, "" where it can
+ * @param {string} fault why it cannot be read, and so stops at each arrival; "" where it can
  * @returns {BreakpointMark}
  */
 export function markOf(breakpoint, fault) {
   const words = wordsOfBreakpoint(breakpoint);
-  if (fault) return { mark: NEVER, words: say.neverStops(words, fault) };
+  if (fault) return { mark: ALWAYS, words: say.stopsAsUnsure(words, fault) };
   if (!breakpoint.isOn) return { mark: NEVER, words: say.isOff(words) };
   if (breakpoint.address < 0) return { mark: NEVER, words: say.stopsLater(words) };
   if (breakpoint.note.trim()) return { mark: LOGS, words };

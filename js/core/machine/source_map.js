@@ -91,6 +91,14 @@ export class SourceMap {
   }
 
   /**
+   * The line that a label is written in; 0 for another word.
+   * @param {string} label
+   */
+  lineOfLabel(label) {
+    return this.sources.findIndex((line) => (LABEL.exec(line) || ["", ""])[1] === label) + 1;
+  }
+
+  /**
    * Whether an instruction of the program begins at an address.
    * @param {number} address
    */

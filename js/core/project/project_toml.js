@@ -1,5 +1,4 @@
-// The project file, `mcs4.toml`: which files of a folder belong together. tools/lib/project_toml.awk reads the same, with the same words
-// of faults; checks/project compares both.
+// The project file, `mcs4.toml`: which files of a folder belong together.
 
 import { readBoardText } from "../text/board_reader.js";
 import { SPEEDS } from "../time/speeds.js";

@@ -11,6 +11,8 @@ import * as say from "../../words/prompt.js";
  */
 
 const BREAK = /^(.*?)(?:\s*\bfrom\s+(\d{1,9}))?(?:\s*\bif\s+(.+?))?(?:\s*\blog\s+"([^"]*)")?$/;
+/** The breakpoint that was set last, as in gdb. */
+export const LAST = "$bpnum";
 const CHARACTER = /^ram\.[0-7]\.\w+$/i;
 
 export class BreakpointCommands {
@@ -19,6 +21,8 @@ export class BreakpointCommands {
     this.prompt = prompt;
     /** The place that `continue` watches, "" for none; characters of RAM are watched by the bench. */
     this.watched = "";
+    /** The number of the breakpoint that was set last, 0 for none. */
+    this.last = 0;
   }
 
   get list() {
@@ -34,7 +38,9 @@ export class BreakpointCommands {
       await this.apply();
     };
     return {
-      break: (rest) => this.add(rest),
+      break: async (rest) => {
+        await this.add(rest);
+      },
       delete: (rest) => this.remove(rest),
       disable: turn(false),
       enable: turn(true),
@@ -52,7 +58,10 @@ export class BreakpointCommands {
     for (const { id, address } of hard) if (!session.breaks.includes(address)) this.list.remove(id);
   }
 
-  /** @param {string} rest */
+  /**
+   * Sets a breakpoint; returns its number.
+   * @param {string} rest
+   */
   async add(rest) {
     const { session, machine, calls } = this.prompt;
     const [, where, from = "1", condition = "", note = ""] = /** @type {RegExpExecArray} */ (BREAK.exec(rest));
@@ -71,6 +80,26 @@ export class BreakpointCommands {
     await machine.stand();
     const { address: placed } = this.list.get(made.id) || made;
     calls.print(say.breakpointAt(made.id, addressTold(session, placed)));
+    this.last = made.id;
+    return made.id;
+  }
+
+  /**
+   * Changes a breakpoint, unless its words cannot be read.
+   * @param {number} id
+   * @param {Partial<import("../debug/breakpoints.js").KeptBreakpoint>} some
+   */
+  async change(id, some) {
+    const { session, machine } = this.prompt;
+    const before = this.list.get(id);
+    this.list.change(id, some);
+    const fault = (await session.applyBreakpoints()).faults.find(([other]) => other === id);
+    if (fault && before) {
+      this.list.change(id, before);
+      await this.apply();
+      refuse(fault[1]);
+    }
+    await machine.stand();
   }
 
   async apply() {
@@ -81,14 +110,14 @@ export class BreakpointCommands {
   /** @param {string} rest */
   numbersOf(rest) {
     return rest.split(/\s+/).filter(Boolean).map((word) => {
-      const isThere = /^\d+$/.test(word) && this.list.get(Number(word));
-      return isThere ? Number(word) : refuse(say.noBreakpoint(word));
+      const id = word === LAST ? this.last : /^\d+$/.test(word) ? Number(word) : 0;
+      return this.list.get(id) ? id : refuse(say.noBreakpoint(word));
     });
   }
 
   /** @param {string} rest */
   async remove(rest) {
-    if (/[a-z]/i.test(rest)) return this.unwatch(rest);
+    if (/[a-z]/i.test(rest.replace(LAST, ""))) return this.unwatch(rest);
     const ids = rest === "" ? this.list.all.map(({ id }) => id) : this.numbersOf(rest);
     for (const id of ids) this.list.remove(id);
     return this.apply();
@@ -118,13 +147,19 @@ export class BreakpointCommands {
     else refuse(say.notWatched(place));
   }
 
-  /** What is watched. */
-  get watches() {
+  /** The places that are watched. */
+  get watchedPlaces() {
     const [answer] = this.prompt.session.debugger.session.ask("watches\n");
-    return [...watchedPlaces(answer), ...(this.watched ? [say.byContinue(this.watched)] : [])].join("\n") || say.NOTHING_WATCHED;
+    return [...watchedPlaces(answer), ...(this.watched ? [this.watched] : [])];
+  }
+
+  /** What is watched, in words. */
+  get watches() {
+    const places = this.watchedPlaces.map((place) => (place === this.watched ? say.byContinue(place) : place));
+    return places.join("\n") || say.NOTHING_WATCHED;
   }
 
   get told() {
-    return breakpointLines(this.prompt.session);
+    return breakpointLines(this.prompt.session, (id) => this.prompt.stops.told(id));
   }
 }

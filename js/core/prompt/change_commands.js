@@ -1,8 +1,7 @@
 // Commands that change the session while time stands: keys, values, the program.
 
-import { placeOf } from "../bench/places.js";
-import { setPlace } from "../adapter/setting.js";
-import { addressIn, refuse } from "./words_of_line.js";
+import { linesOfSet } from "../adapter/setting.js";
+import { refuse } from "./words_of_line.js";
 import * as say from "../../words/prompt.js";
 
 /**
@@ -49,15 +48,10 @@ export class ChangeCommands {
   /** @param {string} rest */
   async set(rest) {
     const { session, machine } = this.prompt;
-    const [, left = "", right] = /^([^=\s]+)\s*(?:=|\s)\s*(.+)$/.exec(rest) || [];
-    if (right === undefined) refuse(say.SET_FORM);
-    const place = left.toLowerCase();
-    const isPlace = placeOf(place) || /^(pc|test|p[0-7]|rom\.\w+)$/.test(place);
-    if (!isPlace) refuse(say.cannotBeSet(left, say.SET_PLACES));
-    const address = place === "pc" ? addressIn(right, session) : undefined;
-    await setPlace(session, place, address === undefined ? right : String(address));
+    const lines = linesOfSet(rest, session);
+    await this.prompt.lines.served(lines);
     await machine.stand();
-    if (place === "pc") this.prompt.tellStop("");
+    if (lines.startsWith("poke pc ")) this.prompt.tellStop("");
   }
 
   async load() {

@@ -2,6 +2,7 @@
 
 import { readBoard } from "../bench/answers.js";
 import { keysOf } from "../testing/test_text.js";
+import { keysDown } from "./looks.js";
 import { refuse } from "./words_of_line.js";
 import * as say from "../../words/prompt.js";
 
@@ -33,10 +34,10 @@ export class KeysOfPrompt {
   }
 
   told() {
-    const down = this.session.debugger.session.ask("ports\n").find((line) => line.startsWith("keys ")) || "keys -";
+    const down = keysDown(this.session);
     const { names } = this;
     if (names.length === 0) return say.NO_KEYS;
-    return `${names.join(" ")}\n${down === "keys -" ? say.NONE_DOWN : say.down(down.slice(5))}`;
+    return `${names.join(" ")}\n${down.length > 0 ? say.down(down.join(" ")) : say.NONE_DOWN}`;
   }
 
   /**

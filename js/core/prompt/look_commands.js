@@ -1,12 +1,14 @@
 // Commands that show what stands in the session, and change nothing.
 
-import { valueOfExpression } from "../adapter/values.js";
 import { LAST_ADDRESS } from "../bench/numbers.js";
+import { placeOf } from "../conditions/places.js";
 import { commandOf, helpOf } from "./command_table.js";
+import { formattedValue } from "./formats.js";
 import * as looks from "./looks.js";
 import { addressIn, countIn, instructionIn, refuse } from "./words_of_line.js";
 import { MADE_OF_ROM } from "../../words/adapter.js";
 import * as say from "../../words/prompt.js";
+import { stoppedAt } from "../../words/stops.js";
 
 /**
  * @typedef {import("./prompt.js").Act} Act
@@ -16,7 +18,12 @@ import * as say from "../../words/prompt.js";
 const MOST_SHOWN = 4096;
 /** So many lines of the source are listed. */
 const LISTED = 10;
-export const INFOS = ["registers", "ram", "ports", "keys", "breakpoints", "watches", "display", "names", "source", "session"];
+export const INFOS = [
+  "registers", "ram", "ports", "keys", "breakpoints", "watches", "display", "names", "source", "session", "line", "symbol", "frame",
+  "stack", "program", "locals",
+];
+/** Short words that gdb has. */
+const SHORT_INFOS = new Map([["r", "registers"], ["s", "stack"], ["f", "frame"], ["args", "locals"], ["all-registers", "registers"]]);
 
 export class LookCommands {
   /** @param {Prompt} prompt */
@@ -41,6 +48,7 @@ export class LookCommands {
       info: (rest) => calls.print(this.info(rest)),
       view: (rest) => this.view(rest),
       backtrace: () => calls.print(looks.frameLines(session)),
+      frame: () => calls.print(this.frame),
       help: (rest) => {
         if (rest !== "" && !commandOf(rest).command) refuse(commandOf(rest).words);
         calls.print(helpOf(rest));
@@ -63,9 +71,9 @@ export class LookCommands {
     if (words) refuse(words);
   }
 
-  /** @param {string} what */
+  /** @param {string} what perhaps with a format before it, as `/x r4` */
   value(what) {
-    return valueOfExpression(what, this.prompt.known);
+    return formattedValue(what, this.prompt.known);
   }
 
   /** @param {string} what */
@@ -103,7 +111,7 @@ export class LookCommands {
     const { calls, session } = this.prompt;
     const [, count = "", where = ""] = /^(?:\/(\d*)[a-z]?)?\s*(.*)$/.exec(rest) || [];
     const many = countIn(count, MOST_SHOWN);
-    if (/^ram\./i.test(where)) return calls.print(looks.characterLines(session, where, many));
+    if (/^ram[. ]/i.test(where)) return calls.print(looks.characterLines(session, (placeOf(where) || { name: where }).name, many));
     const address = where === "" ? session.address : addressIn(where, session);
     if (address === undefined || address > LAST_ADDRESS) return refuse(say.noPlaceOfMemory(where));
     return calls.print(looks.codeLines(session, address, many));
@@ -124,11 +132,16 @@ export class LookCommands {
     this.listed = Math.min(count, from + LISTED - 1);
   }
 
-  /** @param {string} rest */
-  info(rest) {
-    const { session, keys, launched, breakpoints } = this.prompt;
-    /** @type {Record<string, () => string>} */
-    const kinds = {
+  /** The next instruction, and its subroutine. */
+  get frame() {
+    const { session } = this.prompt;
+    return `${looks.frameLines(session).split("\n")[0]}\n${looks.hereLine(session)}`;
+  }
+
+  /** @returns {Record<string, (rest: string) => string>} what `info` shows */
+  get infos() {
+    const { session, keys, launched, breakpoints, ended } = this.prompt;
+    return {
       registers: () => looks.registerLines(session),
       ram: () => looks.ramLines(session),
       ports: () => looks.portLines(session),
@@ -139,8 +152,24 @@ export class LookCommands {
       names: () => looks.nameLines(session),
       source: () => say.linesOf(launched.program || MADE_OF_ROM, looks.linesOfSource(session)),
       session: () => (launched.kept ? say.SESSION_FILE : say.IN_MEMORY),
+      line: (where) => looks.lineTold(session, instructionIn(where, session)),
+      symbol: (where) => {
+        const address = addressIn(where || refuse(say.SYMBOL_FORM), session);
+        return address === undefined ? refuse(say.noPlaceOfMemory(where)) : looks.addressTold(session, address);
+      },
+      frame: () => this.frame,
+      stack: () => looks.frameLines(session),
+      program: () => ended.words || stoppedAt(session.counterWords),
+      locals: () => say.NO_LOCALS,
     };
-    const found = INFOS.filter((kind) => rest !== "" && kind.startsWith(rest));
-    return kinds[found.length === 1 ? found[0] : refuse(say.infoShows(INFOS.join(", ")))]();
+  }
+
+  /** @param {string} rest */
+  info(rest) {
+    const [, word = "", more = ""] = /^(\S*)\s*(.*)$/.exec(rest) || [];
+    const found = INFOS.filter((kind) => word !== "" && kind.startsWith(word));
+    const kind = SHORT_INFOS.get(word) || (found.length === 1 ? found[0] : refuse(say.infoShows(INFOS.join(", "))));
+    if (more !== "" && !/^(line|symbol)$/.test(kind)) refuse(say.infoAlone(kind));
+    return this.infos[kind](more);
   }
 }

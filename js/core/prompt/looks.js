@@ -3,6 +3,7 @@
 import { counted, hex, numberOf, upTo } from "../bench/numbers.js";
 import { linesOfBreakpoints } from "../debug/breakpoint_lines.js";
 import { Standing } from "../debug/standing.js";
+import { withoutTabs } from "../text/tabs.js";
 import { wordsOfAddress } from "../../words/stops.js";
 import { framesOf } from "../adapter/frames.js";
 import { rowsAt } from "../adapter/disassembly.js";
@@ -14,14 +15,6 @@ import * as say from "../../words/prompt.js";
 /** @param {DebugSession} session */
 function standingOf(session) {
   return new Standing(session.debugger.session.look());
-}
-
-/**
- * A text with blanks in the place of its tabs, of which each ends at a multiple of eight.
- * @param {string} text
- */
-function withoutTabs(text) {
-  return text.split("\t").reduce((line, part) => line.padEnd(line.length + 8 - (line.length % 8)) + part);
 }
 
 /**
@@ -103,9 +96,26 @@ export function ramLines(session) {
   return lines.length > 0 ? lines.join("\n") : say.NO_RAM;
 }
 
-/** @param {DebugSession} session */
+/**
+ * The SRC bytes, the ports of the ROMs, the chains (their bits in groups of ten), and the keys that are down.
+ * @param {DebugSession} session
+ */
 export function portLines(session) {
-  return session.debugger.session.ask("ports\n").slice(1).join("\n");
+  const { sources, roms, chains, keys } = standingOf(session).ports;
+  return [
+    `src ${sources.join(" ")}`,
+    ...roms.map(({ chip, out, in: reads }) => `rom ${chip} out ${out} in ${reads}`),
+    ...chains.map((bits, at) => `chain ${at} ${bits.replace(/.{10}(?=.)/g, "$& ")}`),
+    `keys ${keys.join(" ") || "-"}`,
+  ].join("\n");
+}
+
+/**
+ * The keys that are down, as row.column.
+ * @param {DebugSession} session
+ */
+export function keysDown(session) {
+  return standingOf(session).ports.keys;
 }
 
 /**
@@ -124,6 +134,17 @@ export function addressTold(session, address) {
   return wordsOfAddress(hex(address, 3), session.map);
 }
 
+/**
+ * The line of an instruction, with its addresses.
+ * @param {DebugSession} session
+ * @param {{ line: number, address: number }} place
+ */
+export function lineTold(session, { line, address }) {
+  const [{ bytes = "" } = {}] = rowsAt(session, address, 0, 1);
+  const last = address + Math.max(1, bytes.split(" ").filter(Boolean).length) - 1;
+  return say.lineIs(line, hex(address, 3), session.map.nameOf(address) || "", last > address ? hex(last, 3) : "");
+}
+
 /** @param {DebugSession} session */
 export function frameLines(session) {
   return framesOf(session).map(({ address, line, name }, at) => (
@@ -138,13 +159,16 @@ export function nameLines({ map }) {
     `${name.padEnd(16)}${isLabel ? hex(value, 3) : hex(value, 2).padStart(3)}${isLabel ? `  line ${map.lineOf(value)}` : ""}`)).join("\n");
 }
 
-/** @param {DebugSession} session */
-export function breakpointLines({ breakpoints }) {
+/**
+ * @param {DebugSession} session
+ * @param {(id: number) => string} more what else is told of a breakpoint
+ */
+export function breakpointLines({ breakpoints }, more) {
   const { all, kept } = breakpoints;
   if (all.length === 0) return say.NO_BREAKPOINTS;
   const lines = linesOfBreakpoints(kept);
   return all.map(({ id, hits }, at) => (
-    `${id}  ${lines[at].slice("break ".length)}${hits > 0 ? `, ${counted(hits, "hit")}` : ""}`)).join("\n");
+    `${id}  ${lines[at].slice("break ".length)}${hits > 0 ? `, ${counted(hits, "hit")}` : ""}${more(id)}`)).join("\n");
 }
 
 /**

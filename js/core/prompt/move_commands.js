@@ -1,10 +1,11 @@
 // Commands that let time pass, or go back: one move at a time, whose end is awaited and told.
 
+import { goalOfText } from "../debug/becoming.js";
 import { callsOpen } from "./looks.js";
 import { backOver, pressed } from "./moves.js";
-import { countIn, cyclesIn, instructionIn, refuse } from "./words_of_line.js";
+import { conditionIn, countIn, cyclesIn, instructionIn, refuse } from "./words_of_line.js";
 import * as say from "../../words/prompt.js";
-import { standsAt } from "../../words/stops.js";
+import { NO_CALL_WAITS, stoppedAt } from "../../words/stops.js";
 
 /**
  * @typedef {import("./prompt.js").Act} Act
@@ -35,6 +36,8 @@ export class MoveCommands {
       "finish": (rest) => this.finish(rest),
       "until": (rest) => {
         if (rest === "") refuse(say.UNTIL_FORM);
+        const condition = conditionIn(rest, this.prompt.session);
+        if (condition !== "") return this.move(() => machine.go({ kind: "when", condition }));
         const { address } = instructionIn(rest, this.prompt.session);
         return this.move(() => machine.go({ kind: "here", address }));
       },
@@ -52,8 +55,8 @@ export class MoveCommands {
       },
       "back": (rest) => {
         if (rest === "") return this.move(() => machine.back({ kind: "stop" }));
-        const place = this.prompt.placeOfWords(rest, "back");
-        return this.move(() => machine.back({ kind: "change", place }));
+        const { goal, fault } = goalOfText(rest, this.prompt.session.names);
+        return goal ? this.move(() => machine.back(goal)) : refuse(fault);
       },
       "forward": () => this.move(() => machine.forward()),
       "press": (rest) => this.press(rest),
@@ -83,7 +86,7 @@ export class MoveCommands {
   /** @param {string} rest */
   finish(rest) {
     if (rest !== "") refuse(say.FINISH_FORM);
-    if (callsOpen(this.prompt.session) === 0) refuse(say.NO_CALL_WAITS);
+    if (callsOpen(this.prompt.session) === 0) refuse(NO_CALL_WAITS);
     return this.move(() => this.prompt.machine.go({ kind: "out" }));
   }
 
@@ -113,6 +116,6 @@ export class MoveCommands {
       prompt.tellStop(left === "" ? words : say.notPressed(words, left));
       return;
     }
-    prompt.tellStop(standsAt(session.counterWords));
+    prompt.tellStop(stoppedAt(session.counterWords));
   }
 }

@@ -9,7 +9,7 @@ import * as say from "../../words/prompt.js";
  * @typedef {import("../debug/debugger.js").GoesOn} GoesOn
  */
 
-/** A program has so long for a key once it is up again, as with tools/keys. */
+/** A program has so long for a key once it is up again, as with mcs4 keys. */
 const AFTER_CYCLES = 16000;
 
 /**

@@ -4,8 +4,9 @@
 //     const prompt = new Prompt(launched, dataOfPage, { print, complain, pause, source, isByHand });   (adapter/launching.js launches)
 //     await prompt.begin(); await prompt.take("break show"); prompt.isEnded; prompt.complete("br")
 
-import { placeOf } from "../bench/places.js";
-import { PLACES_TOLD } from "../../words/bench.js";
+import { WORDS } from "../conditions/parser.js";
+import { PLACE_WORDS, placeOf } from "../conditions/places.js";
+import { PLACES_TOLD } from "../../words/conditions.js";
 import { Face } from "../board/face.js";
 import { instructionsOf } from "../help/manual.js";
 import { Console } from "../adapter/console.js";
@@ -18,26 +19,43 @@ import { KeysOfPrompt } from "./keys_of_prompt.js";
 import { INFOS, LookCommands } from "./look_commands.js";
 import { hereLine } from "./looks.js";
 import { MoveCommands } from "./move_commands.js";
+import { Sources } from "./sources.js";
+import { StopCommands } from "./stop_commands.js";
 import { refuse } from "./words_of_line.js";
 import { boardHasNo } from "../../words/adapter.js";
 import * as say from "../../words/prompt.js";
-import { standsAt } from "../../words/stops.js";
+import { stoppedAt } from "../../words/stops.js";
 
 /**
  * @typedef {import("../adapter/launching.js").Launched} Launched
  *
- * What the host gives: where words go to; a turn for others; the text of the program as its file has it, null where there is none;
- * whether somebody can stop what goes on without an end; and the view (view.js), null where no terminal has room for one: its calls give
- * words of why it cannot be.
+ * What the host gives: where words go to; a turn for others; the text of the program as its file has it, null where there is none; files
+ * to read and write, which throws why not, and the names of those that begin with a text; whether somebody can stop what goes on without
+ * an end; and the view (view.js), null where no terminal has room for one: its calls give words of why it cannot be.
  * @typedef {{ print: (words: string) => void, complain: (words: string) => void, pause: () => Promise<void>, source: () => string | null,
- *   isByHand: boolean, view: { toggle: () => string, turn: (isOn: boolean) => string } | null }} PromptCalls
+ *   read: (name: string) => string, write: (name: string, text: string) => void, files: (begin: string) => string[], isByHand: boolean,
+ *   view: { toggle: () => string, turn: (isOn: boolean) => string } | null }} PromptCalls
  * @typedef {(rest: string) => void | Promise<void>} Act
  */
 
 /** A move of a script takes so many cycles at most, 18 minutes of the board. */
 const MOST_CYCLES = 100000000;
+/** The commands of breakpoints run for so many stops of a script at most. */
+const MOST_STOPS = 100000;
+/** The word of a command, and what is after it. */
+const COMMAND = /^([a-zA-Z-]+|\S)(.*)$/;
+const NO_COMMANDS = { commands: [], isSilent: false, words: "", hasMoved: false };
 /** What an empty line does again. */
 const AGAIN = /^(next|step|reverse-step|reverse-next|reverse-continue|continue|until|list|run|x)$/;
+
+/**
+ * Lines that go on with the name of a file.
+ * @type {Record<string, RegExp>}
+ */
+const FILE_AFTER = { source: /^\s*\S+\s+(.*)$/, save: /^\s*\S+\s+\S+\s+(.*)$/ };
+
+/** What is wrong has been told already. */
+class Told extends Error {}
 
 export class Prompt {
   /**
@@ -52,8 +70,12 @@ export class Prompt {
     this.isEnded = false;
     /** The line that an empty one does again. */
     this.last = "";
-    /** The cycles that were counted where the last move began. */
+    /** The cycles that were counted where the last line began. */
     this.begun = 0;
+    /** Whether somebody has stopped what the last line does. */
+    this.isInterrupted = false;
+    /** @type {{ commands: string[], isSilent: boolean, words: string, hasMoved: boolean }} what the stop of the last command asks for */
+    this.atStop = NO_COMMANDS;
     /** @type {import("../adapter/machine.js").Ended} the last stop */
     this.ended = { reason: "", words: "", id: 0 };
     this.machine = this.makeMachine();
@@ -61,11 +83,18 @@ export class Prompt {
     this.known = { session: this.session, face: this.face, instructions: instructionsOf(manual), shown: () => this.machine.shown.now() };
     this.breakpoints = new BreakpointCommands(this);
     this.looks = new LookCommands(this);
+    this.stops = new StopCommands(this);
+    this.sources = new Sources(this, calls);
     const taken = { breaksChanged: () => this.breakpoints.takeOwn(), romChanged: () => {} };
     this.lines = new Console(this.machine, this.known, new Words(refusals), taken);
     this.keys = new KeysOfPrompt(this.session, this.face);
     /** @type {Record<string, Act>} */
-    this.acts = { ...new MoveCommands(this).acts, ...this.breakpoints.acts, ...this.looks.acts, ...new ChangeCommands(this).acts };
+    this.acts = {
+      ...new MoveCommands(this).acts, ...this.breakpoints.acts, ...this.stops.acts, ...this.looks.acts, ...new ChangeCommands(this).acts,
+      source: async (name) => {
+        if (!(await this.sources.serve(name))) throw new Told();
+      },
+    };
   }
 
   makeMachine() {
@@ -88,7 +117,7 @@ export class Prompt {
   async begin() {
     this.breakpoints.takeOwn();
     await this.session.applyBreakpoints();
-    this.tellStop(standsAt(this.session.counterWords));
+    this.tellStop(stoppedAt(this.session.counterWords));
   }
 
   /** Others have a turn. Where nobody can stop what has no end, it ends after a while. */
@@ -103,7 +132,7 @@ export class Prompt {
    * @param {"console" | "stdout" | "stderr"} category
    */
   output(words, category) {
-    if (category === "stderr") this.calls.complain(words.trimEnd());
+    if (category === "stderr") this.sources.complain(words.trimEnd());
     // What was not done is told once, as a refusal.
     else if (!words.startsWith(say.NOTHING_DONE)) this.calls.print(words.trimEnd());
   }
@@ -111,25 +140,63 @@ export class Prompt {
   // --- lines ---
 
   /**
-   * Does a line; false where it is refused, which is told.
+   * Does a line, and what breakpoints at which it stops ask for; false where one is refused, which is told.
    * @param {string} text
    */
   async take(text) {
-    const line = text.trim() || (this.calls.isByHand ? this.last : "");
-    if (line === "" || line.startsWith("#")) return true;
-    const [, word, rest] = /** @type {string[]} */ (/^([a-zA-Z-]+|\S)(.*)$/.exec(line));
+    const line = text.trim() || (this.calls.isByHand && !this.stops.opened ? this.last : "");
+    this.begun = this.session.debugger.session.count.total;
+    this.isInterrupted = false;
+    const name = this.nameOf(line);
+    const isDone = await this.takeAlone(line);
+    // The lines after those that were listed come next.
+    this.last = isDone && AGAIN.test(name) ? (name === "list" ? name : line) : "";
+    return isDone && this.runCommands();
+  }
+
+  /** @param {string} line */
+  async takeAlone(line) {
+    this.atStop = NO_COMMANDS;
     try {
-      const { command, words } = commandOf(word);
-      const name = command ? command.name : refuse(words);
-      this.last = "";
-      await this.acts[name](rest.trim());
-      // The lines after those that were listed come next.
-      if (AGAIN.test(name)) this.last = name === "list" ? name : line;
+      if (this.stops.opened) this.stops.take(line);
+      else if (line !== "" && !line.startsWith("#")) await this.act(line);
       return true;
     } catch (thrown) {
-      this.calls.complain(thrown instanceof Error ? thrown.message : String(thrown));
+      if (!(thrown instanceof Told)) this.sources.complain(thrown instanceof Error ? thrown.message : String(thrown));
       return false;
     }
+  }
+
+  /**
+   * The name of the command of a line, "" where it has none.
+   * @param {string} line
+   */
+  nameOf(line) {
+    const { command } = commandOf((COMMAND.exec(line) || ["", ""])[1]);
+    return command && !this.stops.opened ? command.name : "";
+  }
+
+  /** @param {string} line */
+  async act(line) {
+    const [, word, rest] = /** @type {string[]} */ (COMMAND.exec(line));
+    const { command, words } = commandOf(word);
+    await this.acts[command ? command.name : refuse(words)](rest.trim());
+  }
+
+  /** Runs the commands of the breakpoint that has stopped. Those after one that moves are left out: the next stop may have its own. */
+  async runCommands() {
+    let stops = 0;
+    for (let { commands } = this.atStop; commands.length > 0 && !this.isInterrupted; { commands } = this.atStop) {
+      for (const line of commands) {
+        if (!(await this.takeAlone(line))) return false;
+        if (this.atStop.hasMoved || this.isEnded) break;
+      }
+      stops += 1;
+      if (!this.atStop.hasMoved || (!this.calls.isByHand && stops === MOST_STOPS)) break;
+      await this.turn();
+    }
+    this.atStop = NO_COMMANDS;
+    return true;
   }
 
   /**
@@ -137,11 +204,13 @@ export class Prompt {
    * @param {() => void} act
    */
   async moved(act) {
-    this.begun = this.session.debugger.session.count.total;
     act();
     await this.machine.move;
     const words = this.ended.words.replace(say.PAGE_REMEMBERS, say.SESSION_REMEMBERS);
-    return words.startsWith(say.NOTHING_DONE) ? refuse(words) : words;
+    if (words.startsWith(say.NOTHING_DONE)) refuse(words);
+    const reached = await this.stops.reached();
+    this.atStop = { ...reached, hasMoved: true };
+    return reached.words ? `${words} ${reached.words}` : words;
   }
 
   /**
@@ -158,9 +227,10 @@ export class Prompt {
    * @param {string} words
    */
   tellStop(words) {
+    this.looks.listed = 0;
+    if (this.atStop.isSilent) return;
     if (words) this.calls.print(words);
     this.calls.print(hereLine(this.session));
-    this.looks.listed = 0;
     this.looks.tellDisplays();
   }
 
@@ -177,29 +247,52 @@ export class Prompt {
     return this.session.values([place.name])[0] === "" ? refuse(boardHasNo(place.name)) : place.name;
   }
 
+  /** What stands before a line that is typed. */
+  get label() {
+    return this.stops.opened ? "> " : "(mcs4) ";
+  }
+
+  /** Stops what runs; false if nothing does. */
+  interrupt() {
+    const { isMoving } = this.machine;
+    this.isInterrupted = true;
+    if (isMoving) this.machine.pause();
+    return isMoving;
+  }
+
+  /** Drops the commands of a breakpoint that are being typed; returns words of that. */
+  drop() {
+    return this.stops.drop();
+  }
+
   // --- completion ---
 
   /**
    * What a line can go on with: words, and the part of the line that they take the place of.
    * @param {string} line
-   * @returns {[string[], string]}
+   * @returns {Promise<[string[], string]>}
    */
-  complete(line) {
+  async complete(line) {
     const [, first] = /^\s*(\S*)$/.exec(line) || [];
     if (first !== undefined) return [COMMANDS.map(({ name }) => `${name} `).filter((name) => name.startsWith(first)), first];
-    const [word] = /** @type {string[]} */ (/[\w@.+~*/-]*$/.exec(line));
     const { command } = commandOf((/^\s*([a-zA-Z-]+)/.exec(line) || ["", ""])[1]);
-    const all = this.wordsFor(command ? command.name : "");
+    const name = command ? command.name : "";
+    const file = FILE_AFTER[name] ? FILE_AFTER[name].exec(line) : null;
+    if (file) return [this.calls.files(file[1]), file[1]];
+    const [word] = /** @type {string[]} */ (/[\w@.+~*/-]*$/.exec(line));
+    const all = this.wordsFor(name);
     return [all.filter((each) => each.toLowerCase().startsWith(word.toLowerCase())), word];
   }
 
   /** @param {string} command */
   wordsFor(command) {
     if (command === "info") return INFOS;
+    if (command === "save") return ["breakpoints"];
     if (command === "help") return COMMANDS.map(({ name }) => name);
     if (/^(press|hold|release)$/.test(command)) return this.keys.names;
+    if (/^(condition|ignore|commands|enable|disable)$/.test(command)) return this.session.breakpoints.all.map(({ id }) => String(id));
     const names = [...this.session.map.names.keys()];
-    if (/^(break|until|list|x)$/.test(command)) return names;
-    return [...names, "acc", "cy", "dcl", "lamps", "display", ...this.face.lampNumbers.keys()];
+    if (/^(list|x)$/.test(command)) return names;
+    return [...new Set([...names, ...PLACE_WORDS, "display", ...this.face.lampNumbers.keys(), ...WORDS])];
   }
 }

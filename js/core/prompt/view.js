@@ -6,8 +6,9 @@
 
 import { upTo } from "../bench/numbers.js";
 import { Standing } from "../debug/standing.js";
+import { escaped } from "../text/escaped.js";
 import { wordsOfCycles } from "../time/cycles.js";
-import { codeLines, linesOfSource, sourceLine } from "./looks.js";
+import { codeLines, keysDown, linesOfSource, sourceLine } from "./looks.js";
 import * as say from "../../words/prompt.js";
 
 /**
@@ -47,7 +48,7 @@ export function sizeOf(rows, columns) {
  * @param {number} length
  */
 function cut(text, length) {
-  const shown = [...text].map((each) => (each < " " || each >= "\x7f" && each <= "\x9f" ? "?" : each));
+  const shown = [...escaped(text).replace(/[\t\n]/g, " ")];
   return shown.length > length ? `${shown.slice(0, length - 2).join("")}..` : shown.join("");
 }
 
@@ -148,10 +149,10 @@ export class View {
   /** @param {number} columns */
   boardLines(columns) {
     const { machine, session, looks } = this.prompt;
-    const [keys = ""] = session.debugger.session.ask("ports\n").filter((line) => line.startsWith("keys ") && line !== "keys -");
+    const keys = keysDown(session).join(" ");
     const shown = machine.shown.now();
     const displays = looks.displays.slice(0, MOST_DISPLAYS).map((what) => `${what} = ${looks.valueOrFault(what)}`);
-    return [shown, keys && say.down(keys.slice("keys ".length)), ...displays].filter(Boolean).map((line) => cut(line, columns));
+    return [shown, keys && say.down(keys), ...displays].filter(Boolean).map((line) => cut(line, columns));
   }
 }
 

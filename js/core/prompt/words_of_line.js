@@ -1,8 +1,9 @@
 // What stands behind a command: places in the program, counts, times.
 
 import { LAST_ADDRESS, hex, numberOf } from "../bench/numbers.js";
-import { wholeDuration } from "../debug/durations.js";
+import { wholeDuration } from "../conditions/durations.js";
 import { instructionOfAddress, instructionOfLine } from "../debug/breakpoints.js";
+import { askedOf } from "../debug/becoming.js";
 import { ADDRESS_RANGE } from "../../words/adapter.js";
 import * as say from "../../words/prompt.js";
 
@@ -79,4 +80,16 @@ export function cyclesIn(text) {
 /** @param {number} address */
 export function addressTold(address) {
   return `0x${hex(address, 3)}`;
+}
+
+/**
+ * The condition that a text is; "" for a place in the program: a line, an address, a label.
+ * @param {string} text
+ * @param {DebugSession} session
+ */
+export function conditionIn(text, session) {
+  const isPlace = /^\d+$/.test(text) || /^[^\s:]*\.[A-Za-z0-9]+:/.test(text) || addressIn(text, session) !== undefined;
+  if (isPlace || !/[\s=<>!]/.test(text)) return "";
+  const { asked, fault } = askedOf(text, session.names);
+  return asked ? text : refuse(fault);
 }

@@ -5,10 +5,12 @@ import { AllFaultsOfTexts, faultsOfFace } from "../text/all_faults.js";
 import { wordAt } from "../text/assembly.js";
 import { readBoardText } from "../text/board_reader.js";
 import { completeBoard } from "../text/board_completion.js";
+import { PARTS } from "../text/folding.js";
 import { commentAt } from "../text/text_fault.js";
 import { helpForBoard } from "../text/text_help.js";
 import { tomlWords } from "../text/toml_words.js";
 import { BoardReferences } from "./board_references.js";
+import { asMarkdown } from "./markdown.js";
 import { REQUEST_FAILED, ProtocolError, rangeOf } from "./protocol.js";
 import * as say from "../../words/server.js";
 
@@ -30,6 +32,7 @@ export class BoardLanguage {
    * @param {(number: number) => string} wordsOf gives the words of a refusal
    */
   constructor(bench, tables, wordsOf) {
+    this.parts = PARTS.board;
     this.tables = tables;
     this.all = new AllFaultsOfTexts({
       refuse: async (_, part) => bench.refuseBoard(part),
@@ -56,11 +59,11 @@ export class BoardLanguage {
     if (character > commentAt(lines[line], "#")) return null;
     const words = helpForBoard(lines, line, character, this.tables);
     const word = wordAt(lines[line], character);
-    if (words && word) return { words, range: rangeOf(line + 1, word.from, word.to) };
+    if (words && word) return { words, markdown: asMarkdown(words), range: rangeOf(line + 1, word.from, word.to) };
     const references = new BoardReferences(text);
     const value = references.valueAt(line + 1, character);
     const told = value ? references.wordsOf(value, new Face(text)) : "";
-    return value && told ? { words: told, range: rangeOf(value.line, value.from, value.to) } : null;
+    return value && told ? { words: told, markdown: asMarkdown(told), range: rangeOf(value.line, value.from, value.to) } : null;
   }
 
   /**
@@ -90,10 +93,6 @@ export class BoardLanguage {
     return [...(withDefinition ? [part] : []), ...found].map((each) => rangeOf(each.line, each.from, each.to));
   }
 
-  renamed() {
-    return null;
-  }
-
   /** @returns {import("./protocol.js").TextEdit[]} */
   rename() {
     throw new ProtocolError(REQUEST_FAILED, say.NO_BOARD_NAMES);
@@ -102,8 +101,12 @@ export class BoardLanguage {
   /**
    * @param {OpenText} open
    * @param {Position} position
+   * @param {string} trigger
    */
-  completion({ lines }, { line, character }) {
+  completion({ lines }, { line, character }, trigger) {
+    // An editor that asks by itself after a blank is answered only where a value begins.
+    const begun = lines[line].slice(Math.max(0, character - 9), character);
+    if (trigger === " " && !/=[ \t]*$/.test(begun)) return { from: character, to: character, list: [] };
     const found = completeBoard(lines, line, character, this.tables);
     return { ...found, list: found.list.map((each) => ({ ...each, kind: OF_PROPERTY })) };
   }
@@ -115,12 +118,12 @@ export class BoardLanguage {
   symbols({ lines, text }) {
     const { entries, lamps, nameOf } = new BoardReferences(text);
     const face = new Face(text);
-    return entries.map((entry, at) => {
+    return entries.map((entry) => {
       const told = face.lamps.get(lamps.indexOf(entry));
       const last = entry.keys.reduce((most, { line, value }) => Math.max(most, line, value.line), entry.line);
       const range = { start: rangeOf(entry.line, entry.from, 0).start, end: rangeOf(last, 0, lines[last - 1].length).end };
       const selectionRange = rangeOf(entry.line, entry.from, entry.to);
-      return { name: nameOf(entry, at), kind: OBJECT, detail: told ? told.text : "", range, selectionRange };
+      return { name: nameOf(entry), kind: OBJECT, detail: told ? told.text : "", range, selectionRange };
     });
   }
 

@@ -35,6 +35,20 @@ export class BoardReferences {
       const inner = Array.isArray(value.inner) ? value.inner : [value];
       return inner.map((each) => ({ ...each, key: name, entry }));
     }));
+    /** @type {Map<Entry, number>} how many tables of the same name are before each */
+    this.numbers = new Map();
+    /** @type {Map<string, Entry>} the first table of each chip, by `rom 3`, `ram 0` */
+    this.chips = new Map();
+    /** @type {Map<string, number>} */
+    const counts = new Map();
+    for (const entry of entries) {
+      const { table } = entry;
+      const before = counts.get(table) || 0;
+      const chip = `${table} ${valueOf(entry, NUMBERS[table])}`;
+      this.numbers.set(entry, before);
+      counts.set(table, before + 1);
+      if (!this.chips.has(chip)) this.chips.set(chip, entry);
+    }
     this.nameOf = this.nameOf.bind(this);
   }
 
@@ -58,7 +72,7 @@ export class BoardReferences {
     if (!found || key === "port") return null;
     const [, kind, number] = found;
     if (kind === "chain") return this.chains[Number(number)] || null;
-    return this.entries.find((each) => each.table === kind && valueOf(each, NUMBERS[kind]) === Number(number)) || null;
+    return this.chips.get(`${kind} ${Number(number)}`) || null;
   }
 
   /**
@@ -73,14 +87,13 @@ export class BoardReferences {
   /**
    * What a part is called: by its number.
    * @param {Entry} entry
-   * @param {number} at
    */
-  nameOf(entry, at) {
+  nameOf(entry) {
     const kind = entry.table.replace(/[[\]]/g, "");
     const number = NUMBERS[kind] && valueOf(entry, NUMBERS[kind]);
     if (number !== undefined) return `${kind} ${kind === "ram" ? "bank " : ""}${number}`;
     if (entry.table === "[keys]") return "keys";
-    return `${kind} ${this.entries.slice(0, at).filter(({ table }) => table === entry.table).length}`;
+    return `${kind} ${this.numbers.get(entry)}`;
   }
 
   /**

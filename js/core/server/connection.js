@@ -1,6 +1,6 @@
 // Requests, answers and notifications over a stream, in the order of the protocol: first `initialize`, last `shutdown` and `exit`.
 
-import { MessageReader, fieldOf, framed } from "./framing.js";
+import { MessageReader, StreamLost, fieldOf, framed } from "./framing.js";
 import { CANCELLED, INTERNAL_ERROR, INVALID_REQUEST, METHOD_NOT_FOUND, NOT_INITIALIZED, PARSE_ERROR, ProtocolError } from "./protocol.js";
 import { IT_WAS_CANCELLED } from "../../words/bench.js";
 import * as say from "../../words/server.js";
@@ -13,7 +13,9 @@ import * as say from "../../words/server.js";
  * @typedef {{ requests: Record<string, Act>, notifications: Record<string, Act> }} Served
  */
 
+/** Kinds of messages that are shown. */
 const ERROR = 1;
+const INFORMATION = 3;
 
 /** @param {any} id */
 function isId(id) {
@@ -35,14 +37,34 @@ export class Connection {
     this.state = "new";
     /** @type {Set<Id>} requests that are not answered yet */
     this.waiting = new Set();
+    /** How often something was asked of the client. */
+    this.asked = 0;
   }
 
-  /** @param {Uint8Array} bytes */
+  /**
+   * Takes bytes of the stream. It throws a StreamLost if no message can follow, after the client has got the error.
+   * @param {Uint8Array} bytes
+   */
   take(bytes) {
-    for (const received of this.reader.take(bytes)) {
-      if ("text" in received) this.takeText(received.text);
-      else this.refuse(null, new ProtocolError(INVALID_REQUEST, say.messageTooLong(received.tooLong)));
+    try {
+      for (const received of this.reader.take(bytes)) {
+        if ("text" in received) this.takeText(received.text);
+        else this.refuse(null, new ProtocolError(INVALID_REQUEST, say.messageTooLong(received.tooLong)));
+      }
+    } catch (thrown) {
+      if (thrown instanceof StreamLost) this.refuse(null, new ProtocolError(INVALID_REQUEST, thrown.message));
+      throw thrown;
     }
+  }
+
+  /**
+   * Reports that the rest of a message does not come; returns the words, "" if none has begun.
+   * @returns {string}
+   */
+  refuseIncomplete() {
+    const { incomplete } = this.reader;
+    if (incomplete !== "") this.refuse(null, new ProtocolError(INVALID_REQUEST, incomplete));
+    return incomplete;
   }
 
   /** @param {string} text */
@@ -55,7 +77,7 @@ export class Connection {
       return;
     }
     const [id, method] = [fieldOf(message, "id"), fieldOf(message, "method")];
-    // An answer to something: nothing is ever asked of the client.
+    // An answer to what was asked of the client: nothing hangs on it.
     if (method === undefined && isId(id) && ("result" in message || "error" in message)) return;
     if (typeof method !== "string" || fieldOf(message, "jsonrpc") !== "2.0" || !(id === undefined || isId(id))) {
       const words = say.MESSAGE_FORM;
@@ -88,10 +110,11 @@ export class Connection {
       return;
     }
     this.waiting.add(id);
+    // What comes in the same chunk is served in its order, so the state changes before anything is awaited.
+    if (method === "initialize") this.state = "open";
+    if (method === "shutdown") this.state = "shut";
     try {
       const result = await act(params);
-      if (method === "initialize") this.state = "open";
-      if (method === "shutdown") this.state = "shut";
       if (this.waiting.delete(id)) this.send({ id, result: result === undefined ? null : result });
     } catch (thrown) {
       if (this.waiting.delete(id)) this.refuse(id, thrown);
@@ -104,6 +127,8 @@ export class Connection {
    */
   async notified(method, params) {
     if (method === "exit") {
+      // The answer to a shutdown that came in the same chunk is written first.
+      if (this.waiting.size > 0) await null;
       this.end(this.state === "shut" ? 0 : 1);
       return;
     }
@@ -127,6 +152,24 @@ export class Connection {
    */
   tell(words) {
     this.notify("window/logMessage", { type: ERROR, message: words });
+  }
+
+  /**
+   * Shows words to the user.
+   * @param {string} message
+   * @param {boolean} isError
+   */
+  show(message, isError) {
+    this.notify("window/showMessage", { type: isError ? ERROR : INFORMATION, message });
+  }
+
+  /**
+   * Asks the client to do something; its answer says no more than that it was asked.
+   * @param {string} method
+   */
+  ask(method) {
+    this.asked += 1;
+    this.send({ id: `mcs4 ${this.asked}`, method });
   }
 
   /**

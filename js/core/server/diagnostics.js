@@ -8,6 +8,9 @@ import * as say from "../../words/server.js";
 /**
  * @typedef {import("../text/text_fault.js").Fault} Fault
  * @typedef {import("./protocol.js").Range} Range
+ *
+ * A fault of any text; without a number it is a warning if it is not said to be an error.
+ * @typedef {Fault & { isError?: boolean }} ShownFault
  * @typedef {{ range: Range, severity: number, code?: number, source: string, message: string }} Diagnostic
  */
 
@@ -18,16 +21,16 @@ const SOURCE = "mcs4";
 
 /**
  * A fault without a number does not hinder anything in the board's text: what is not understood of its face.
- * @param {Fault} fault
+ * @param {ShownFault} fault
  * @returns {Diagnostic}
  */
-export function diagnosticOf({ number, line, from, to, words }) {
-  const told = { range: rangeOf(line, from, to), source: SOURCE, message: words };
-  return number > 0 ? { ...told, severity: ERROR, code: number } : { ...told, severity: WARNING };
+export function diagnosticOf({ number, line, from, to, words, isError = number > 0 }) {
+  const told = { range: rangeOf(line, from, to), source: SOURCE, message: words, severity: isError ? ERROR : WARNING };
+  return number > 0 ? { ...told, code: number } : told;
 }
 
 /**
- * @param {Fault[]} faults
+ * @param {ShownFault[]} faults
  * @param {boolean} areAll
  * @returns {Diagnostic[]}
  */

@@ -2,8 +2,9 @@
 
 import * as say from "../../words/server.js";
 
-/** Longer messages are not read. */
+/** Longer messages are not read, and still longer ones are not waited for. */
 export const LONGEST_MESSAGE = 16777216;
+export const LONGEST_SKIPPED = 16 * LONGEST_MESSAGE;
 const LONGEST_HEAD = 4096;
 const SIZE = /^content-length[ \t]*:[ \t]*(\d{1,12})[ \t]*$/i;
 
@@ -19,7 +20,9 @@ export class StreamLost extends Error {}
 function sizeIn(head) {
   const sizes = head.split("\r\n").map((line) => SIZE.exec(line)).filter((each) => each !== null);
   if (sizes.length !== 1) throw new StreamLost(say.HEAD_FORM);
-  return Number(/** @type {RegExpExecArray} */ (sizes[0])[1]);
+  const size = Number(/** @type {RegExpExecArray} */ (sizes[0])[1]);
+  if (size > LONGEST_SKIPPED) throw new StreamLost(say.sizeTooLarge(size, LONGEST_SKIPPED));
+  return size;
 }
 
 export class MessageReader {
@@ -33,14 +36,18 @@ export class MessageReader {
     this.size = 0;
   }
 
+  /** What is missing of a message that has begun, in words; "" between messages. */
+  get incomplete() {
+    if (this.lacking > 0) return say.messageIncomplete(this.size - this.lacking, this.size);
+    return this.head === "" ? "" : say.HEAD_INCOMPLETE;
+  }
+
   /**
-   * The messages that are whole by these bytes.
+   * Yields the messages that are whole by these bytes: those before bytes that are not of the protocol, too.
    * @param {Uint8Array} bytes
-   * @returns {Received[]}
+   * @returns {Generator<Received, void>}
    */
-  take(bytes) {
-    /** @type {Received[]} */
-    const received = [];
+  * take(bytes) {
     for (let at = 0; at < bytes.length;) {
       if (this.lacking < 0) at = this.takeHead(bytes, at);
       const count = Math.min(Math.max(this.lacking, 0), bytes.length - at);
@@ -48,9 +55,8 @@ export class MessageReader {
       at += count;
       if (this.lacking < 0) break;
       this.lacking -= count;
-      if (this.lacking === 0) received.push(this.end());
+      if (this.lacking === 0) yield this.end();
     }
-    return received;
   }
 
   /**

@@ -1,6 +1,6 @@
 // Which texts are programs, which are boards, and which are project files; and which board a program is for.
 
-import { PROJECT_FILE, filesNamed, readProjectToml } from "../project/project_toml.js";
+import { LONGEST_PROJECT_FILE, PROJECT_FILE, filesNamed, readProjectToml } from "../project/project_toml.js";
 import { readBoardText } from "../text/board_reader.js";
 import { LONGEST_KEPT } from "../text/text_fault.js";
 import * as say from "../../words/server.js";
@@ -8,11 +8,23 @@ import * as say from "../../words/server.js";
 /**
  * @typedef {import("./open_text.js").OpenText} OpenText
  * @typedef {import("../text/text_fault.js").Fault} Fault
- * @typedef {(uri: string) => string | null} TextOf the text of a file by its address, null where there is none
+ *
+ * Returns the text of a file by its address; null if it cannot be read, or leads out of the folder of the project that names it ("" for
+ * none).
+ * @typedef {(uri: string, folder: string) => string | null} TextOf
+ *
+ * @typedef {{ folder: string, board: string, program: string, tests: string[], properties: string[] }} Project the addresses of what a
+ *   project names
+ * @typedef {Omit<Project, "properties">} Beside
+ * @typedef {{ uri: string, folder: string }} NamedBoard a board's address, and the folder of the project that names it, "" for none
  */
 
+const TESTS = /\.test$/i;
+const PROPERTIES = /\.props$/i;
 const OTHERS = /\.(test|props|txt|mcsp|mcs|md|json|toml|[ch])$/i;
 const TOML = /\.toml$/i;
+/** Texts that are surely the board of none. */
+export const NO_BOARD = /\.(asm|test|props)$/i;
 const TABLES = ["rom", "ram", "chain", "lamp"];
 
 /** So many folders above a program are looked at for its project. */
@@ -23,18 +35,29 @@ const MOST_FOLDERS = 8;
  * @param {string} folder
  * @param {string} path
  */
-function within(folder, path) {
+export function within(folder, path) {
   return folder + path.split("/").map(encodeURIComponent).join("/");
 }
 
 /** @param {string} uri */
-function folderOf(uri) {
+export function folderOf(uri) {
   return uri.replace(/[^/]*$/, "");
 }
 
 /** @param {string} uri */
 export function isProjectFile(uri) {
   return uri.endsWith(`/${PROJECT_FILE}`);
+}
+
+/**
+ * Reads a project file; one that is too long is not looked at.
+ * @param {string} text
+ * @returns {ReturnType<typeof readProjectToml>}
+ */
+export function readProject(text) {
+  const { length } = text;
+  if (length <= LONGEST_PROJECT_FILE) return readProjectToml(text);
+  return { names: null, faults: [{ number: 0, line: 1, from: 0, to: 0, words: say.tooLong(length, LONGEST_PROJECT_FILE) }] };
 }
 
 /**
@@ -45,27 +68,71 @@ export function isProjectFile(uri) {
  * @returns {Fault[]}
  */
 export function faultsOfProject(uri, text, textOf) {
-  const { names, faults } = readProjectToml(text);
+  const { names, faults } = readProject(text);
   if (!names) return faults;
-  return filesNamed(names).filter(({ path }) => textOf(within(folderOf(uri), path)) === null).map(({ path, key, line, from, to }) => (
+  const folder = folderOf(uri);
+  return filesNamed(names).filter(({ path }) => textOf(within(folder, path), folder) === null).map(({ path, key, line, from, to }) => (
     { number: 0, line, from, to, words: say.noFile(key, path) }));
 }
 
 /**
- * The address of the board that a program is for: the one that a project file names, in the program's folder or one above it; else
- * `board.toml` in the program's folder.
+ * Finds the project of a text: by the project file in its folder, or in one above it; null if there is none, or it is wrong.
  * @param {string} uri
  * @param {TextOf} textOf
+ * @returns {Project | null}
  */
-export function boardUriOf(uri, textOf) {
+export function projectFor(uri, textOf) {
   let folder = folderOf(uri);
   for (let left = MOST_FOLDERS; left > 0 && folder.split("/").length > 4; left--) {
-    const text = textOf(folder + PROJECT_FILE);
-    const { names } = text === null ? { names: null } : readProjectToml(text);
-    if (names) return within(folder, names.board.path);
+    const project = projectIn(folder, textOf);
+    if (project) return project;
     folder = folderOf(folder.slice(0, -1));
   }
-  return within(folderOf(uri), "board.toml");
+  return null;
+}
+
+/**
+ * Returns the project of a folder; null if it has no project file, or a wrong one.
+ * @param {string} folder its address, which ends with `/`
+ * @param {TextOf} textOf
+ * @returns {Project | null}
+ */
+export function projectIn(folder, textOf) {
+  const text = textOf(folder + PROJECT_FILE, "");
+  const { names } = text === null ? { names: null } : readProject(text);
+  if (!names) return null;
+  const uriOf = (/** @type {{ path: string }} */ { path }) => within(folder, path);
+  const [tests, properties] = [names.tests.map(uriOf), names.properties.map(uriOf)];
+  return { folder, board: uriOf(names.board), program: uriOf(names.program), tests, properties };
+}
+
+/**
+ * Finds the board that a program is for: the one that its project names; else `board.toml` in its folder.
+ * @param {string} uri
+ * @param {TextOf} textOf
+ * @returns {NamedBoard}
+ */
+export function boardFor(uri, textOf) {
+  const project = projectFor(uri, textOf);
+  return project ? { uri: project.board, folder: project.folder } : { uri: within(folderOf(uri), "board.toml"), folder: "" };
+}
+
+/**
+ * Finds what a text of tests or properties is about: the board and the program of its project; else `board.toml` in its folder, and the
+ * program there that is called as it is. The texts of tests are those of the project up to this one.
+ * @param {string} uri
+ * @param {TextOf} textOf
+ * @returns {Beside}
+ */
+export function besideOf(uri, textOf) {
+  const project = projectFor(uri, textOf);
+  if (!project) {
+    const folder = folderOf(uri);
+    return { folder: "", board: within(folder, "board.toml"), program: uri.replace(/\.[^./]*$/, ".asm"), tests: [uri] };
+  }
+  const { folder, board, program, tests } = project;
+  const place = tests.indexOf(uri);
+  return { folder, board, program, tests: place < 0 ? [uri] : tests.slice(0, place + 1) };
 }
 
 /**
@@ -85,4 +152,20 @@ export function isBoard({ uri, language, text }) {
  */
 export function isProgram({ uri, language }) {
   return language !== "toml" && !OTHERS.test(uri);
+}
+
+/**
+ * Whether a text is one of tests.
+ * @param {OpenText} open
+ */
+export function isTests({ uri, language }) {
+  return language === "mcs4-test" || TESTS.test(uri);
+}
+
+/**
+ * Whether a text is one of properties.
+ * @param {OpenText} open
+ */
+export function isProperties({ uri, language }) {
+  return language === "mcs4-props" || PROPERTIES.test(uri);
 }

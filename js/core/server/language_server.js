@@ -1,51 +1,43 @@
 // The language server for programs and boards: the texts that are open, what is asked of them, and their faults, which are told after each
 // edit.
 
-import { instructionsOf } from "../help/manual.js";
 import { boardTables } from "../text/text_help.js";
 import { Words } from "../bench/words.js";
 import { BoardLanguage } from "./board_language.js";
-import { cures, diagnosticsOf, faultOfLength } from "./diagnostics.js";
+import { clientOf } from "./capabilities.js";
+import { diagnosticsOf, faultOfLength } from "./diagnostics.js";
 import { fieldOf } from "./framing.js";
-import { boardUriOf, faultsOfProject, isBoard, isProgram, isProjectFile } from "./kinds.js";
+import { NO_BOARD, besideOf, boardFor, isBoard, isProgram, isProjectFile, isProperties, isTests, projectFor, projectIn } from "./kinds.js";
 import { OpenText } from "./open_text.js";
 import { ProgramLanguage } from "./program_language.js";
-import { INVALID_PARAMS, ProtocolError, needPosition, needRange, needText } from "./protocol.js";
+import { ProjectLanguage } from "./project_language.js";
+import { PropertyLanguage } from "./property_language.js";
+import { INVALID_PARAMS, ProtocolError, needRange, needText } from "./protocol.js";
+import { Requests } from "./requests.js";
+import { TestLanguage } from "./test_language.js";
+import { TestRuns } from "./test_runs.js";
 import { TextBench } from "./text_bench.js";
-import { MODIFIERS, TYPES, tokenCodes } from "./token_codes.js";
 import * as say from "../../words/server.js";
 
 /**
- * @typedef {import("../text/text_fault.js").Fault} Fault
+ * @typedef {import("./capabilities.js").Client} Client
  * @typedef {import("./connection.js").Act} Act
  * @typedef {import("./connection.js").Connection} Connection
+ * @typedef {import("./diagnostics.js").Diagnostic} Diagnostic
+ * @typedef {import("./diagnostics.js").ShownFault} ShownFault
+ * @typedef {import("./language.js").Language} Language
  *
- * What the host gives: the text of a file by its address, null where there is none; and a turn for others.
- * @typedef {{ readFile: (uri: string) => string | null, pause: () => Promise<void> }} Host
+ * What the host gives: texts of files, and a turn for others.
+ * @typedef {{ readFile: import("./kinds.js").TextOf, pause: () => Promise<void> }} Host
  *
- * A text with its faults: at how many edits they were found, and the look that is under way.
- * @typedef {{ open: OpenText, faults: Fault[], lookedAt: number, looking: Promise<void> }} Looked
+ * A text with its faults, as they are and as they are shown: at how many edits they were found, and the look that is under way.
+ * @typedef {{ open: OpenText, faults: ShownFault[], diagnostics: Diagnostic[], lookedAt: number, looking: Promise<void> }} Looked
  */
-
-const INCREMENTAL = 2;
-const CAPABILITIES = {
-  positionEncoding: "utf-16",
-  textDocumentSync: { openClose: true, change: INCREMENTAL },
-  hoverProvider: true,
-  definitionProvider: true,
-  referencesProvider: true,
-  documentHighlightProvider: true,
-  renameProvider: { prepareProvider: true },
-  documentSymbolProvider: true,
-  completionProvider: {},
-  codeActionProvider: { codeActionKinds: ["quickfix"] },
-  semanticTokensProvider: { legend: { tokenTypes: TYPES, tokenModifiers: MODIFIERS }, full: true },
-};
 
 export class LanguageServer {
   /**
    * @param {Connection} connection
-   * @param {import("../engine/engine.js").Engine} engine
+   * @param {import("../engine/engine_host.js").EngineHost} engine
    * @param {{ refusals: Record<string, string>, manual: import("../help/manual.js").ManualSection[] }} data of the page
    * @param {Host} host
    */
@@ -57,28 +49,17 @@ export class LanguageServer {
     const words = new Words(refusals);
     const wordsOf = (/** @type {number} */ number) => words.ofRefusal(number);
     const bench = new TextBench(engine);
-    this.program = new ProgramLanguage(bench, instructionsOf(manual), wordsOf, (uri) => this.textOf(this.boardUriOf(uri)), host.pause);
+    const textOf = (/** @type {string} */ uri, /** @type {string} */ folder) => this.textOf(uri, folder);
+    const beside = (/** @type {string} */ uri) => this.besideOf(uri);
+    this.program = new ProgramLanguage(bench, manual, wordsOf, (uri) => this.boardOf(uri), host.pause);
     this.board = new BoardLanguage(bench, boardTables(manual), wordsOf);
-    connection.served = { requests: this.requests(), notifications: this.notifications() };
-  }
-
-  /** @returns {Record<string, Act>} */
-  requests() {
-    return {
-      "initialize": () => ({ capabilities: CAPABILITIES, serverInfo: { name: "mcs4 lsp" } }),
-      "shutdown": () => null,
-      "textDocument/hover": (params) => this.hover(params),
-      "textDocument/definition": (params) => this.definition(params),
-      "textDocument/references": (params) => this.references(params),
-      "textDocument/documentHighlight": (params) => this.at(params, (language, open, position) => (
-        language.references(open, position, true).map((range) => ({ range })))),
-      "textDocument/prepareRename": (params) => this.at(params, (language, open, position) => language.renamed(open, position)),
-      "textDocument/rename": (params) => this.rename(params),
-      "textDocument/documentSymbol": (params) => this.of(params, (language, open) => language.symbols(open)),
-      "textDocument/completion": (params) => this.completion(params),
-      "textDocument/codeAction": (params) => this.codeAction(params),
-      "textDocument/semanticTokens/full": (params) => this.of(params, (language, open) => ({ data: tokenCodes(language.colours(open)) })),
-    };
+    this.tests = new TestLanguage(engine, manual, beside);
+    this.properties = new PropertyLanguage(engine, manual, beside, textOf);
+    this.project = new ProjectLanguage(textOf);
+    this.runs = new TestRuns(engine, wordsOf, beside, host.pause);
+    /** @type {Client} until it says what it can, it can nothing */
+    this.client = clientOf({});
+    connection.served = { requests: new Requests(this).table(), notifications: this.notifications() };
   }
 
   /** @returns {Record<string, Act>} */
@@ -87,7 +68,7 @@ export class LanguageServer {
       "textDocument/didOpen": (params) => this.opened(fieldOf(params, "textDocument")),
       "textDocument/didChange": (params) => this.changed(params),
       "textDocument/didClose": (params) => this.closed(params),
-      "workspace/didChangeWatchedFiles": () => this.lookAtPrograms(() => true),
+      "workspace/didChangeWatchedFiles": () => this.lookAtOthers(() => true),
     };
   }
 
@@ -107,20 +88,57 @@ export class LanguageServer {
   /**
    * A text as it is in the editor, or else in its file.
    * @param {string} uri
+   * @param {string} folder of the project that names it, "" for none
    */
-  textOf(uri) {
+  textOf(uri, folder) {
     const text = this.texts.get(uri);
-    return text ? text.open.text : this.host.readFile(uri);
+    return text ? text.open.text : this.host.readFile(uri, folder);
   }
 
   /**
    * What a text is written in; null where it is nothing that is known here, or is too long.
    * @param {OpenText} open
+   * @returns {Language | null}
    */
   languageOf(open) {
     if (faultOfLength(open)) return null;
+    if (isProjectFile(open.uri)) return this.project;
     if (isBoard(open)) return this.board;
+    if (isTests(open)) return this.tests;
+    if (isProperties(open)) return this.properties;
     return isProgram(open) ? this.program : null;
+  }
+
+  /**
+   * The texts that a text of tests or properties stands beside.
+   * @param {string} uri
+   * @returns {import("./beside_language.js").BesideTexts}
+   */
+  besideOf(uri) {
+    const { folder, board, program, tests } = besideOf(uri, (each, inside) => this.textOf(each, inside));
+    const named = (/** @type {string} */ each) => ({ uri: each, text: this.textOf(each, folder) });
+    return { board: named(board), program: named(program), tests: tests.map(named) };
+  }
+
+  /**
+   * The texts that are open, and those that their projects name, and projects of the folders that the client has open.
+   * @returns {OpenText[]}
+   */
+  allTexts() {
+    const textOf = (/** @type {string} */ uri, /** @type {string} */ folder) => this.textOf(uri, folder);
+    const found = new Map([...this.texts].map(([uri, { open }]) => [uri, open]));
+    const projects = [
+      ...this.client.folders.map((uri) => projectIn(`${uri.replace(/\/$/, "")}/`, textOf)),
+      ...[...this.texts.keys()].map((uri) => projectFor(uri, textOf)),
+    ];
+    for (const project of projects) {
+      if (!project) continue;
+      for (const uri of [project.program, project.board, ...project.tests, ...project.properties]) {
+        const text = found.has(uri) ? null : textOf(uri, project.folder);
+        if (text !== null) found.set(uri, new OpenText(uri, "", text, null));
+      }
+    }
+    return [...found.values()];
   }
 
   /** @param {any} given */
@@ -128,7 +146,7 @@ export class LanguageServer {
     const uri = needText(fieldOf(given, "uri"), "textDocument.uri");
     const text = needText(fieldOf(given, "text"), "textDocument.text");
     const open = new OpenText(uri, String(fieldOf(given, "languageId")), text, fieldOf(given, "version"));
-    const looked = { open, faults: [], lookedAt: -1, looking: Promise.resolve() };
+    const looked = { open, faults: [], diagnostics: [], lookedAt: -1, looking: Promise.resolve() };
     this.texts.set(uri, looked);
     this.touched(looked);
   }
@@ -152,35 +170,65 @@ export class LanguageServer {
   closed(params) {
     const { open } = this.textIn(params);
     this.texts.delete(open.uri);
-    this.connection.notify("textDocument/publishDiagnostics", { uri: open.uri, diagnostics: [] });
-    this.lookAtPrograms((uri) => isProjectFile(open.uri) || this.boardUriOf(uri) === open.uri);
+    if (!this.client.pulls) this.connection.notify("textDocument/publishDiagnostics", { uri: open.uri, diagnostics: [] });
+    this.lookAtOthers((uri) => this.isBeside(open.uri, uri));
   }
 
   /** @param {string} uri of a program */
-  boardUriOf(uri) {
-    return boardUriOf(uri, (each) => this.textOf(each));
+  boardFor(uri) {
+    return boardFor(uri, (each, folder) => this.textOf(each, folder));
+  }
+
+  /** @param {string} program its address */
+  boardOf(program) {
+    const { uri, folder } = this.boardFor(program);
+    return this.textOf(uri, folder);
   }
 
   // --- faults
 
   /**
-   * A text is new or was edited. Programs are tried on their board.
+   * Whether what is said of a text hangs on another one: of a program on its board, of tests on both.
+   * @param {string} uri of the one that changed
+   * @param {string} other
+   */
+  isBeside(uri, other) {
+    if (isProjectFile(uri)) return true;
+    const text = this.texts.get(other);
+    if (!text || uri === other) return false;
+    // Files are looked for only if the answer hangs on them: a program changes nothing in another one.
+    const isOfBoth = isTests(text.open) || isProperties(text.open);
+    if (!isOfBoth) return !NO_BOARD.test(uri) && this.boardFor(other).uri === uri;
+    const { board, program, tests } = besideOf(other, (each, folder) => this.textOf(each, folder));
+    return [board, program, ...tests].includes(uri);
+  }
+
+  /**
+   * A text is new or was edited: others may hang on it.
    * @param {Looked} text
    */
   touched(text) {
     text.looking = this.look(text);
     const { uri } = text.open;
-    this.lookAtPrograms((other) => other !== uri && (isProjectFile(uri) || this.boardUriOf(other) === uri));
+    this.lookAtOthers((other) => this.isBeside(uri, other));
   }
 
   /** @param {(uri: string) => boolean} isMeant */
-  lookAtPrograms(isMeant) {
-    for (const text of this.texts.values()) {
-      if (isProgram(text.open) && isMeant(text.open.uri)) {
-        text.open.edits += 1;
-        text.looking = this.look(text);
-      }
+  lookAtOthers(isMeant) {
+    const meant = [...this.texts.values()].filter(({ open }) => !isBoard(open) && isMeant(open.uri));
+    for (const text of meant) {
+      text.open.edits += 1;
+      text.looking = this.look(text);
     }
+    if (meant.length > 0 && this.client.refreshesDiagnostics) this.connection.ask("workspace/diagnostic/refresh");
+  }
+
+  /**
+   * Waits until a text was looked at as it is: an edit that comes meanwhile is looked at, too.
+   * @param {Looked} text
+   */
+  async untilLookedAt(text) {
+    while (text.lookedAt !== text.open.edits && this.texts.get(text.open.uri) === text) await text.looking;
   }
 
   /** @param {Looked} text */
@@ -194,15 +242,22 @@ export class LanguageServer {
     try {
       const found = await this.faultsOf(open, isWanted);
       if (!found || !isWanted()) return;
-      Object.assign(text, { faults: found.faults, lookedAt: edits });
-      const diagnostics = diagnosticsOf(found.faults, found.areAll);
-      this.connection.notify("textDocument/publishDiagnostics", { uri, version: open.version, diagnostics });
+      Object.assign(text, { faults: found.faults, diagnostics: diagnosticsOf(found.faults, found.areAll), lookedAt: edits });
+      this.publish(text);
       // What a hover asks for is ready then.
-      if (diagnostics.length === 0 && this.languageOf(open) === this.program) this.program.assembled(open);
+      if (found.faults.length === 0 && this.languageOf(open) === this.program) this.program.assembled(open);
     } catch (thrown) {
-      Object.assign(text, { faults: [], lookedAt: edits });
+      Object.assign(text, { faults: [], diagnostics: [], lookedAt: edits });
       this.connection.tell(say.faultsOf(uri, thrown instanceof Error ? thrown.message : String(thrown)));
     }
+  }
+
+  /**
+   * Sends the diagnostics of a text, if the client does not ask for them itself.
+   * @param {Looked} text
+   */
+  publish({ open: { uri, version }, diagnostics }) {
+    if (!this.client.pulls) this.connection.notify("textDocument/publishDiagnostics", { uri, version, diagnostics });
   }
 
   /**
@@ -211,81 +266,29 @@ export class LanguageServer {
    */
   async faultsOf(open, isWanted) {
     const tooLong = faultOfLength(open);
-    if (tooLong) return { faults: isProgram(open) || isBoard(open) ? [tooLong] : [], areAll: true };
-    if (isProjectFile(open.uri)) return { faults: faultsOfProject(open.uri, open.text, (uri) => this.textOf(uri)), areAll: true };
+    const isKnown = isProgram(open) || isBoard(open) || isTests(open) || isProperties(open);
+    if (tooLong) return { faults: isKnown ? [tooLong] : [], areAll: true };
     const language = this.languageOf(open);
     return language ? language.faults(open, isWanted) : { faults: [], areAll: true };
   }
 
-  // --- requests
+  // --- tests
 
   /**
-   * @template Result
-   * @param {any} params
-   * @param {(language: ProgramLanguage | BoardLanguage, open: OpenText) => Result} ask
-   * @returns {Result | null} null for a text in another language
+   * Runs a test and shows what came of it, also in its text.
+   * @param {string} uri
+   * @param {string} name
    */
-  of(params, ask) {
-    const { open } = this.textIn(params);
-    const language = this.languageOf(open);
-    return language && ask(language, open);
-  }
-
-  /**
-   * @template Result
-   * @param {any} params
-   * @param {(language: ProgramLanguage | BoardLanguage, open: OpenText, position: import("./protocol.js").Position) => Result} ask
-   */
-  at(params, ask) {
-    const position = needPosition(fieldOf(params, "position"));
-    return this.of(params, (language, open) => ask(language, open, open.inside(position)));
-  }
-
-  /** @param {any} params */
-  hover(params) {
-    const found = this.at(params, (language, open, position) => language.hover(open, position));
-    if (!found) return null;
-    const { words, ...rest } = found;
-    return { contents: { kind: "plaintext", value: words }, ...rest };
-  }
-
-  /** @param {any} params */
-  definition(params) {
-    return this.at(params, (language, open, position) => {
-      const range = language.definition(open, position);
-      return range && { uri: open.uri, range };
-    });
-  }
-
-  /** @param {any} params */
-  references(params) {
-    const withDefinition = fieldOf(fieldOf(params, "context"), "includeDeclaration") !== false;
-    return this.at(params, (language, open, position) => (
-      language.references(open, position, withDefinition).map((range) => ({ uri: open.uri, range }))));
-  }
-
-  /** @param {any} params */
-  rename(params) {
-    const wanted = needText(fieldOf(params, "newName"), "newName");
-    return this.at(params, (language, open, position) => ({ changes: { [open.uri]: language.rename(open, position, wanted) } }));
-  }
-
-  /** @param {any} params */
-  completion(params) {
-    return this.at(params, (language, open, position) => {
-      const { from, to, list } = language.completion(open, position);
-      const range = { start: { ...position, character: from }, end: { ...position, character: to } };
-      return list.map(({ text, what, kind }) => (
-        { label: text.split("\n")[0], kind, ...(what ? { detail: what.trim() } : {}), textEdit: { range, newText: text } }));
-    });
-  }
-
-  /** @param {any} params */
-  async codeAction(params) {
-    const text = this.textIn(params);
-    const range = needRange(fieldOf(params, "range"));
-    // An edit that comes meanwhile is looked at, too.
-    while (text.lookedAt !== text.open.edits && this.texts.get(text.open.uri) === text) await text.looking;
-    return cures(text.open.uri, text.faults, range);
+  async runTest(uri, name) {
+    const text = this.textIn({ textDocument: { uri } });
+    const { edits } = text.open;
+    const { words, hasPassed, failure } = await this.runs.run(text.open, name);
+    this.connection.show(words, !hasPassed);
+    if (failure && text.open.edits === edits && failure.uri === uri) {
+      text.diagnostics = [...text.diagnostics, ...diagnosticsOf([failure.fault], true)];
+      this.publish(text);
+      if (this.client.refreshesDiagnostics) this.connection.ask("workspace/diagnostic/refresh");
+    }
+    return null;
   }
 }

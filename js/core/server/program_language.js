@@ -1,51 +1,79 @@
 // What an editor asks of a program's text, answered by the modules that the page's own editor has.
 
 import { hex } from "../bench/numbers.js";
+import { conditionsOf, instructionsOf } from "../help/manual.js";
 import { SourceMap } from "../machine/source_map.js";
 import { AllFaultsOfTexts } from "../text/all_faults.js";
-import { namesOf, partsOf, tokensOf, wordAt } from "../text/assembly.js";
-import { completeProgram } from "../text/completion.js";
+import { DIRECTIVES, namesOf, partsOf, tokensOf, wordAt } from "../text/assembly.js";
+import { PARTS } from "../text/folding.js";
+import { KnownFaults } from "../text/known_faults.js";
+import { changesOf, faultOfLayout, formattedLines } from "../text/program_format.js";
 import { definitionOf, faultOfRenaming, nameAt, referencesOf } from "../text/references.js";
 import { sentText } from "../text/text_fault.js";
-import { helpForProgram } from "../text/text_help.js";
+import { hintsOf } from "./inlay_hints.js";
+import { ProgramCalls } from "./program_calls.js";
+import { completionOfProgram } from "./program_completion.js";
+import { hoverOfProgram } from "./program_hover.js";
 import { REQUEST_FAILED, ProtocolError, rangeOf } from "./protocol.js";
+import { signatureAt } from "./signature_help.js";
 import * as say from "../../words/server.js";
 
 /**
- * @typedef {import("../help/manual.js").Instruction} Instruction
+ * @typedef {import("../help/manual.js").ManualSection} ManualSection
+ * @typedef {import("../text/program_format.js").Layout} Layout
  * @typedef {import("./open_text.js").OpenText} OpenText
  * @typedef {import("./protocol.js").Position} Position
+ * @typedef {import("./protocol.js").Range} Range
  * @typedef {import("./text_bench.js").TextBench} TextBench
  * @typedef {import("./token_codes.js").ColouredWord} ColouredWord
+ * @typedef {{ map: SourceMap, bytes: () => Int16Array }} Assembled where lines are, and what bytes they put
  */
 
-/** Kinds of symbols, and of what completes a word. */
+/** Kinds of symbols. */
 const FUNCTION = 12;
 const CONSTANT = 14;
-const OF_FUNCTION = 3;
-const OF_VARIABLE = 6;
-const OF_KEYWORD = 14;
-const OF_CONSTANT = 21;
 /** @type {Record<string, string>} */
 const TYPES = { comment: "comment", instruction: "keyword", directive: "macro", register: "variable", number: "number" };
+
+/**
+ * Returns where each name of a program is used.
+ * @param {string[]} lines
+ * @returns {Map<string, Range[]>}
+ */
+function usesIn(lines) {
+  /** @type {Map<string, Range[]>} */
+  const places = new Map();
+  lines.forEach((text, line) => {
+    for (const { text: word, from, to } of partsOf(text).operands) {
+      const known = places.get(word) || [];
+      known.push(rangeOf(line + 1, from, to));
+      places.set(word, known);
+    }
+  });
+  return places;
+}
 
 export class ProgramLanguage {
   /**
    * @param {TextBench} bench
-   * @param {Map<string, Instruction>} instructions
+   * @param {ManualSection[]} manual
    * @param {(number: number) => string} wordsOf gives the words of a refusal
    * @param {(uri: string) => string | null} boardOf gives the text of the board that a program is for
    * @param {() => Promise<void>} pause lets others have their turn
    */
-  constructor(bench, instructions, wordsOf, boardOf, pause) {
+  constructor(bench, manual, wordsOf, boardOf, pause) {
+    this.parts = PARTS.program;
     this.bench = bench;
-    this.instructions = instructions;
+    this.instructions = instructionsOf(manual);
+    this.conditions = conditionsOf(manual);
     this.wordsOf = wordsOf;
     this.boardOf = boardOf;
     this.pause = pause;
-    /** @type {{ text: string, assembled: { map: SourceMap, bytes: Int16Array } | null } | null} what was asked for last */
+    this.known = new KnownFaults();
+    /** @type {{ text: string, assembled: Assembled | null } | null} what was asked for last */
     this.last = null;
-    this.isInstruction = (/** @type {string} */ word) => instructions.has(word);
+    this.isInstruction = (/** @type {string} */ word) => this.instructions.has(word);
+    this.isHead = (/** @type {string} */ word) => this.instructions.has(word) || DIRECTIVES.includes(word);
   }
 
   /**
@@ -65,7 +93,7 @@ export class ProgramLanguage {
       map: (sent) => inTurn(() => this.bench.read(sent).map),
       roms: () => inTurn(() => this.bench.wired.roms),
       boardFault: async () => null,
-    }, this.instructions, this.wordsOf);
+    }, this.instructions, this.wordsOf, this.known);
     return all.ofProgram(text, isWanted);
   }
 
@@ -76,8 +104,8 @@ export class ProgramLanguage {
   assembled({ text }) {
     if (this.last && this.last.text === text) return this.last.assembled;
     const sent = sentText(text, ";");
-    const { map, refusal, bytes } = this.bench.read(sent);
-    const assembled = refusal ? null : { map: new SourceMap(map, sent), bytes };
+    const answers = this.bench.map(sent);
+    const assembled = answers ? { map: new SourceMap(answers, sent), bytes: () => this.bench.read(sent).bytes } : null;
     this.last = { text, assembled };
     return assembled;
   }
@@ -86,27 +114,28 @@ export class ProgramLanguage {
    * @param {OpenText} open
    * @param {Position} position
    */
-  hover(open, { line, character }) {
+  hover(open, position) {
     const { lines } = open;
-    if (character > partsOf(lines[line]).comment) return null;
     const assembled = this.assembled(open);
-    const words = helpForProgram(lines, line, character, this.instructions, (name) => (assembled ? assembled.map.meaningOf(name) : ""));
-    const told = [words, assembled ? this.wordsOfLine(lines[line], line + 1, assembled) : ""].filter((each) => each !== "");
-    if (told.length === 0) return null;
-    const word = words === "" ? null : wordAt(lines[line], character);
-    return { words: told.join("\n\n"), ...(word ? { range: rangeOf(line + 1, word.from, word.to) } : {}) };
+    return hoverOfProgram(lines, position, {
+      instructions: this.instructions,
+      conditions: this.conditions,
+      meaningOf: (name) => (assembled ? assembled.map.meaningOf(name) : ""),
+      valueOf: (name) => (assembled ? assembled.map.valueOf(name) : undefined),
+      wordsOfLine: (line) => (assembled ? this.wordsOfLine(lines[line - 1], line, assembled) : ""),
+    });
   }
 
   /**
    * Where a line stands, its bytes and cycles; "" where it puts no byte.
    * @param {string} text
    * @param {number} line from 1
-   * @param {{ map: SourceMap, bytes: Int16Array }} assembled
+   * @param {Assembled} assembled
    */
   wordsOfLine(text, line, { map, bytes }) {
     const address = map.addressOf(line);
     if (address === undefined) return "";
-    const codes = [...bytes.subarray(address, address + map.sizes[line])].map((byte) => hex(byte, 2)).join(" ");
+    const codes = [...bytes().subarray(address, address + map.sizes[line])].map((byte) => hex(byte, 2)).join(" ");
     const { head } = partsOf(text);
     const instruction = head && this.instructions.get(head.text.toUpperCase());
     const cycles = instruction ? say.cyclesOf(instruction.cycles) : "";
@@ -161,16 +190,13 @@ export class ProgramLanguage {
   /**
    * @param {OpenText} open
    * @param {Position} position
+   * @param {string} trigger
    */
-  completion({ lines }, { line, character }) {
-    const found = completeProgram(lines, line, character, this.instructions);
-    const labels = new Set(lines.map(partsOf).filter(({ defines }) => !defines).map(({ label }) => label && label.text));
-    const kindOf = (/** @type {string} */ text) => {
-      if (this.isInstruction(text) || text === "ORG" || text === "DB") return OF_KEYWORD;
-      if (/^[PR]\d+$/.test(text)) return OF_VARIABLE;
-      return labels.has(text) ? OF_FUNCTION : OF_CONSTANT;
-    };
-    return { ...found, list: found.list.map((each) => ({ ...each, kind: kindOf(each.text) })) };
+  completion(open, position, trigger) {
+    const assembled = this.assembled(open);
+    return completionOfProgram(open.lines, position, trigger, {
+      instructions: this.instructions, conditions: this.conditions, meaningOf: (name) => (assembled ? assembled.map.meaningOf(name) : ""),
+    });
   }
 
   /**
@@ -208,5 +234,86 @@ export class ProgramLanguage {
       const type = isName ? (isNumber(word) ? "enumMember" : "function") : TYPES[kind];
       return type ? [{ line, from, to, type, isDeclaration: kind === "label", isReadonly: type === "enumMember" }] : [];
     }));
+  }
+
+  /**
+   * @param {OpenText} open
+   * @param {Range} range
+   * @param {Layout} layout
+   */
+  format({ lines }, { start, end }, layout) {
+    const formatted = formattedLines(lines, this.isHead, layout);
+    const fault = faultOfLayout(formatted);
+    if (fault !== "") throw new ProtocolError(REQUEST_FAILED, fault);
+    return changesOf(lines, formatted).filter(({ line }) => start.line <= line && line <= end.line)
+      .map(({ line, from, to, text }) => ({ range: rangeOf(line + 1, from, to), newText: text }));
+  }
+
+  /**
+   * @param {OpenText} open
+   * @param {Range} range
+   */
+  hints(open, range) {
+    const assembled = this.assembled(open);
+    const cyclesOf = (/** @type {string} */ mnemonic) => (this.instructions.get(mnemonic) || { cycles: "" }).cycles;
+    return assembled ? hintsOf(open.lines, assembled.map, cyclesOf, range) : [];
+  }
+
+  /**
+   * @param {OpenText} open
+   * @param {Position} position
+   */
+  signature({ lines }, { line, character }) {
+    return signatureAt(lines[line], character, this.instructions);
+  }
+
+  /**
+   * The statement, with and without its label, and its operands.
+   * @param {OpenText} open
+   * @param {Position} position
+   * @returns {[number, number][]}
+   */
+  stretches({ lines }, { line }) {
+    const text = lines[line];
+    const { label, head, operands, comment } = partsOf(text);
+    const end = text.slice(0, comment).trimEnd().length;
+    const begins = [...operands.slice(0, 1), head, label].flatMap((word) => (word && word.from < end ? [word.from] : []));
+    return [...begins.map((from) => /** @type {[number, number]} */ ([from, end])), [comment, text.length]];
+  }
+
+  /** @param {OpenText} open */
+  calls(open) {
+    const assembled = this.assembled(open);
+    return new ProgramCalls(open.lines, assembled && assembled.map);
+  }
+
+  /**
+   * @param {OpenText} open
+   * @param {Position} position
+   */
+  routine(open, { line, character }) {
+    return this.calls(open).routine(nameAt(open.lines, line, character), line);
+  }
+
+  /**
+   * @param {OpenText} open
+   * @param {Position} position
+   */
+  callers(open, { line, character }) {
+    return this.calls(open).callers(nameAt(open.lines, line, character), line);
+  }
+
+  /**
+   * @param {OpenText} open
+   * @param {Position} position
+   */
+  called(open, { line, character }) {
+    return this.calls(open).called(nameAt(open.lines, line, character), line);
+  }
+
+  /** @param {OpenText} open */
+  lenses(open) {
+    const places = usesIn(open.lines);
+    return this.calls(open).lenses((name) => places.get(name) || []);
   }
 }

@@ -3,11 +3,11 @@
 import { readBoard, refusalOf } from "../bench/answers.js";
 import { findBoardFault } from "../bench/board_fault.js";
 import { sentText } from "../text/text_fault.js";
-import { ALL_ROMS, readProgram } from "../engine/program_check.js";
+import { ALL_ROMS, faultOfText, readProgram } from "../engine/program_check.js";
 
 /**
  * @typedef {import("../bench/answers.js").Refusal} Refusal
- * @typedef {import("../engine/engine.js").Engine} Engine
+ * @typedef {import("../engine/engine_host.js").EngineHost} Engine
  * @typedef {import("../engine/program_check.js").Program} Program
  *
  * A session with a board, and the numbers of its ROMs.
@@ -72,6 +72,16 @@ export class TextBench {
       const refusal = this.refuseBoard(part);
       return refusal ? refusal.number : 0;
     });
+  }
+
+  /**
+   * Returns the answers to `map` of a program; null if it is refused.
+   * @param {string} sent
+   */
+  map(sent) {
+    if (faultOfText(sent)) return null;
+    const { answers } = this.engine.ask(this.empty, `map\n${sent}.\n`);
+    return refusalOf(answers[0]) ? null : answers;
   }
 
   /**

@@ -8,6 +8,22 @@
 export const TYPES = ["comment", "function", "variable", "enumMember", "keyword", "macro", "number", "string", "property", "class"];
 export const MODIFIERS = ["declaration", "readonly"];
 
+/** @type {Record<string, string>} what editors call the styles of the page's editors */
+const STYLES = {
+  "keyword": "keyword", "number": "number", "comment": "comment", "string": "string", "def": "function", "variable-2": "variable",
+};
+
+/**
+ * Returns the coloured words of lines, by what colours one line.
+ * @param {string[]} lines
+ * @param {(line: string) => { from: number, to: number, style: string }[]} colours
+ * @returns {ColouredWord[]}
+ */
+export function colouredWords(lines, colours) {
+  return lines.flatMap((text, line) => colours(text).filter(({ style }) => STYLES[style]).map(({ from, to, style }) => (
+    { line, from, to, type: STYLES[style] })));
+}
+
 /**
  * Five numbers for each word: the lines since the last one, the characters since the last one of its line, its length, type and modifiers.
  * @param {ColouredWord[]} words
@@ -23,4 +39,19 @@ export function tokenCodes(words) {
     [line, from] = [word.line, word.from];
     return code;
   });
+}
+
+/**
+ * Returns what makes the numbers of a text out of those before it: nothing, or one stretch in the place of another.
+ * @param {number[]} before
+ * @param {number[]} after
+ * @returns {{ start: number, deleteCount: number, data: number[] }[]}
+ */
+export function codeEdits(before, after) {
+  const least = Math.min(before.length, after.length);
+  let [start, behind] = [0, 0];
+  while (start < least && before[start] === after[start]) start += 1;
+  while (behind < least - start && before[before.length - 1 - behind] === after[after.length - 1 - behind]) behind += 1;
+  if (start === before.length && start === after.length) return [];
+  return [{ start, deleteCount: before.length - start - behind, data: after.slice(start, after.length - behind) }];
 }

@@ -10,7 +10,8 @@ import { upTo } from "../bench/numbers.js";
  * A shape: a lamp, a key with its legend, or a display with its digits. Sizes are in the picture's own units.
  * @typedef {{ kind: "lamp", x: number, y: number, size: number, colour: string, isLit: boolean }} LampShape
  * @typedef {{ kind: "key", x: number, y: number, width: number, height: number, legend: string }} KeyShape
- * @typedef {{ kind: "display", x: number, y: number, width: number, height: number, digits: string }} DisplayShape
+ * @typedef {{ kind: "display", x: number, y: number, width: number, height: number, digits: string,
+ *   colour: string }} DisplayShape
  * @typedef {LampShape | KeyShape | DisplayShape} Shape
  * @typedef {{ width: number, height: number, shapes: Shape[] }} GalleryPicture
  */
@@ -56,7 +57,7 @@ class Drawing {
   drawGroups() {
     for (const group of this.face.groups.filter((each) => endOf(each) <= this.lampCount)) {
       for (const lamp of lampsOf(group)) this.drawn.add(lamp);
-      if (group.kind === "display") this.drawDisplay(group.rows);
+      if (group.kind === "display") this.drawDisplay(group);
       else if (group.kind === "die") this.drawAt(upTo(7).map((at) => ({ lamp: group.first + at, column: PIPS[at][0], row: PIPS[at][1] })));
       else {
         const { first, rows, columns } = group;
@@ -67,11 +68,12 @@ class Drawing {
     }
   }
 
-  /** @param {number} digits */
-  drawDisplay(digits) {
+  /** @param {import("../board/face.js").Group} group of as many digits as it has rows */
+  drawDisplay({ rows, first }) {
     const height = 24;
-    const text = upTo(digits).map((at) => String((at + 1) % 10)).join("");
-    this.shapes.push({ kind: "display", x: GAP, y: this.bottom, width: WIDTH - 2 * GAP, height, digits: text });
+    const colour = (this.face.colours.get(first) || { text: "red" }).text;
+    const text = upTo(rows).map((at) => String((at + 1) % 10)).join("");
+    this.shapes.push({ kind: "display", x: GAP, y: this.bottom, width: WIDTH - 2 * GAP, height, digits: text, colour });
     this.bottom += height + GAP;
   }
 

@@ -3,14 +3,17 @@
 
 import { readInputs } from "../bench/inputs.js";
 import { PROJECT_FILE } from "../project/project_toml.js";
-import { NotAnImage, readBytes, readHex } from "../bench/rom_image.js";
+import { readSRecords } from "../bench/rom_formats.js";
+import { readBytes, readHex } from "../bench/rom_image.js";
 import { LONGEST_KEPT } from "../text/text_fault.js";
 import { isProject } from "./project_file.js";
 import * as say from "../../words/session.js";
 
 /**
- * Texts of a file: null where it has none of that kind. `lines` are those for the bench that are left.
- * @typedef {{ board: string | null, program: string | null, tests: string | null, properties: string | null, lines: string }} FileTexts
+ * Texts of a file: null where it has none of that kind. `lines` are those for the bench that are left. `isGuess`: neither the name nor
+ * the text says that it is a program.
+ * @typedef {{ board: string | null, program: string | null, tests: string | null, properties: string | null, lines: string,
+ *   isGuess?: boolean }} FileTexts
  *
  * @typedef {{ kind: "project" } | { kind: "session" } | { kind: "texts", texts: FileTexts } | { kind: "image", bytes: Int16Array }} Opened
  */
@@ -82,7 +85,7 @@ function readTexts(name, text) {
   if (/^[ \t]*(wire|asm)[ \t]*\r?$/m.test(text)) return textsOfLines(text);
   if (/^([ \t]*([#;].*)?\r?\n)*[ \t]*test[ \t]+[^01\s]/.test(text)) return { ...alone, tests: text };
   if (/^[ \t]*\[\[?(rom|ram|chain|keys|lamp)\]\]?/m.test(text)) return { ...alone, board: text };
-  return { ...alone, program: text };
+  return { ...alone, program: text, isGuess: true };
 }
 
 /**
@@ -96,9 +99,7 @@ function openText(name, text) {
     throw refusal(say.NOT_A_KIND);
   }
   if (HEX_FILES.test(name) || /^\s*:[0-9A-F]{10}/i.test(text)) return { kind: "image", bytes: readHex(text) };
-  if (/^\s*S[0-9][0-9A-F]{8}/.test(text)) {
-    throw new NotAnImage(say.S_RECORDS);
-  }
+  if (/^\s*S[0-9][0-9A-F]{8}/.test(text)) return { kind: "image", bytes: readSRecords(text) };
   const texts = readTexts(name, text);
   for (const each of [texts.board, texts.program, texts.tests, texts.properties]) {
     if (each === null || each.length <= LONGEST_KEPT) continue;

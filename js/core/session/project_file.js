@@ -1,5 +1,5 @@
-// A project: the session's file, its name and the texts of the editors in one file, which is a text. tools/project takes it apart
-// and puts it together, to the byte as here; the manual ("A project file") says what each line of it is.
+// A project: the session's file, its name and the texts of the editors in one file, which is a text. The manual ("A project file") says
+// what each line of it is. (Its parts as the files of a folder: project_parts.js.)
 
 import { checksum } from "./checksum.js";
 import { shortName } from "./names.js";
@@ -12,7 +12,9 @@ import * as say from "../../words/session.js";
  * @typedef {{ name: string, boardText: string, programText: string, testText?: string, propertiesText?: string }} Texts without tests
  *   or properties the file has no text of them
  * @typedef {import("../debug/breakpoints.js").KeptBreakpoint} KeptBreakpoint
- * @typedef {Texts & { file: Uint8Array, breakpoints?: KeptBreakpoint[] }} Project
+ * `watched` is the list of *Values*, each as it is kept.
+ * @typedef {Texts & { breakpoints?: KeptBreakpoint[], watched?: string[] }} DebuggedTexts
+ * @typedef {DebuggedTexts & { file: Uint8Array }} Project
  * @typedef {"wire" | "asm" | "test" | "properties"} Word the line before a text
  */
 
@@ -87,14 +89,19 @@ function plainLines(text) {
   return text.replace(/\r(?=\n|$)/g, "");
 }
 
+/** @param {string} text */
+function oneLine(text) {
+  return text.replace(/\s+/g, " ").trim();
+}
+
 /**
- * The lines of a name and its texts, and of breakpoints, where it has some.
- * @param {Texts & { breakpoints?: KeptBreakpoint[] }} texts
+ * Returns the lines of a name, its breakpoints and values, and its texts.
+ * @param {DebuggedTexts} texts
  */
-export function linesOfTexts({ name, boardText, programText, testText = "", propertiesText = "", breakpoints = [] }) {
+export function linesOfTexts({ name, boardText, programText, testText = "", propertiesText = "", breakpoints = [], watched = [] }) {
   const [board, program, tests, properties] = [boardText, programText, testText, propertiesText].map(plainLines);
-  const head = [`name ${name.replace(/\s+/g, " ").trim()}`, ...unended("wire", board), ...unended("asm", program),
-    ...unended("test", tests), ...unended("properties", properties), ...linesOfBreakpoints(breakpoints)];
+  const head = [`name ${oneLine(name)}`, ...unended("wire", board), ...unended("asm", program), ...unended("test", tests),
+    ...unended("properties", properties), ...linesOfBreakpoints(breakpoints), ...watched.map((text) => ["value", oneLine(text)].join(" "))];
   return [...head, ...linesOfText("wire", board), ...linesOfText("asm", program), ...(tests === "" ? [] : linesOfText("test", tests)),
     ...(properties === "" ? [] : linesOfText("properties", properties))];
 }
@@ -177,7 +184,7 @@ function checkWhole(text) {
 }
 
 /**
- * The lines up to the first text: its name, which texts have a last line without an end, and breakpoints.
+ * Reads the lines up to the first text: its name, which texts have a last line without an end, breakpoints and values.
  * @param {Lines} lines
  */
 function readHead(lines) {
@@ -185,16 +192,19 @@ function readHead(lines) {
   const open = new Set();
   /** @type {KeptBreakpoint[]} */
   const breakpoints = [];
+  /** @type {string[]} */
+  const watched = [];
   while (lines.next !== "wire") {
-    const [isOfHead, word, rest] = /^(name|unended) (.+)$|^#/.exec(lines.next) || [];
+    const [isOfHead, word, rest] = /^(name|unended|value) (.+)$|^#/.exec(lines.next) || [];
     const breakpoint = breakpointOfLine(lines.next || "");
     if (breakpoint) breakpoints.push(breakpoint);
     else if (isOfHead === undefined) throw lines.fault(say.ONE_OF_HEAD);
     if (word === "name") name = shortName(rest);
     if (word === "unended") open.add(rest);
+    if (word === "value") watched.push(rest);
     lines.take();
   }
-  return { name, open, breakpoints };
+  return { name, open, breakpoints, watched };
 }
 
 /**
@@ -208,19 +218,21 @@ function readText(lines, word, open) {
 }
 
 /**
- * A name and its texts, and breakpoints, where it has some. Texts that the bench would never take are not even looked at.
+ * Reads a name, its texts, and its breakpoints and values, where it has some. Rejects texts that the editors would never take.
  * @param {Lines} lines
- * @returns {Texts & { breakpoints?: KeptBreakpoint[] }}
+ * @param {boolean} [takesLong] whether longer texts are read, too
+ * @returns {DebuggedTexts}
  */
-export function readTexts(lines) {
-  const { name, open, breakpoints } = readHead(lines);
+export function readTexts(lines, takesLong = false) {
+  const { name, open, breakpoints, watched } = readHead(lines);
   const [boardText, programText] = [readText(lines, "wire", open), readText(lines, "asm", open)];
   const [testText, propertiesText] = (/** @type {Word[]} */ (["test", "properties"])).map((word) => (
     lines.next === word ? readText(lines, word, open) : ""));
   const texts = { name, boardText, programText, testText, propertiesText };
   const words = wordsOfLength(texts);
-  if (words) throw new TextTooLong(words);
-  return breakpoints.length > 0 ? { ...texts, breakpoints: mostBreakpoints(breakpoints) } : texts;
+  if (words && !takesLong) throw new TextTooLong(words);
+  const withBreakpoints = breakpoints.length > 0 ? { ...texts, breakpoints: mostBreakpoints(breakpoints) } : texts;
+  return watched.length > 0 ? { ...withBreakpoints, watched } : withBreakpoints;
 }
 
 /**
@@ -247,18 +259,22 @@ function readFile(lines, size) {
  * What is in a project; it throws where bytes are none.
  * @param {Uint8Array} bytes
  * @param {number} size how many bytes a session file has
+ * @param {boolean} [takesLong] whether texts that are too long for the editors are read, too
  * @returns {Project}
  */
-export function readProject(bytes, size) {
+export function readProject(bytes, size, takesLong = false) {
   if (bytes.length > LONGEST_PROJECT) throw new NotAProject(say.TOO_MANY_BYTES);
+  if (bytes.includes(0)) throw new NotAProject(say.HAS_ZERO_BYTES);
   const text = decoded(bytes);
   checkWhole(text);
   const lines = new Lines(text);
   lines.take();
   if (SUM_LINE.test(lines.next)) lines.take();
-  const texts = readTexts(lines);
+  const texts = readTexts(lines, takesLong);
   const file = readFile(lines, size);
-  if (lines.take() !== LAST_LINE || lines.at !== lines.all.length - 1) throw lines.fault(say.END_OF_FILE);
+  if (lines.next !== LAST_LINE) throw lines.fault(say.END_OF_FILE);
+  lines.take();
+  if (lines.at !== lines.all.length - 1) throw lines.fault(say.END_OF_FILE);
   return { ...texts, file };
 }
 

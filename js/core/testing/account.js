@@ -1,10 +1,10 @@
 // What the runs of tests do, counted by the bench (`count`, `trace`) before each of them is done: how often each instruction is begun and
-// jumps, the cycles of each, how long each call takes until it comes back, and how long a lamp takes after a key. tools/lib/cover.awk and
-// profile.awk count the same.
+// jumps, the cycles of each, how long each call takes until it comes back, and how long a lamp takes after a key. A tool that prints no
+// profile takes an account that counts less.
 
 import { ADDRESSES } from "../bench/rom_bytes.js";
 import { readTraced } from "../engine/tracing.js";
-import { cyclesOf, isCall, isReturn } from "../engine/rom_codes.js";
+import { cyclesOf, isCall, isReturn, targetOf } from "../engine/rom_codes.js";
 
 /**
  * @typedef {import("../engine/tracing.js").Answers} Answers
@@ -36,6 +36,11 @@ export class Account {
     this.open = [];
     /** The key that was pressed last, whose lamps are waited for. */
     this.waiting = { key: "", pressed: 0, first: 0, last: 0 };
+  }
+
+  /** Whether the cycles of instructions, calls and keys are counted. */
+  get keepsTimes() {
+    return true;
   }
 
   begin() {
@@ -75,18 +80,10 @@ export class Account {
       this.runs[address] += begun;
       this.taken[address] += Math.max(0, jumped);
       this.own[address] += cyclesOf(code) * begun;
-      if (isCall(code)) this.callsOf(this.targetOf(address)).times += begun;
+      if (isCall(code)) this.callsOf(targetOf(this.codes, address)).times += begun;
       if (isCall(code) || isReturn(code)) links += begun;
     }
     return links;
-  }
-
-  /**
-   * Where a JMS goes.
-   * @param {number} address
-   */
-  targetOf(address) {
-    return (this.codes[address] % 16) * 256 + this.codes[(address + 1) % ADDRESSES];
   }
 
   /**
@@ -110,7 +107,7 @@ export class Account {
       const code = this.codes[address];
       if (isCall(code)) {
         if (this.open.length === MOST_LEVELS) this.open.shift();
-        this.open.push({ at: this.targetOf(address), entered: elapsed + cycles + 2 });
+        this.open.push({ at: targetOf(this.codes, address), entered: elapsed + cycles + 2 });
       } else if (isReturn(code) && this.open.length > 0) this.leave(elapsed + cycles + 1);
     }
   }
@@ -177,5 +174,37 @@ export class Account {
     while (this.open.length > 0) this.leave(elapsed);
     this.endKey();
     this.total += elapsed;
+  }
+}
+
+/** Counts how often each instruction is begun and jumps, for the coverage; it keeps no times. */
+export class LineAccount extends Account {
+  get keepsTimes() {
+    return false;
+  }
+
+  /** @param {number} cycles */
+  questions(cycles) {
+    return `count ${cycles}\n`;
+  }
+
+  /** @param {Answers} answers */
+  take(answers) {
+    this.count(answers.takeCounts());
+  }
+}
+
+/** Counts nothing: the bench is asked nothing before a run. */
+export class NoAccount extends Account {
+  get keepsTimes() {
+    return false;
+  }
+
+  questions() {
+    return "";
+  }
+
+  take() {
+    // No question was asked.
   }
 }

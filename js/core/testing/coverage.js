@@ -1,6 +1,7 @@
 // Which lines of a program were run, by the counts of an account: each with its count and, for a conditional jump, its ways.
 
-import { hasWays } from "../engine/rom_codes.js";
+import { withTenths } from "../bench/numbers.js";
+import { hasWays, isCall, targetOf } from "../engine/rom_codes.js";
 import * as say from "../../words/testing.js";
 
 /**
@@ -8,7 +9,9 @@ import * as say from "../../words/testing.js";
  * @typedef {import("./account.js").Account} Account
  * @typedef {{ line: number, count: number, isJump: boolean, taken: number }} Covered a line that is an instruction
  * @typedef {{ from: number, to: number }} Stretch lines below each other that were never run
- * @typedef {{ lines: Covered[], instructions: number, run: number, ways: number, waysRun: number, never: Stretch[] }} Coverage
+ * @typedef {{ label: string, line: number, count: number }} Subroutine a label that a JMS goes to, and how often it was run
+ * @typedef {{ lines: Covered[], instructions: number, run: number, ways: number, waysRun: number, never: Stretch[],
+ *   subroutines: Subroutine[] }} Coverage
  */
 
 /**
@@ -30,6 +33,21 @@ function coveredLines({ codes, runs, taken }, map) {
 }
 
 /**
+ * Returns the labels that a JMS of these lines goes to, by rising addresses.
+ * @param {Account} account
+ * @param {SourceMap} map
+ * @param {Covered[]} lines
+ */
+function subroutinesOf({ codes, runs }, map, lines) {
+  const calls = lines.map(({ line }) => map.addresses[line]).filter((address) => isCall(codes[address]));
+  const targets = [...new Set(calls.map((address) => targetOf(codes, address)))].sort((one, other) => one - other);
+  return targets.filter((address) => map.labels.has(address)).map((address) => {
+    const [label] = map.labelsAt(address);
+    return { label, line: map.lineOfLabel(label), count: runs[address] };
+  });
+}
+
+/**
  * @param {Account} account
  * @param {SourceMap} map
  * @returns {Coverage}
@@ -47,6 +65,7 @@ export function coverageOf(account, map) {
   }
   return {
     lines, never,
+    subroutines: subroutinesOf(account, map, lines),
     instructions: lines.length,
     run: lines.filter(({ count }) => count > 0).length,
     ways: 2 * jumps.length,
@@ -60,6 +79,6 @@ export function coverageOf(account, map) {
  */
 export function wordsOfCoverage({ instructions, run, ways, waysRun }) {
   /** @type {(part: number, all: number) => string} */
-  const percent = (part, all) => (all > 0 ? ` (${((100 * part) / all).toFixed(1)} %)` : "");
+  const percent = (part, all) => (all > 0 ? ` (${withTenths((100 * part) / all)} %)` : "");
   return say.covered([run, instructions, waysRun, ways], percent(run, instructions), percent(waysRun, ways));
 }

@@ -9,12 +9,13 @@ import { faultsOfLines, sentText } from "../text/text_fault.js";
 import { romCodes } from "../engine/rom_codes.js";
 
 /**
- * @typedef {import("../debug/conditions.js").Names} Names
- * @typedef {import("../engine/engine.js").Engine} Engine
+ * @typedef {import("../conditions/conditions.js").Names} Names
+ * @typedef {import("../engine/engine_host.js").EngineHost} Engine
  * @typedef {{ boardText: string, programText: string }} Texts
  *
- * What is wrong with a text: its line (0 where none is known), and why; `number` is that of a refusal by the bench, 0 for none.
- * @typedef {{ text: "board" | "program" | "tests" | "properties", line: number, number: number, words: string }} TextFault
+ * What is wrong with a text: its line (0 where none is known), and why; `number` is that of a refusal by the bench, 0 for none. `file` is
+ * the name of a text of tests.
+ * @typedef {{ text: "board" | "program" | "tests" | "properties", file?: string, line: number, number: number, words: string }} TextFault
  * @typedef {{ file: Uint8Array, names: Names & { map: SourceMap }, codes: Uint8Array }} Prepared the session, the names, and what
  *   stands in ROM
  */
@@ -25,7 +26,7 @@ import { romCodes } from "../engine/rom_codes.js";
  * @param {import("../bench/answers.js").Board} board
  * @returns {TextFault[]}
  */
-function faultsOfNames(face, board) {
+export function faultsOfNames(face, board) {
   const found = [...face.faults, ...missingOf(face, board)].filter(({ isRefused }) => isRefused);
   return found.map(({ line, words }) => ({ text: "board", line, number: 0, words }));
 }
@@ -35,7 +36,7 @@ function faultsOfNames(face, board) {
  * @param {string} text
  * @returns {TextFault[]}
  */
-function faultsOfText(name, text) {
+export function faultsOfText(name, text) {
   return faultsOfLines(text, name === "board" ? "#" : ";").map(({ line, number, words }) => ({ text: name, line, number, words }));
 }
 
@@ -50,19 +51,46 @@ function refusedBy(name, answer) {
 }
 
 /**
+ * Wires a board on a session of its own; returns the answers to `board`, or why the text is rejected.
+ * @param {Engine} engine
+ * @param {string} text
+ * @returns {{ faults: TextFault[], answers: string[] }}
+ */
+export function wiredBoard(engine, text) {
+  const unsent = faultsOfText("board", text);
+  if (unsent.length > 0) return { faults: unsent, answers: [] };
+  const [wired, ...answers] = engine.ask(engine.begin(), `wire\n${sentText(text, "#")}.\nboard\n`).answers;
+  return { faults: refusedBy("board", wired), answers };
+}
+
+/**
+ * Returns a new session with a board and a program; an empty text is left out.
+ * @param {Engine} engine
+ * @param {Texts} texts
+ * @returns {{ file: Uint8Array, faults: TextFault[] }}
+ */
+export function newSession(engine, { boardText, programText }) {
+  const file = engine.begin();
+  const unsent = [...faultsOfText("board", boardText), ...faultsOfText("program", programText)];
+  if (unsent.length > 0) return { file, faults: unsent };
+  const texts = [
+    ...(boardText === "" ? [] : [{ name: /** @type {const} */ ("board"), lines: `wire\n${sentText(boardText, "#")}.\n` }]),
+    ...(programText === "" ? [] : [{ name: /** @type {const} */ ("program"), lines: `asm\n${sentText(programText, ";")}.\n` }]),
+  ];
+  if (texts.length === 0) return { file, faults: [] };
+  const { answers } = engine.serve(file, texts.map(({ lines }) => lines).join(""), file);
+  return { file, faults: texts.flatMap(({ name }, at) => refusedBy(name, answers[at])).slice(0, 1) };
+}
+
+/**
  * @param {Engine} engine
  * @param {Texts} texts
  * @returns {{ prepared: Prepared | null, faults: TextFault[] }}
  */
 export function prepare(engine, { boardText, programText }) {
-  const unsent = [...faultsOfText("board", boardText), ...faultsOfText("program", programText)];
-  if (unsent.length > 0) return { prepared: null, faults: unsent };
-  const file = engine.begin();
+  const { file, faults: refused } = newSession(engine, { boardText, programText });
+  if (refused.length > 0) return { prepared: null, faults: refused };
   const program = sentText(programText, ";");
-  const lines = `wire\n${sentText(boardText, "#")}.\nasm\n${program}.\n`;
-  const [wired, loaded] = engine.serve(file, lines, file).answers;
-  const refused = [...refusedBy("board", wired), ...refusedBy("program", loaded)];
-  if (refused.length > 0) return { prepared: null, faults: refused.slice(0, 1) };
   const questions = `board\nmap\n${program}.\n`;
   const [board, map] = matchAnswers(readInputs(questions), engine.ask(file, questions).answers);
   const names = { face: new Face(boardText), board: readBoard(board), map: new SourceMap(map, program) };

@@ -1,4 +1,4 @@
-// Runs tests: each on a session of its own in memory, as tools/test does. Without a document: the page's worker and node call it.
+// Runs tests: each on a session of its own in memory. Without a document: the page's worker and node call it.
 
 import { counted, hex } from "../bench/numbers.js";
 import { itemsOf, valueIn } from "../bench/state_line.js";
@@ -14,8 +14,9 @@ import * as say from "../../words/testing.js";
 
 /**
  * @typedef {import("./account.js").Account} Account
- * @typedef {import("../debug/conditions.js").Condition} Condition
- * @typedef {import("../engine/engine.js").Engine} Engine
+ * @typedef {import("../conditions/conditions.js").Beside} Beside
+ * @typedef {import("../conditions/conditions.js").Condition} Condition
+ * @typedef {import("../engine/engine_host.js").EngineHost} Engine
  * @typedef {import("./prepared.js").Prepared} Prepared
  * @typedef {import("./test_text.js").Action} Action
  * @typedef {import("./test_text.js").ChosenKey} ChosenKey
@@ -23,9 +24,9 @@ import * as say from "../../words/testing.js";
  * @typedef {import("./test_text.js").Step} Step
  * @typedef {import("./test_text.js").Test} Test
  *
- * What is wrong: the line of the step with its text, and why; what the session was by then: the cycles of the test, lamps and registers
- * as `state` tells them, the last instructions; and the bytes of its file, null where it was not begun.
- * @typedef {{ line: number, text: string, words: string, cycles: number, lamps: string, registers: string, trace: string[],
+ * What is wrong: the line of the step with its text and the name of its source, and why; what the session was by then: the cycles of the
+ * test, lamps and registers as `state` tells them, the last instructions; and the bytes of its file, null where it was not begun.
+ * @typedef {{ source: string, line: number, text: string, words: string, cycles: number, lamps: string, registers: string, trace: string[],
  *   file: Uint8Array | null }} Failure
  * @typedef {{ name: string, line: number, cycles: number, failure: Failure | null }} Outcome
  */
@@ -36,7 +37,12 @@ const DOWN = 4000;
 const LOOK_CYCLES = 1000;
 const UP = 16000;
 
-/** The tests of a text on one board with one program. */
+/** @param {Step} step */
+function placeOf({ source, line, text }) {
+  return { source: source.name, line, text };
+}
+
+/** Tests on one board with one program. */
 export class TestRun {
   /**
    * @param {Engine} engine
@@ -53,8 +59,12 @@ export class TestRun {
     this.printer = printer;
     /** @type {Map<string, { file: Uint8Array, codes: number[] }>} the states that were saved, and what was printed by then */
     this.states = new Map();
+    /** The number of the text whose states they are. */
+    this.textNumber = 1;
     this.down = DOWN;
     this.up = UP;
+    /** Whether a test may put other bytes into ROM, so that each one reads them again. */
+    this.changesRom = true;
   }
 
   /**
@@ -62,19 +72,21 @@ export class TestRun {
    * @param {string} savedBy the name of the test that saves the state which it begins with
    * @returns {Promise<Outcome>}
    */
-  async run({ name, line, from, steps }, savedBy) {
+  async run({ textNumber, name, line, from, steps }, savedBy) {
+    if (textNumber !== this.textNumber) this.states.clear();
+    this.textNumber = textNumber;
     const begun = from === "" ? { file: this.prepared.file, codes: [] } : this.states.get(from);
     if (!begun) {
       const words = say.stateNotThere(from, savedBy);
       const [step] = steps;
-      const failure = { line: step.line, text: step.text, words, cycles: 0, lamps: "", registers: "", trace: [], file: null };
+      const failure = { ...placeOf(step), words, cycles: 0, lamps: "", registers: "", trace: [], file: null };
       return { name, line, cycles: 0, failure };
     }
     this.account.codes = this.prepared.codes;
     const paper = this.printer && new Paper(this.printer, begun.codes);
     const session = new TestSession(this.engine, begun.file, this.account, this.breathe, paper);
     // Another test may have put other bytes into ROM.
-    if (from !== "") session.readCodes();
+    if (from !== "" && this.changesRom) session.readCodes();
     this.down = DOWN;
     this.up = UP;
     const failure = await this.runSteps(session, steps, []);
@@ -89,15 +101,16 @@ export class TestRun {
    * @returns {Promise<Failure | null>}
    */
   async runSteps(session, steps, within) {
-    for (const { line, text, action } of steps) {
+    for (const step of steps) {
+      const { action } = step;
       if ("steps" in action) {
-        const failure = await this.runInner(session, action, line, within);
+        const failure = await this.runInner(session, action, step, within);
         if (failure) return failure;
         continue;
       }
       const words = await this.do(session, action);
       const where = within.length > 0 ? `; in ${within.join(", in ")}` : "";
-      if (words !== "") return { line, text, words: words + where, ...this.toldOf(session) };
+      if (words !== "") return { ...placeOf(step), words: words + where, ...this.toldOf(session) };
     }
     return null;
   }
@@ -105,11 +118,15 @@ export class TestRun {
   /**
    * @param {TestSession} session
    * @param {Extract<Action, { steps: Step[] }>} action
-   * @param {number} line
+   * @param {Step} step
    * @param {string[]} within
    */
-  async runInner(session, action, line, within) {
-    if (action.kind === "do") return this.runSteps(session, action.steps, [say.stepsOfLine(action.name, line), ...within]);
+  async runInner(session, action, { source, line }, within) {
+    if (action.kind === "do") {
+      const [first] = action.steps;
+      const file = !first || first.source.name === source.name ? "" : source.name;
+      return this.runSteps(session, action.steps, [say.stepsOfLine(action.name, line, file), ...within]);
+    }
     for (let turn = 1; turn <= action.times; turn++) {
       const failure = await this.runSteps(session, action.steps, [say.turnOf(turn, action.times, line), ...within]);
       if (failure) return failure;
@@ -144,14 +161,23 @@ export class TestRun {
     if (action.kind === "expect") return session.look(action.condition).told;
     if ("keys" in action) return this.doKeys(session, action.keys, action.kind);
     if (action.kind === "set") {
-      session.command(action.command);
+      for (const command of action.commands) session.command(command);
       if (action.changesRom) session.readCodes();
     }
     if (action.kind === "reset") session.command("reset");
     if (action.kind === "mark") session.marked = session.elapsed;
     if (action.kind === "pace") [this.down, this.up] = [action.down, action.up];
-    if (action.kind === "save") this.states.set(action.state, { file: session.file.slice(), codes: session.codes });
+    if (action.kind === "save") this.save(session, action.state);
     return "";
+  }
+
+  /**
+   * @param {TestSession} session
+   * @param {string} state its name
+   */
+  save(session, state) {
+    this.engine.keep(session.file);
+    this.states.set(state, { file: session.file.slice(), codes: session.codes });
   }
 
   /**
@@ -259,10 +285,11 @@ export class TestRun {
     let stop = "end";
     // What no trace tells (TEST, a cycle that is owed) can change with the first cycle alone.
     let piece = condition.places.length > 0 ? 1000 : 1;
+    const beside = { ...session.told(condition).beside, owed: "0" };
     for (; session.elapsed < end && stop === "end"; piece = piece < 10000 ? piece * 10 : LONGEST_RUN) {
       const most = end - session.elapsed;
       piece = Math.min(piece, most);
-      const cycles = condition.places.length > 0 ? this.cyclesToChange(session, condition, piece, most) : 0;
+      const cycles = condition.places.length > 0 ? this.cyclesToChange(session, condition, beside, piece, most) : 0;
       stop = await session.run(cycles || piece);
       if (cycles > 0 || (piece === 1 && session.look(condition).holds)) break;
     }
@@ -288,14 +315,15 @@ export class TestRun {
    * How long it takes, at most so many cycles, until the condition holds; 0 where it does not within a piece.
    * @param {TestSession} session
    * @param {Condition} condition
+   * @param {Beside} beside what no run changes
    * @param {number} piece
    * @param {number} most
    */
-  cyclesToChange(session, condition, piece, most) {
+  cyclesToChange(session, condition, beside, piece, most) {
     const { lines } = new Answers(session.ask(`trace ${piece} ${condition.places.join(" ")}\n`)).takeTrace();
     for (const line of lines) {
       const { cycles, address, row } = readTraced(line);
-      if (condition.holds(valuesOf(row))) return Math.min(most, cycles + cyclesOf(this.account.codes[address]));
+      if (condition.holds(valuesOf(row), beside)) return Math.min(most, cycles + cyclesOf(this.account.codes[address]));
     }
     return 0;
   }

@@ -3,15 +3,16 @@
 
 import { SEEN_QUESTION } from "../engine/seen_text.js";
 import { readCounter, readRegisters } from "../bench/answers.js";
+import { valueIn } from "../bench/state_line.js";
 import { romCodes } from "../engine/rom_codes.js";
 import { LONGEST_RUN } from "../engine/key_queue.js";
 import { Answers, readTraced, valuesOf } from "../engine/tracing.js";
 
 /**
  * @typedef {import("./account.js").Account} Account
- * @typedef {import("../debug/conditions.js").Beside} Beside
- * @typedef {import("../debug/conditions.js").Condition} Condition
- * @typedef {import("../engine/engine.js").Engine} Engine
+ * @typedef {import("../conditions/conditions.js").Beside} Beside
+ * @typedef {import("../conditions/conditions.js").Condition} Condition
+ * @typedef {import("../engine/engine_host.js").EngineHost} Engine
  * @typedef {import("./paper.js").Paper} Paper
  * @typedef {{ line: string, cycles: number }} Done a command, or a run of so many cycles ("run")
  * @typedef {{ file: Uint8Array, elapsed: number, done: Done[] }} Kept a moment, and what was done since
@@ -140,7 +141,7 @@ export class TestSession {
 
   /** The last instruction is not done, and will not be. */
   cutShort() {
-    if (this.ran === 0) return;
+    if (this.ran === 0 || !this.account.keepsTimes) return;
     const before = this.ran > 1 ? `run ${this.ran - 1}\n` : "";
     const answers = this.engine.ask(this.past, `${before}trace 1\n`).answers.slice(before === "" ? 0 : 1);
     const [line] = new Answers(answers).takeTrace().lines;
@@ -148,17 +149,27 @@ export class TestSession {
   }
 
   /**
+   * Returns the values of a condition's places, and what it asks besides.
+   * @param {Condition} condition
+   * @returns {{ values: string[], beside: Beside }}
+   */
+  told({ places, needs }) {
+    const seen = needs.includes("seen") ? this.ask(SEEN_QUESTION) : [];
+    const asksKeys = needs.includes("keys");
+    const trace = places.length > 0 ? `trace 1 ${places.join(" ")}\n` : "";
+    const answers = new Answers(this.ask(`${trace}regs\n${asksKeys ? "state\n" : ""}`));
+    const values = places.length > 0 ? valuesOf(answers.takeTrace().row) : [];
+    const { owed, test } = readRegisters(answers.take());
+    const keys = asksKeys ? valueIn(answers.take(), "keys") : "";
+    return { values, beside: { test, owed, keys, cycles: this.elapsed - this.marked, seen, printed: this.paper ? this.paper.words : [] } };
+  }
+
+  /**
    * Whether a condition holds now; else `told` says what is, and what has to be.
    * @param {Condition} condition
    */
   look(condition) {
-    const { places, needs } = condition;
-    const seen = needs.includes("seen") ? this.ask(SEEN_QUESTION) : [];
-    const answers = this.ask(`${places.length > 0 ? `trace 1 ${places.join(" ")}\n` : ""}regs\n`);
-    const values = places.length > 0 ? valuesOf(new Answers(answers).takeTrace().row) : [];
-    const { owed, test } = readRegisters(answers[answers.length - 1]);
-    /** @type {Beside} */
-    const beside = { test, owed, cycles: this.elapsed - this.marked, seen, printed: this.paper ? this.paper.words : [] };
+    const { values, beside } = this.told(condition);
     return { holds: condition.holds(values, beside), told: condition.tell(values, beside) };
   }
 

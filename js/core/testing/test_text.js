@@ -1,15 +1,20 @@
-// A text of tests, as tools/lib/test_text.awk reads it: its tests with their steps, and what cannot be right in it. Without a document.
+// Texts of tests: their tests with their steps, and what cannot be right in them. Shared steps of a text can be done by those after it;
+// states are those of one text.
 // The manual ("The lines of a test") has the language.
 
-import { durationOf, wholeDuration } from "../debug/durations.js";
-import { testConditionOf } from "../debug/conditions.js";
-import { readSetting } from "./setting.js";
+import { durationOf, wholeDuration } from "../conditions/durations.js";
+import { expressionOf, testConditionOf } from "../conditions/conditions.js";
+import { placeOf } from "../conditions/places.js";
+import { readSetting } from "../conditions/setting.js";
+import { numberOf } from "../bench/numbers.js";
+import { inColumn } from "../../words/conditions.js";
 import * as say from "../../words/testing.js";
 
 /**
- * @typedef {import("../debug/conditions.js").Condition} Condition
- * @typedef {import("../debug/conditions.js").Names} Names
- * @typedef {{ line: number, words: string }} Fault
+ * @typedef {import("../conditions/conditions.js").Condition} Condition
+ * @typedef {import("../conditions/conditions.js").Names} Names
+ * @typedef {{ name: string, text: string }} Source a text of tests with the name of its file, "" where it has none
+ * @typedef {{ file: string, line: number, column: number, words: string }} Fault `column` counts from 0, -1 if none is known
  * @typedef {{ name: string, press: string, release: string }} Key with the commands that move it
  *
  * A key that a value names: the word of the line, the place, its word of `trace`, and the keys for the values from 0 on; without these, the
@@ -20,13 +25,14 @@ import * as say from "../../words/testing.js";
  * @typedef {{ kind: "from" | "save", state: string } | { kind: "press" | "release" | "keys", keys: (Key | ChosenKey)[] }
  *   | { kind: "pace", down: number, up: number } | { kind: "run", cycles: number }
  *   | { kind: "until", condition: Condition, cycles: number } | { kind: "expect", condition: Condition }
- *   | { kind: "mark" | "reset" } | { kind: "set", command: string, changesRom: boolean }
+ *   | { kind: "mark" | "reset" } | { kind: "set", commands: string[], changesRom: boolean }
  *   | { kind: "repeat", times: number, steps: Step[] } | { kind: "do", name: string, steps: Step[] }} Action
- * @typedef {{ line: number, text: string, action: Action }} Step
+ * @typedef {{ source: Source, line: number, text: string, action: Action }} Step
  *
  * Shared steps, with how many lines are done by them, what is repeated as often as it is.
- * @typedef {{ name: string, line: number, steps: Step[], lines: number }} Shared
- * @typedef {{ name: string, line: number, from: string, steps: Step[] }} Test `from` is the state that it begins with, "" for none
+ * @typedef {{ source: Source, name: string, line: number, steps: Step[], lines: number }} Shared
+ * @typedef {{ textNumber: number, name: string, line: number, from: string, steps: Step[] }} Test `textNumber` counts the texts from 1;
+ *   `from` is the state that it begins with, "" for none
  * @typedef {{ tests: Test[], faults: Fault[] }} TestText
  */
 
@@ -34,16 +40,32 @@ import * as say from "../../words/testing.js";
 const MOST_TIMES = 100000;
 const MOST_LINES = 1000000;
 
-/** What is wrong with a line. */
-class BadLine extends Error {}
+/** What is wrong with a line, and from which of its columns on. */
+class BadLine extends Error {
+  /**
+   * @param {string} words
+   * @param {number} column from 0, -1 if none is known
+   */
+  constructor(words, column) {
+    super(words);
+    this.column = column;
+  }
+}
 
 /**
  * @param {string} words
+ * @param {number} [column]
  * @returns {never}
  */
-function fail(words) {
-  throw new BadLine(words);
+function fail(words, column = -1) {
+  throw new BadLine(words, column);
 }
+
+/**
+ * Returns the address of a place of ROM; NaN for any other place.
+ * @param {string} place
+ */
+const romAddress = (place) => (place.startsWith("rom.") ? numberOf(place.slice("rom.".length)) : NaN);
 
 /**
  * The names of a board's keys with the commands that move them, in the order of the face; last what is at TEST.
@@ -68,11 +90,15 @@ class TestReader {
   constructor(names) {
     this.names = names;
     this.keys = keysOf(names.face);
+    /** @type {Source} the text that is being read */
+    this.source = { name: "", text: "" };
+    /** Its number among the texts. */
+    this.textNumber = 0;
     /** @type {Test[]} */
     this.tests = [];
     /** @type {Fault[]} */
     this.faults = [];
-    /** @type {Map<string, Test>} by which test each state is saved */
+    /** @type {Map<string, Test>} by which test of this text each state is saved */
     this.savedBy = new Map();
     /** @type {Map<string, Shared>} */
     this.shared = new Map();
@@ -92,9 +118,15 @@ class TestReader {
     return this.tests[this.tests.length - 1];
   }
 
-  /** @param {string} text */
-  read(text) {
-    const lines = text.replace(/^\uFEFF/, "").replace(/\r(?=\n|$)/g, "").split("\n").map((line) => line.replace(/^[ \t]+|[ \t]+$/g, ""));
+  /** @param {Source} source */
+  read(source) {
+    this.source = source;
+    this.textNumber += 1;
+    this.savedBy.clear();
+    this.hasBegun = false;
+    const plain = source.text.replace(/^\uFEFF/, "").replace(/\r(?=\n|$)/g, "");
+    const whole = plain.split("\n");
+    const lines = whole.map((line) => line.replace(/^[ \t]+|[ \t]+$/g, ""));
     for (let at = 0; at < lines.length; at++) {
       const line = this.withoutComment(lines[at]);
       if (line === "") continue;
@@ -102,13 +134,28 @@ class TestReader {
         this.readLine(line, at + 1);
       } catch (fault) {
         if (!(fault instanceof BadLine)) throw fault;
-        this.faults.push({ line: at + 1, words: fault.message });
+        const column = fault.column < 0 ? -1 : fault.column + whole[at].length - whole[at].trimStart().length;
+        this.addFault(at + 1, fault.message, Math.min(column, whole[at].trimEnd().length - 1));
         // What is no text of tests has no lines of one.
         if (!this.hasBegun && /^[\t -~]*$/.test(lines[at])) return;
       }
     }
     this.closeRepeats();
-    if (this.tests.length === 0 && this.faults.length === 0) this.faults.push({ line: 1, words: say.NO_TEST });
+    if (!this.hasBegun && this.faults.length === 0) this.addFault(1, say.NO_TEST);
+  }
+
+  /** All texts are read: there must be a test among them. */
+  end() {
+    if (this.tests.length === 0 && this.faults.length === 0) this.addFault(1, say.NO_TEST);
+  }
+
+  /**
+   * @param {number} line
+   * @param {string} words
+   * @param {number} [column]
+   */
+  addFault(line, words, column = -1) {
+    this.faults.push({ file: this.source.name, line, column, words: column < 0 ? words : inColumn(words, column) });
   }
 
   /**
@@ -119,7 +166,9 @@ class TestReader {
     if (/^[#;]/.test(line)) return "";
     if (/^test[ \t]/.test(line)) return line;
     const hasKeys = /^(press|release|keys)[ \t]/.test(line);
-    const mark = [...line.matchAll(/[ \t]+([#;])(?=[ \t]|$)/g)].find(([, name]) => !hasKeys || !this.keys.has(name));
+    const isKey = (/** @type {RegExpMatchArray} */ { 1: name, index = 0 }) => (
+      this.keys.has(name) && (hasKeys || /(^|[\s(!])key$/i.test(line.slice(0, index))));
+    const mark = [...line.matchAll(/[ \t]+([#;])(?=[ \t]|$)/g)].find((found) => !isKey(found));
     return mark ? line.slice(0, mark.index) : line;
   }
 
@@ -157,7 +206,7 @@ class TestReader {
   beginTest(name, line) {
     this.sharing = null;
     this.steps = [];
-    this.tests.push({ name, line, from: "", steps: this.steps });
+    this.tests.push({ textNumber: this.textNumber, name, line, from: "", steps: this.steps });
     if (name === "") fail(say.TEST_NAME);
   }
 
@@ -169,16 +218,17 @@ class TestReader {
     const name = words.length === 2 ? words[1] : "";
     const before = this.shared.get(name);
     this.steps = [];
-    this.sharing = { name, line, steps: this.steps, lines: 0 };
+    const { source } = this;
+    this.sharing = { source, name, line, steps: this.steps, lines: 0 };
     this.shared.set(name, this.sharing);
     if (name === "") fail(say.STEPS_NAME);
-    if (before) fail(say.stepsAlready(name, before.line));
+    if (before) fail(say.stepsAlready(name, before.line, before.source.name === source.name ? "" : before.source.name));
   }
 
   // --- what is repeated ---
 
   closeRepeats() {
-    for (const { line } of this.repeats.splice(0)) this.faults.push({ line, words: say.NO_END });
+    for (const { line } of this.repeats.splice(0)) this.addFault(line, say.NO_END);
   }
 
   /** @param {string[]} words */
@@ -207,7 +257,7 @@ class TestReader {
    */
   readStep(words, text, line) {
     /** @type {Step} */
-    const step = { line, text, action: { kind: "mark" } };
+    const step = { source: this.source, line, text, action: { kind: "mark" } };
     this.steps.push(step);
     if (words[0] === "repeat") {
       const isCount = words.length === 2 && /^\d{1,6}$/.test(words[1]) && Number(words[1]) >= 1 && Number(words[1]) <= MOST_TIMES;
@@ -221,7 +271,7 @@ class TestReader {
       step.action = this.readDo(words);
     } else {
       this.addLines(1);
-      step.action = this.readAction(words);
+      step.action = this.readAction(words, text);
     }
   }
 
@@ -246,17 +296,19 @@ class TestReader {
 
   /**
    * @param {string[]} words
+   * @param {string} text
    * @returns {Action}
    */
-  readAction(words) {
+  readAction(words, text) {
     const [kind, ...rest] = words;
+    const begin = kind.length;
     if (kind === "from" || kind === "save") return this.readState(kind, rest);
     if (kind === "press" || kind === "release" || kind === "keys") return this.readKeys(kind, rest);
     if (kind === "pace") return readPace(rest);
     if (kind === "run") return { kind, cycles: wholeDuration(rest) || fail(say.RUN_FORM) };
-    if (kind === "until") return this.readUntil(rest);
-    if (kind === "expect") return { kind, condition: this.readCondition(rest) };
-    if (kind === "set") return { kind, ...readSetting(rest, this.names, fail) };
+    if (kind === "until") return this.readUntil(text, begin);
+    if (kind === "expect") return { kind, condition: this.readCondition(text.slice(begin), begin) };
+    if (kind === "set") return { kind, ...this.readSet(text.slice(begin), begin) };
     if (kind === "mark" || kind === "reset") return rest.length === 0 ? { kind } : fail(say.standsAlone(kind));
     return fail(say.noForm(kind.slice(0, 30), say.FIRST_WORDS));
   }
@@ -310,10 +362,13 @@ class TestReader {
     const [, inner] = /^\{([^{}]+)\}$/.exec(word) || [];
     if (inner === undefined) return null;
     const [, place, list] = /^([^:]*)(?::(.*))?$/.exec(inner) || ["", ""];
-    if (!/^(acc|cy|dcl|r[0-9]+|(ram|st)\.[0-9A-Za-z.]+)$/.test(place) || list === "") return fail(say.CHOICE_FORM);
+    const found = placeOf(place);
+    const spelled = found ? found.name : place.toLowerCase();
+    if (!/^(acc|cy|dcl|r\d+|(ram|st)\..+)$/.test(spelled) || list === "") return fail(say.CHOICE_FORM);
     const keys = list === undefined ? [] : list.split(",").map((name) => this.keys.get(name) || this.noKey(name, name));
-    const [probe] = this.readCondition([place, "0"]).places;
-    return { word, place, probe, keys };
+    const { expression, fault } = expressionOf(place, this.names);
+    const { places: [probe] } = expression || fail(fault);
+    return { word, place: spelled, probe, keys };
   }
 
   /**
@@ -327,24 +382,42 @@ class TestReader {
     return fail(say.noKey(what, there));
   }
 
-  /** @param {string[]} words */
-  readCondition(words) {
-    const { condition, fault } = testConditionOf(words, this.names);
-    return condition || fail(fault);
+  /**
+   * @param {string} text
+   * @param {number} begin its column in the line
+   */
+  readCondition(text, begin) {
+    const { condition, fault, column } = testConditionOf(text, this.names);
+    return condition || fail(fault, begin + column);
   }
 
   /**
-   * @param {string[]} words
+   * @param {string} text of the line
+   * @param {number} begin the column of its condition
    * @returns {Action}
    */
-  readUntil(words) {
-    const within = words.slice(0, -1).lastIndexOf("within");
-    if (within < 1) fail(say.UNTIL_FORM);
-    const cycles = wholeDuration(words.slice(within + 1));
+  readUntil(text, begin) {
+    const [, whole, time] = /^(.*\S)[ \t]+within[ \t]+(.*)$/.exec(text) || [];
+    if (whole === undefined || whole.length <= begin) return fail(say.UNTIL_FORM);
+    const cycles = wholeDuration(time.split(/[ \t]+/));
     if (cycles < 1) fail(say.WITHIN_FORM);
-    const condition = this.readCondition(words.slice(0, within));
+    const condition = this.readCondition(whole.slice(begin), begin);
     if (condition.needs.includes("cycles")) fail(say.NO_CYCLES);
     return { kind: "until", condition, cycles };
+  }
+
+  /**
+   * @param {string} text what follows `set`
+   * @param {number} begin its column in the line
+   */
+  readSet(text, begin) {
+    const { board, map } = this.names;
+    const { place, lines, fault, column } = readSetting(text, map, board);
+    if (fault) fail(fault, begin + column);
+    const address = romAddress(place);
+    const hasRom = Number.isNaN(address) || board.roms.some(({ chip }) => Number(chip) === Math.floor(address / 256));
+    if (!hasRom) fail(say.noRomAt(text.trim().split(/[ \t=]+/)[0].slice("rom.".length)), begin + 1);
+    return { commands: lines.trimEnd().split("\n"), changesRom: !Number.isNaN(address) };
   }
 }
 
@@ -374,12 +447,22 @@ export function ownLines(steps) {
 }
 
 /**
- * @param {string} text
+ * Reads texts of tests, one after the other.
+ * @param {Source[]} sources
  * @param {Names} names of the board and the program
  * @returns {TestText}
  */
-export function readTests(text, names) {
+export function readSources(sources, names) {
   const reader = new TestReader(names);
-  reader.read(text);
+  for (const source of sources) reader.read(source);
+  reader.end();
   return { tests: reader.tests, faults: reader.faults };
+}
+
+/**
+ * @param {string} text
+ * @param {Names} names of the board and the program
+ */
+export function readTests(text, names) {
+  return readSources([{ name: "", text }], names);
 }

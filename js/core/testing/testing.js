@@ -1,5 +1,5 @@
-// Tests of a program: their text is read, they are run, and what they have run is counted. Without a document: the page's worker calls it,
-// and node. The results are those of tools/test, cover and profile.
+// Tests of a program: their texts are read, they are run, and what they have run is counted. Without a document: the page's worker calls
+// it, and node (mcs4 test, cover and profile).
 //
 //     const report = await runTests(engine, { boardText, programText, testText }, async (done, total) => true);
 
@@ -9,15 +9,24 @@ import { coverageOf } from "./coverage.js";
 import { prepare } from "./prepared.js";
 import { profileOf } from "./profile.js";
 import { TestRun } from "./test_run.js";
-import { readTests } from "./test_text.js";
+import { readSources } from "./test_text.js";
 
 /**
- * @typedef {import("../engine/engine.js").Engine} Engine
+ * @typedef {import("../engine/engine_host.js").EngineHost} Engine
  * @typedef {import("./coverage.js").Coverage} Coverage
  * @typedef {import("./prepared.js").TextFault} TextFault
  * @typedef {import("./profile.js").Profile} Profile
  * @typedef {import("./test_run.js").Outcome} Outcome
- * @typedef {{ boardText: string, programText: string, testText: string }} TestedTexts
+ * @typedef {import("./test_text.js").Action} Action
+ * @typedef {import("./test_text.js").Source} Source
+ * @typedef {import("./test_text.js").Test} Test
+ * @typedef {{ boardText: string, programText: string, testText?: string, sources?: Source[] }} TestedTexts with a text of tests, or several
+ *   with their names
+ *
+ * What is counted (of less than an Account the coverage or the profile is empty); what takes each outcome, with its number, as its test
+ * ends; and the one test that is run, by its name and its source, after those that lead to the state that it goes on from.
+ * @typedef {{ Counting?: typeof Account, ended?: (outcome: Outcome, number: number, total: number) => void,
+ *   only?: { name: string, source: string } | null }} Options
  *
  * What came of tests; with faults nothing was run.
  * @typedef {{ faults: TextFault[], outcomes: Outcome[], coverage: Coverage | null, profile: Profile | null }} Report
@@ -34,35 +43,66 @@ const BREATH_TIME = 40;
 export function readTested(engine, texts) {
   const { prepared, faults } = prepare(engine, texts);
   if (!prepared) return { prepared, faults, tests: [] };
-  const read = readTests(texts.testText, prepared.names);
+  const { testText = "", sources = [{ name: "", text: testText }] } = texts;
+  const read = readSources(sources, prepared.names);
   /** @type {TextFault[]} */
   const wrong = read.faults.map((fault) => ({ text: "tests", number: 0, ...fault }));
   return { prepared: wrong.length > 0 ? null : prepared, faults: wrong, tests: read.tests };
 }
 
 /**
- * Whether a condition of some steps is about what is printed.
+ * Returns whether any of some steps, and of the steps within them, does an action of a kind.
  * @param {import("./test_text.js").Step[]} steps
+ * @param {(action: Action) => boolean} isWanted
  * @returns {boolean}
  */
-function asksForPaper(steps) {
-  return steps.some(({ action }) => {
-    if ("steps" in action) return asksForPaper(action.steps);
-    return "condition" in action && action.condition.needs.includes("printed");
-  });
+function someStep(steps, isWanted) {
+  return steps.some(({ action }) => ("steps" in action ? someStep(action.steps, isWanted) : isWanted(action)));
 }
 
 /**
- * Runs the tests of a text.
+ * Returns the test that saves the state that another one goes on from; undefined if that begins at power-on.
+ * @param {Test[]} tests
+ * @param {Test} test
+ */
+function savingOf(tests, { textNumber, from }) {
+  return tests.find((each) => each.textNumber === textNumber
+    && each.steps.some(({ action }) => action.kind === "save" && action.state === from));
+}
+
+/**
+ * Returns a test after those that lead to it, in their order.
+ * @param {Test[]} tests
+ * @param {(test: Test) => boolean} isWanted
+ */
+function leadingTo(tests, isWanted) {
+  /** @type {Set<Test>} */
+  const wanted = new Set();
+  for (let test = tests.find(isWanted); test && !wanted.has(test); test = savingOf(tests, test)) wanted.add(test);
+  return tests.filter((test) => wanted.has(test));
+}
+
+/** @type {(action: Action) => boolean} whether its condition is about what is printed */
+const asksForPaper = (action) => "condition" in action && action.condition.needs.includes("printed");
+
+/** @type {(action: Action) => boolean} */
+const changesRom = (action) => action.kind === "set" && action.changesRom;
+
+/**
+ * Runs tests.
  * @param {Engine} engine
  * @param {TestedTexts} texts
  * @param {(done: number, total: number) => Promise<boolean>} goesOn is told how many tests are done, and says whether to go on
+ * @param {Options} [options]
  * @returns {Promise<Report>}
  */
-export async function runTests(engine, texts, goesOn) {
-  const { prepared, faults, tests } = readTested(engine, texts);
+export async function runTests(engine, texts, goesOn, options = {}) {
+  const { Counting = Account, ended = () => {}, only = null } = options;
+  const { prepared, faults, tests: all } = readTested(engine, texts);
+  const { sources = [] } = texts;
+  const tests = only ? leadingTo(all, ({ name, textNumber }) => name === only.name && sources[textNumber - 1].name === only.source) : all;
   if (!prepared) return { faults, outcomes: [], coverage: null, profile: null };
-  const account = new Account(prepared.codes);
+  const account = new Counting(prepared.codes);
   /** @type {Outcome[]} */
   const outcomes = [];
   let last = performance.now();
@@ -71,11 +111,14 @@ export async function runTests(engine, texts, goesOn) {
     if (!(await goesOn(outcomes.length, tests.length))) throw new Cancelled();
     last = performance.now();
   };
-  const printer = tests.some(({ steps }) => asksForPaper(steps)) ? prepared.names.face.printer : null;
+  const printer = tests.some(({ steps }) => someStep(steps, asksForPaper)) ? prepared.names.face.printer : null;
   const run = new TestRun(engine, prepared, account, breathe, printer);
+  run.changesRom = tests.some(({ steps }) => someStep(steps, changesRom));
+  if (tests.length > 1) engine.keep(prepared.file);
   for (const test of tests) {
-    const saving = tests.find(({ steps }) => steps.some(({ action }) => action.kind === "save" && action.state === test.from));
+    const saving = savingOf(tests, test);
     outcomes.push(await run.run(test, saving ? saving.name : ""));
+    ended(outcomes[outcomes.length - 1], outcomes.length, tests.length);
     await breathe();
   }
   account.codes = prepared.codes;

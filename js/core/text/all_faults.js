@@ -4,6 +4,7 @@
 import { faceFaults } from "../board/face.js";
 import { SourceMap } from "../machine/source_map.js";
 import { faultsOfBoard } from "./board_words.js";
+import { KnownFaults } from "./known_faults.js";
 import { LACKS_ROM, findProgramFaults, lacksOfRom } from "./program_faults.js";
 import { alignedText, faultsOfLines, sentText } from "./text_fault.js";
 
@@ -36,8 +37,10 @@ export class AllFaultsOfTexts {
    * @param {Asked} asked
    * @param {Map<string, Instruction>} instructions
    * @param {(number: number) => string} wordsOf gives the words of a refusal
+   * @param {KnownFaults} [known] what the bench said of lines before
    */
-  constructor(asked, instructions, wordsOf) {
+  constructor(asked, instructions, wordsOf, known = new KnownFaults()) {
+    this.known = known;
     this.asked = asked;
     this.instructions = instructions;
     this.wordsOf = wordsOf;
@@ -50,7 +53,7 @@ export class AllFaultsOfTexts {
    */
   async ofProgram(text, isWanted) {
     const found = await findProgramFaults(text, this.instructions, this.wordsOf,
-      async (part) => (isWanted() ? this.asked.refuse("asm", part) : undefined));
+      async (part) => (isWanted() ? this.asked.refuse("asm", part) : undefined), this.known);
     if (!found || !found.rest || found.rest.number !== LACKS_ROM || found.faults.length > 0) return found;
     const sent = sentText(text, ";");
     const map = new SourceMap(await this.asked.map(sent), sent);

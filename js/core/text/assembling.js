@@ -1,6 +1,7 @@
 // The lines by which a program comes into ROM with nothing else beside it: as few commands as can be.
 
-import { counted, hex } from "../bench/numbers.js";
+import { counted, hex, upTo } from "../bench/numbers.js";
+import { PAGES, PAGE_BYTES } from "../bench/rom_bytes.js";
 import { LONGEST_TEXT } from "./text_fault.js";
 import * as say from "../../words/text.js";
 
@@ -13,6 +14,9 @@ import * as say from "../../words/text.js";
 const MOST_ON_LINE = 60;
 /** So many zeros do. */
 const MOST_ZEROS = 126;
+
+/** @type {(address: number) => number} the ROM that an address belongs to */
+const pageOf = (address) => Math.floor(address / PAGE_BYTES);
 
 /**
  * Stretches of addresses that follow each other, each as its first address and its length.
@@ -51,21 +55,46 @@ function clearing(addresses) {
   return stretchesOf(addresses).map(({ from, count }) => statementsOf(from, Array(count).fill(0), MOST_ZEROS));
 }
 
+/** A text has room left for a byte of each ROM, if there is more than one text. */
+const ROOM_FOR_ROMS = PAGES.length * statementsOf(0, [255], 1).length;
+
 /**
- * The texts of `asm` that put bytes into ROM, each as long as a text can be.
+ * Returns statements for the last byte of each ROM that is filled but has no byte among some lines.
+ * @param {Int16Array} bytes
+ * @param {Set<number>} pages that have a byte there
+ */
+function statementsForRoms(bytes, pages) {
+  const lastOf = (/** @type {number} */ page) => {
+    let at = (page + 1) * PAGE_BYTES - 1;
+    while (at >= page * PAGE_BYTES && bytes[at] < 0) at -= 1;
+    return at;
+  };
+  const lacking = PAGES.filter((page) => !pages.has(page)).map((page) => ({ page, at: lastOf(page) }));
+  return lacking.filter(({ page, at }) => at >= page * PAGE_BYTES).map(({ at }) => statementsOf(at, [bytes[at]], 1)).join("");
+}
+
+/**
+ * Returns the texts of `asm` that put bytes into ROM, each as long as a text can be. Of several texts each one has a byte of each ROM, so
+ * that the bench rejects all of them if the board lacks one of these.
  * @param {Int16Array} bytes by their addresses, less than 0 where there is none
  * @returns {string[]}
  */
 export function textsOfBytes(bytes) {
-  const texts = [""];
-  for (const { from, count } of stretchesOf([...bytes.keys()].filter((at) => bytes[at] >= 0))) {
-    for (let at = from; at < from + count; at += MOST_ON_LINE) {
-      const lines = statementsOf(at, [...bytes.subarray(at, Math.min(at + MOST_ON_LINE, from + count))], MOST_ON_LINE);
-      if (texts[texts.length - 1].length + lines.length > LONGEST_TEXT) texts.push("");
-      texts[texts.length - 1] += lines;
-    }
+  const lines = stretchesOf([...bytes.keys()].filter((at) => bytes[at] >= 0)).flatMap(({ from, count }) => {
+    const begins = upTo(Math.ceil(count / MOST_ON_LINE)).map((at) => from + at * MOST_ON_LINE);
+    return begins.map((at) => ({ at, end: Math.min(at + MOST_ON_LINE, from + count) }));
+  }).map(({ at, end }) => ({ text: statementsOf(at, [...bytes.subarray(at, end)], MOST_ON_LINE), pages: [at, end - 1].map(pageOf) }));
+  const whole = lines.map(({ text }) => text).join("");
+  if (whole.length <= LONGEST_TEXT) return [whole];
+  /** @type {{ text: string, pages: Set<number> }[]} */
+  const texts = [{ text: "", pages: new Set() }];
+  for (const { text, pages } of lines) {
+    if (texts[texts.length - 1].text.length + text.length > LONGEST_TEXT - ROOM_FOR_ROMS) texts.push({ text: "", pages: new Set() });
+    const last = texts[texts.length - 1];
+    last.text += text;
+    for (const page of pages) last.pages.add(page);
   }
-  return texts;
+  return texts.map(({ text, pages }) => text + statementsForRoms(bytes, pages));
 }
 
 /**

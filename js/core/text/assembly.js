@@ -52,11 +52,30 @@ function operandsIn(line, from, to) {
   return words;
 }
 
+/** @type {Map<string, Parts>} lines that were cut before: a text is cut anew after each edit */
+const known = new Map();
+const MOST_KNOWN = 8192;
+const LONGEST_KNOWN = 255;
+
+/**
+ * @param {string} line
+ * @returns {Readonly<Parts>}
+ */
+export function partsOf(line) {
+  if (line.length > LONGEST_KNOWN) return cut(line);
+  const before = known.get(line);
+  if (before) return before;
+  if (known.size >= MOST_KNOWN) known.clear();
+  const parts = cut(line);
+  known.set(line, parts);
+  return parts;
+}
+
 /**
  * @param {string} line
  * @returns {Parts}
  */
-export function partsOf(line) {
+function cut(line) {
   const mark = line.indexOf(";");
   const comment = mark < 0 ? line.length : mark;
   const colon = /^[^:=,]*?:/.exec(line.slice(0, comment));

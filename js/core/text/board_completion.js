@@ -28,6 +28,9 @@ function wordsOfLine({ name, kind, isInput }) {
   return kind === "ram" ? say.lineOfRam(third, second, first) : say.bitOfChain(second, first);
 }
 
+/** So many characters before the caret are looked at. */
+const MOST_BEFORE = 2000;
+
 /** The parts of a board's text, as far as it can be read. */
 class Parts {
   /** @param {string} text */
@@ -114,7 +117,7 @@ export function completeBoard(lines, line, at, tables) {
   const parts = new Parts(lines.map((each, number) => (number === line ? "" : each)).join("\n"));
   // An array may have begun some lines before.
   const begun = lines.slice(Math.max(0, line - 9), line).map((each) => each.slice(0, commentAt(each, "#")));
-  const value = VALUE.exec([...begun, before].join("\n"));
+  const value = VALUE.exec([...begun, before].join("\n").slice(-MOST_BEFORE));
   if (value && (before.includes(value[1]) || value[0].includes("["))) return completeValue(text, at, value, parts.values(table, value[1]));
   const keys = tables.get(table) || new Map();
   const words = [...keys].map(([name, values]) => ({ text: name, what: values }));

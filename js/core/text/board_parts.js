@@ -4,7 +4,7 @@
 import { BITS, MOST } from "../bench/board_form.js";
 import { partsWithLines } from "./board_reader.js";
 import { faultAt } from "./text_fault.js";
-import { noChain, noRom } from "../../words/debug.js";
+import { noChain, noRom } from "../../words/conditions.js";
 import * as say from "../../words/text.js";
 
 /**

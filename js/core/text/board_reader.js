@@ -26,6 +26,8 @@ import * as say from "../../words/text.js";
  * tables, all keys at the top, and what is not TOML
  */
 
+/** So many brackets and braces are open at a time, at most: a board has three. */
+const DEEPEST = 32;
 const INTEGER = /^[+-]?(0|[1-9](_?\d)*)$|^0x[0-9A-Fa-f](_?[0-9A-Fa-f])*$|^0o[0-7]+$|^0b[01]+$/;
 
 class NotToml extends Error {
@@ -39,7 +41,7 @@ class NotToml extends Error {
   }
 }
 
-class BoardReader {
+export class BoardReader {
   /** @param {string} text */
   constructor(text) {
     this.words = tomlWords(text.split("\n"));
@@ -54,6 +56,8 @@ class BoardReader {
     this.faults = [];
     /** @type {Entry | null} the table that keys go into */
     this.open = null;
+    /** How many brackets and braces are open in the value that is read. */
+    this.depth = 0;
   }
 
   get word() {
@@ -89,10 +93,20 @@ class BoardReader {
         if (!(fault instanceof NotToml)) throw fault;
         const { line, from, to } = fault.word;
         this.faults.push({ number: NOT_TOML, line, from, to, words: fault.message });
-        // It goes on with the line after the one at fault.
-        this.at = Math.max(begun, this.words.findIndex((word) => word.kind === "end" && word.line >= line)) + 1;
+        this.at = this.lineAfter(line, begun);
       }
     }
+  }
+
+  /**
+   * The first word of the line after the one at fault.
+   * @param {number} line
+   * @param {number} begun the first word of the statement at fault, whose words alone are looked at
+   */
+  lineAfter(line, begun) {
+    let at = begun;
+    while (at < this.words.length && !(this.words[at].kind === "end" && this.words[at].line >= line)) at += 1;
+    return at + 1;
   }
 
   readStatement() {
@@ -164,13 +178,29 @@ class BoardReader {
   readValue(key) {
     const { kind, text, line, from, to, fault } = this.word;
     const range = { line, from, to };
-    if (this.isMark("[")) return { inner: this.readArray(key), whole: true, ...range, end: this.lastEnd };
-    if (this.isMark("{")) return { inner: this.readTable(), whole: true, ...range, end: this.lastEnd };
+    if (this.isMark("[")) return { inner: this.inside(() => this.readArray(key)), whole: true, ...range, end: this.lastEnd };
+    if (this.isMark("{")) return { inner: this.inside(() => this.readTable()), whole: true, ...range, end: this.lastEnd };
     if (kind === "end") throw new NotToml(this.word, say.valueMissing(key));
     if (kind === "mark" || kind === "bad") throw new NotToml(this.word, fault || say.noValue(text));
     const inner = this.innerOf(kind, text);
     this.at += 1;
     return { inner, whole: typeof inner !== "number" || INTEGER.test(text), ...range, end: { line, to } };
+  }
+
+  /**
+   * Reads what brackets or braces have inside; too many of them are a fault.
+   * @template Read
+   * @param {() => Read} read
+   * @returns {Read}
+   */
+  inside(read) {
+    if (this.depth === DEEPEST) throw new NotToml(this.word, say.tooDeep(DEEPEST));
+    this.depth += 1;
+    try {
+      return read();
+    } finally {
+      this.depth -= 1;
+    }
   }
 
   /**

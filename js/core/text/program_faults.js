@@ -4,7 +4,8 @@
 import { NAME, namesOf, partsOf } from "./assembly.js";
 import { hex } from "../bench/numbers.js";
 import { wordsOfProgramLine } from "./program_words.js";
-import { alignedText, faultsOfLines, sentText } from "./text_fault.js";
+import { KnownFaults } from "./known_faults.js";
+import { alignedText, faultsOfLines, sentLine } from "./text_fault.js";
 import * as say from "../../words/text.js";
 
 /**
@@ -56,7 +57,8 @@ function blanked(line, found, number, facts) {
   const word = found && found.word;
   // A label at fault goes, and what stands after it is tried again.
   if (label && !defines && word && word.from === label.from) return line.slice(line.indexOf(":") + 1);
-  if (defines) return label && NAME.test(label.text) && number !== NAME_TWICE && word !== label ? `${label.text} = 0` : "";
+  const isNameRight = label && NAME.test(label.text) && number !== NAME_TWICE && !(word && word.from === label.from);
+  if (defines) return isNameRight ? `${label.text} = 0` : "";
   const size = OF_ADDRESSES.slice(1).includes(number) ? 0 : sizeOfStatement(parts, facts) || 0;
   const bytes = size > 0 ? `DB ${Array(size).fill(0).join(",")}` : "";
   return `${label ? `${label.text}: ` : ""}${bytes}`;
@@ -81,32 +83,79 @@ function faultAt(source, line, at, found, number, wordsOf) {
   return { number, line: at, ...range, words: found ? found.words : wordsOf(number), ...cures };
 }
 
+/** A program whose lines at fault are blanked one after the other. */
+class Search {
+  /**
+   * @param {string} program
+   * @param {Facts["instructions"]} instructions
+   * @param {(number: number) => string} wordsOf gives the words of a refusal
+   */
+  constructor(program, instructions, wordsOf) {
+    this.wordsOf = wordsOf;
+    this.faults = faultsOfLines(program, ";");
+    this.sources = alignedText(program, ";").split("\n");
+    this.lines = [...this.sources];
+    /** @type {Facts} */
+    this.facts = { instructions, names: namesOf(this.lines) };
+    for (const { line } of this.faults) this.lines[line - 1] = "";
+    this.sent = this.lines.map((line) => sentLine(line, ";"));
+    this.isCertain = this.faults.length === 0;
+  }
+
+  /**
+   * Adds the fault of a line, and blanks that.
+   * @param {number} line from 1
+   * @param {number} number of the refusal
+   */
+  add(line, number) {
+    const text = this.lines[line - 1];
+    const found = wordsOfProgramLine(text, number, this.facts);
+    const isShown = this.isCertain || !OF_ADDRESSES.includes(number);
+    if (isShown) this.faults.push(faultAt(this.sources[line - 1], text, line, found, number, this.wordsOf));
+    this.isCertain = this.isCertain && keepsAddresses(text, number, this.facts);
+    const rest = blanked(text, found, number, this.facts);
+    // What is refused once more goes whole: one line never hides the faults of the others.
+    this.lines[line - 1] = rest === text ? "" : rest;
+    this.sent[line - 1] = sentLine(this.lines[line - 1], ";");
+  }
+
+  /**
+   * Adds the faults of lines that the bench would refuse again; returns how many there are.
+   * @param {KnownFaults} known
+   */
+  addKnown(known) {
+    known.begin(this.facts.names.keys());
+    let count = 0;
+    for (let at = 0; at < this.lines.length && count < MOST_FAULTS; at++) {
+      const number = known.numberOf(this.lines[at]);
+      if (number > 0) {
+        this.add(at + 1, number);
+        count += 1;
+      }
+    }
+    return count;
+  }
+}
+
 /**
  * @param {string} program
  * @param {Map<string, Instruction>} instructions
  * @param {(number: number) => string} wordsOf gives the words of a refusal
  * @param {Trial} refuse
+ * @param {KnownFaults} known what the bench said before
  * @returns {Promise<AllFaults | undefined>} undefined where it is not worth going on
  */
-export async function findProgramFaults(program, instructions, wordsOf, refuse) {
-  const faults = faultsOfLines(program, ";");
+export async function findProgramFaults(program, instructions, wordsOf, refuse, known = new KnownFaults()) {
+  const search = new Search(program, instructions, wordsOf);
+  const { faults } = search;
   if (faults.some(({ number }) => number === 13)) return { faults, areAll: false, rest: null };
-  const sources = alignedText(program, ";").split("\n");
-  const lines = [...sources];
-  const facts = { instructions, names: namesOf(lines) };
-  for (const { line } of faults) lines[line - 1] = "";
-  let isCertain = faults.length === 0;
-  for (let trial = 0; trial < MOST_FAULTS; trial++) {
-    const refusal = await refuse(sentText(lines.join("\n"), ";"));
+  for (let trial = search.addKnown(known); trial < MOST_FAULTS; trial++) {
+    const refusal = await refuse(search.sent.join("\n"));
     if (refusal === undefined) return undefined;
     if (!refusal || refusal.line === 0) return { faults: inOrder(faults), areAll: true, rest: refusal };
-    const { number, line } = refusal;
-    const found = wordsOfProgramLine(lines[line - 1], number, facts);
-    const text = lines[line - 1];
-    if (isCertain || !OF_ADDRESSES.includes(number)) faults.push(faultAt(sources[line - 1], text, line, found, number, wordsOf));
-    isCertain = isCertain && keepsAddresses(text, number, facts);
-    lines[line - 1] = blanked(text, found, number, facts);
-    if (number === TOO_MANY_NAMES) break;
+    known.keep(search.lines[refusal.line - 1], refusal.number);
+    search.add(refusal.line, refusal.number);
+    if (refusal.number === TOO_MANY_NAMES) break;
   }
   return { faults: inOrder(faults), areAll: false, rest: null };
 }
@@ -144,6 +193,20 @@ export function lacksOfRom(lines, map, roms) {
     faults.set(chip, faultAt(text, text, line, { word: null, words }, LACKS_ROM, () => words));
   });
   return [...faults.values()];
+}
+
+/**
+ * Whether each line of code has an error, as far as the text was looked at: such a text is hardly a program.
+ * @param {string} program
+ * @param {AllFaults} found
+ */
+export function isNoProgram(program, { faults, areAll }) {
+  const wrong = new Set(faults.map(({ line }) => line));
+  const last = areAll ? Infinity : Math.max(0, ...wrong);
+  /** @type {(text: string) => boolean} */
+  const isCode = (text) => text.slice(0, partsOf(text).comment).trim() !== "";
+  const code = program.split("\n").flatMap((text, at) => (at < last && isCode(text) ? [at + 1] : []));
+  return code.length > 0 && code.every((line) => wrong.has(line));
 }
 
 /** @param {Fault[]} faults */

@@ -29,6 +29,15 @@ const OPERANDS = {
   b: { what: say.A_BYTE, most: 255 },
   t: { what: say.AN_ADDRESS, most: LAST_ADDRESS },
 };
+
+/**
+ * Returns what an operand is, by its letters in the manual's table.
+ * @param {string} kind
+ */
+export function wordsOfOperand(kind) {
+  return OPERANDS[kind].what;
+}
+
 /**
  * What other assemblers write as a number: how it is written here, and words about that; null for anything else.
  * @param {string} text
@@ -139,12 +148,26 @@ function faultOfHead({ label, operands }, head, { instructions }) {
   const given = operands.length === 1 && NAME.test(head.text) && /^(?:EQU|SET)\s+(.*)$/i.exec(operands[0].text);
   if (given) return { word: operands[0], words: say.nameGetsNumber(head.text, given[1]), cures: [`= ${given[1]}`] };
   const other = say.ELSEWHERE.get(upper);
-  const isAlone = !label && operands.length === 0 && NAME.test(head.text);
+  const isName = !label && NAME.test(head.text);
+  if (isName && operands.length > 0 && isHead(operands[0].text.split(/\s/)[0], instructions)) {
+    return curable(head, say.noInstruction(head.text, say.labelForm(head.text)), [`${head.text}:`]);
+  }
+  const isAlone = isName && operands.length === 0;
   const likes = other ? [] : mostAlike(upper, [...instructions.keys(), ...DIRECTIVES]);
   const question = other ? `; ${other}?` : meant(likes);
   const words = say.noInstruction(head.text, question || (isAlone ? say.labelForm(head.text) : ""));
   const alone = isAlone && !question ? [`${head.text}:`] : likes;
   return curable(head, words, other ? other.split(" or ").filter((each) => /^[A-Z]+( \d+,?)?$/.test(each)).map(asHead) : alone);
+}
+
+/**
+ * Whether a statement can begin with a word.
+ * @param {string} word
+ * @param {Facts["instructions"]} instructions
+ */
+function isHead(word, instructions) {
+  const upper = word.toUpperCase();
+  return instructions.has(upper) || DIRECTIVES.includes(upper);
 }
 
 /**

@@ -1,6 +1,6 @@
 // Words of a text of properties: what a word does, by the manual, and what it can become, with the names of the board and the program.
 
-import { alone, completeWord, fittings, formsOfTables, saidOf, testForms, wordsOfCondition, wordsUpTo } from "./test_words.js";
+import { alone, completeWord, conditionForms, fittings, formsOfTables, saidOf, wordsOfCondition, wordsUpTo } from "./test_words.js";
 import * as say from "../../words/text.js";
 
 /**
@@ -15,8 +15,10 @@ import * as say from "../../words/text.js";
 const SECTIONS = [say.MAY_CHANGE, say.MUST_HOLD];
 /** What a line begins with, before a condition. */
 const BEFORE = /^(never|always|reach)$/;
+/** What properties cannot ask for. */
+const OF_TESTS = new Set(["cycles", "printed", "test", "key"]);
 /** What can stand behind a condition. */
-const AFTER = ["and", "for", "only after"];
+const AFTER = ["for", "only after"];
 
 /**
  * What the manual says of the lines of properties.
@@ -25,8 +27,7 @@ const AFTER = ["and", "for", "only after"];
  */
 export function propertyForms(manual) {
   const lines = SECTIONS.flatMap((title) => formsOfTables(manual, title).flat());
-  // `cycles` and `test` are of a test alone.
-  return { lines, conditions: testForms(manual).conditions.filter(({ word }) => word !== "cycles" && word !== "test") };
+  return { lines, conditions: conditionForms(manual).filter(({ word }) => !OF_TESTS.has(word)) };
 }
 
 /**
@@ -45,8 +46,6 @@ export function firstProperties({ keys, lamps }) {
  */
 function conditionOf(words) {
   const [first, ...rest] = words;
-  const joined = words.lastIndexOf("and");
-  if (joined >= 0) return words.slice(joined + 1);
   if (BEFORE.test(first || "")) return rest;
   return first === "at" && rest.length > 0 ? rest.slice(1) : null;
 }

@@ -38,13 +38,22 @@ export function formsOfTables(manual, title) {
 }
 
 /**
+ * What the manual says of conditions, wherever one can stand.
+ * @param {ManualSection[]} manual
+ */
+export function conditionForms(manual) {
+  const [forms] = formsOfTables(manual, say.CONDITIONS);
+  return forms || [];
+}
+
+/**
  * What the manual says of the lines of tests.
  * @param {ManualSection[]} manual
  * @returns {TestForms}
  */
 export function testForms(manual) {
-  const [steps, conditions] = formsOfTables(manual, say.LINES_OF_TEST);
-  return { steps: steps || [], conditions: conditions || [] };
+  const [steps] = formsOfTables(manual, say.LINES_OF_TEST);
+  return { steps: steps || [], conditions: conditionForms(manual) };
 }
 
 /**
@@ -76,6 +85,9 @@ function wordsAfter(before, begun, { keys, lamps, labels }, forms) {
   return wordsOfCondition(before.slice(1), { keys, lamps, labels }, forms.conditions, ["within"]);
 }
 
+/** What joins conditions. */
+const JOINS = new Set(["and", "or", "&&", "||"]);
+
 /**
  * What can stand next in a condition.
  * @param {string[]} before its words so far
@@ -84,11 +96,16 @@ function wordsAfter(before, begun, { keys, lamps, labels }, forms) {
  * @param {string[]} after what can stand behind it
  * @returns {Fitting[]}
  */
-export function wordsOfCondition(before, { lamps, labels }, conditions, after) {
-  const words = before.filter((word) => word !== "not");
+export function wordsOfCondition(before, { keys, lamps, labels }, conditions, after) {
+  const begin = before.reduce((last, word, at) => (JOINS.has(word) ? at + 1 : last), 0);
+  const words = before.slice(begin).map((word) => word.replace(/^[(!]+/, "")).filter((word) => word !== "not" && word !== "");
+  const joins = ["and", "or", ...after];
   if (words.length === 0) return [...fittings(conditions), ...alone(labels.map((label) => `@${label}`))];
-  if (words[0] === "lamp") return alone(words.length === 1 ? lamps : ["on", "off", ...after]);
-  return alone(words[0] === "lamps" ? [...lamps, "none", ...after] : after);
+  const [word] = words;
+  if (word === "lamp") return alone(words.length === 1 ? lamps : ["on", "off", ...joins]);
+  if (word === "key") return alone(words.length === 1 ? keys : ["down", "up", ...joins]);
+  if (word === "at" && words.length === 1) return alone(labels);
+  return alone(word === "lamps" ? [...lamps, "none", ...joins] : joins);
 }
 
 /**
@@ -163,4 +180,13 @@ export function helpForTest(lines, line, at, { steps, conditions }) {
  */
 function kindOf(word) {
   return word.replace(/^@.*/, "@").replace(/0x[0-9A-Fa-f]+|\d+|\b[A-Z]\b/g, "0");
+}
+
+/**
+ * Returns the test that a board begins with: its first key turns on its first lamp.
+ * @param {{ keys: string[], lamps: string[] }} names of the board
+ */
+export function firstTest({ keys: [key], lamps: [lamp] }) {
+  if (key === undefined) return say.ABOUT_TESTS + (lamp === undefined ? say.TEST_OF_CYCLES : say.testOfLamp(lamp));
+  return say.ABOUT_TESTS + (lamp === undefined ? say.testOfKeyAlone(key) : say.testOfKey(key, lamp));
 }

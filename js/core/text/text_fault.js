@@ -39,7 +39,8 @@ export function faultAt(number, { line, from, to }, words) {
  * @param {CommentMark} mark
  */
 export function commentAt(line, mark) {
-  if (mark === ";") return line.includes(";") ? line.indexOf(";") : line.length;
+  const first = line.indexOf(mark);
+  if (first < 0 || mark === ";") return first < 0 ? line.length : first;
   const before = /^([^"'#]|"(\\.|[^"\\])*"|'[^']*')*/.exec(line);
   const at = before ? before[0].length : 0;
   return line[at] === "#" ? at : line.length;
@@ -68,12 +69,23 @@ function alignedLine(line, mark) {
 }
 
 /**
+ * Removes blanks and tabs from both ends of a text.
+ * @param {string} text
+ */
+export function bare(text) {
+  let [from, to] = [0, text.length];
+  while (from < to && (text[from] === " " || text[from] === "\t")) from += 1;
+  while (to > from && (text[to - 1] === " " || text[to - 1] === "\t")) to -= 1;
+  return text.slice(from, to);
+}
+
+/**
  * A line as it is sent. What is left of a line is never a dot alone, which would end the text.
  * @param {string} line
  * @param {CommentMark} mark
  */
-function sentLine(line, mark) {
-  const left = line.slice(0, commentAt(line, mark)).replace(/^[\t ]+|[\t ]+$/g, "");
+export function sentLine(line, mark) {
+  const left = bare(line.slice(0, commentAt(line, mark)));
   return left === "." && line !== "." ? " ." : left;
 }
 
@@ -144,15 +156,25 @@ function faultOfLine(line, sent, at) {
 }
 
 /**
+ * Whether each line of a text can be sent: most texts need no closer look.
+ * @param {string} text
+ * @param {string[]} sentLines
+ */
+function canBeSent(text, sentLines) {
+  return !/[^\t\n\r -~]/.test(text) && sentLines.every((line) => line.length <= LONGEST_LINE && line !== ".");
+}
+
+/**
  * The lines of a text that cannot be sent; last the one from which on it is too long.
  * @param {string} text
  * @param {CommentMark} mark
  * @returns {Fault[]}
  */
 export function faultsOfLines(text, mark) {
-  const lines = alignedText(text, mark).split("\n");
   const sent = sentText(text, mark);
   const sentLines = sent.split("\n");
+  if (sent.length <= LONGEST_TEXT && canBeSent(text, sentLines)) return [];
+  const lines = alignedText(text, mark).split("\n");
   const faults = lines.map((line, at) => faultOfLine(line, sentLines[at], at + 1)).filter((fault) => fault !== null);
   if (sent.length > LONGEST_TEXT) {
     const last = sent.slice(0, LONGEST_TEXT).split("\n").length;

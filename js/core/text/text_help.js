@@ -14,20 +14,38 @@ import * as say from "../../words/text.js";
  * What an instruction is: its form, words, cycles, what it does, and what becomes of the carry where that is not said.
  * @param {Instruction} instruction
  */
-export function wordsOfInstruction({ form, words, cycles, does }) {
-  const carry = /\bCY\b|carry|borrow/.test(does) ? "" : say.CARRY_STAYS;
+export function wordsOfInstruction(instruction) {
+  const { form, words, cycles } = instruction;
   const size = `${counted(Number(words), "word")}, ${counted(Number(cycles), "cycle")}`;
-  return `${form}: ${size}. ${does[0].toUpperCase()}${does.slice(1)}${carry}.`;
+  const does = doesOf(instruction);
+  return `${form}: ${size}. ${does[0].toUpperCase()}${does.slice(1)}.`;
+}
+
+/**
+ * Returns what an instruction does, and what becomes of the carry where that is not said.
+ * @param {Instruction} instruction
+ */
+export function doesOf({ does }) {
+  return /\bCY\b|carry|borrow/.test(does) ? does : `${does}${say.CARRY_STAYS}`;
 }
 
 /**
  * What a register or a pair is.
  * @param {string} word
  */
-function wordsOfRegister(word) {
+export function wordsOfRegister(word) {
   const number = Number(word.slice(1));
   if (PAIR.test(word)) return say.pairIs(number, 2 * number, 2 * number + 1);
   return say.registerIs(number, number % 2 === 0, Math.floor(number / 2));
+}
+
+/**
+ * What a directive is; "" for another word.
+ * @param {string} word in upper case
+ */
+export function wordsOfDirective(word) {
+  if (word === "ORG") return say.ORG_IS;
+  return word === "DB" ? say.DB_IS : "";
 }
 
 /**
@@ -46,8 +64,7 @@ export function helpForProgram(lines, line, at, instructions, meaningOf) {
   const upper = word.text.toUpperCase();
   const instruction = instructions.get(upper);
   if (instruction) return wordsOfInstruction(instruction);
-  if (upper === "ORG") return say.ORG_IS;
-  if (upper === "DB") return say.DB_IS;
+  if (wordsOfDirective(upper)) return wordsOfDirective(upper);
   if (REGISTER.test(word.text) || PAIR.test(word.text)) return wordsOfRegister(word.text);
   const meaning = meaningOf(word.text);
   if (meaning) return meaning;

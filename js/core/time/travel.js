@@ -14,8 +14,9 @@ import * as say from "../../words/time.js";
  *
  * What it calls: time stands still; a goal is looked for, or not any more; work that changes the session is done, kept and shown, or null
  * is given; time runs up to a goal that the bench knows; breakpoints did something; why time stopped, in words; where it stands
- * still; a breakpoint; the status says something.
- * @typedef {{ stand: () => Promise<void>, aim: (goal: Goal | null) => void,
+ * still; a breakpoint; the status says something; `texts` have the names that conditions may have.
+ * @typedef {{ stand: () => Promise<void>, texts: () => { board: string, program: string, watched: string[] },
+ *   aim: (goal: Goal | null) => void,
  *   change: <Result extends ServedLines>(words: string, work: (ways: Ways) => Promise<Result>) => Promise<Result | null>,
  *   runTo: (goal: Goal) => void, counted: (tally: Tally) => void, reasonOf: (stop: Stop, goal: Goal) => string,
  *   where: () => string, breakpoint: (id: number) => import("../debug/breakpoints.js").Breakpoint | undefined,
@@ -38,6 +39,7 @@ export class Travel {
    */
   async goOn(goal) {
     await this.calls.stand();
+    if (goal.kind === "when") await this.bench.call("takeNames", [this.calls.texts()]);
     this.calls.aim(goal);
     const told = await this.calls.change(say.LOOKING_FOR_GOAL, (ways) => this.bench.call("goOn", [goal], ways));
     this.calls.aim(null);
@@ -51,6 +53,7 @@ export class Travel {
   /** @param {BackGoal} goal */
   async goBack(goal) {
     await this.calls.stand();
+    if (goal.kind === "when") await this.bench.call("takeNames", [this.calls.texts()]);
     const gone = await this.calls.change(say.REPEATING_PAST, (ways) => this.bench.call("goBack", [goal], ways));
     if (gone) this.calls.tell(wordsOfGone(goal, gone, this.calls.where(), this.calls.breakpoint(gone.id)));
   }

@@ -1,11 +1,12 @@
-// What a recording waits for, in words: an edge of a line (`rom0.2 rises`, `lamp 3 falls`, `r5 changes`), or a condition in the words of
-// tests, which it waits to become true (`r9 = 9`, `lamp 3 on`, `display 42`, `@LABEL`: debug/conditions.js). Without a document.
+// What a recording waits for, in words: an edge of a line (`rom0.2 rises`, `lamp 3 falls`, `r5 changes`), or a condition,
+// which it waits to become true (`r9 = 9`, `lamp 3 on`, `display 42`, `@LABEL`: conditions/conditions.js). Without a document.
 
-import { conditionOf } from "../debug/conditions.js";
+import { tracedConditionOf } from "../conditions/conditions.js";
+import { inColumn } from "../../words/conditions.js";
 import * as say from "../../words/waves.js";
 
 /**
- * @typedef {import("../debug/conditions.js").Names} Names
+ * @typedef {import("../conditions/conditions.js").Names} Names
  * @typedef {import("./wave_lines.js").WaveLine} WaveLine
  * @typedef {"rises" | "falls" | "changes"} Edge
  *
@@ -63,8 +64,8 @@ export function readTrigger(text, lines, names) {
   if (text.trim() === "") return { trigger: null, fault: "" };
   const found = EDGE.exec(text.trim());
   if (found) return readEdge(found[1], /** @type {Edge} */ (found[2]), lines);
-  const { condition, fault } = conditionOf(text, names);
-  if (!condition) return { trigger: null, fault };
+  const { condition, fault, column } = tracedConditionOf(text, names);
+  if (!condition) return { trigger: null, fault: inColumn(fault, column) };
   const { places, address, holds } = condition;
   return { trigger: { edge: "", members: [], places, address, holds: (values) => holds(values) }, fault: "" };
 }

@@ -1,4 +1,4 @@
-// A recording as a VCD file (IEEE 1364), as tools/wave writes it: the same bytes for the same lines of the same session.
+// A recording as a VCD file (IEEE 1364): the page and `mcs4 wave` write the same bytes for the same lines of the same session.
 
 /** @typedef {import("./waves.js").Waves} Waves */
 
@@ -30,43 +30,82 @@ function kindOf({ lines }, line) {
   return lines[line].kind === "label" ? "string 1" : `wire ${lines[line].width}`;
 }
 
-/**
- * The text of a line's value.
- * @param {Waves} waves
- * @param {number} line
- * @param {number} moment
- * @param {string} code
- */
-function changeText(waves, line, moment, code) {
-  const { kind, width } = waves.lines[line];
-  if (kind === "label") return `s${waves.labelAt(moment) || "-"} ${code}`;
-  const value = waves.numberAt(line, moment).toString(2).padStart(width, "0");
-  return width === 1 ? `${value}${code}` : `b${value} ${code}`;
+/** Writes a recording as a VCD file. One that is recorded piece by piece is written so, too. */
+export class VcdText {
+  /**
+   * @param {Waves} waves
+   * @param {number[]} chosen the lines, by their numbers, in the order in which the file has them
+   */
+  constructor(waves, chosen) {
+    this.waves = waves;
+    this.chosen = chosen;
+    this.codes = chosen.map((_, at) => codeOf(at));
+    /** Where the recording began; the file's time begins there, too. */
+    this.begun = waves.from;
+    /** The last moment that the file has. */
+    this.written = waves.from;
+  }
+
+  /**
+   * Returns the text of a value of a line.
+   * @param {number} index of the line among the chosen ones
+   * @param {number} value
+   */
+  changeText(index, value) {
+    const { program, lines } = this.waves;
+    const { kind, width } = lines[this.chosen[index]];
+    if (kind === "label") return `s${program && value > 0 ? program.labels[value - 1].name : "-"} ${this.codes[index]}`;
+    if (width === 1) return value + this.codes[index];
+    return `b${value.toString(2).padStart(width, "0")} ${this.codes[index]}`;
+  }
+
+  /** Returns the head of the file, with the values at the beginning of the recording. */
+  head() {
+    const { waves, chosen, codes } = this;
+    return `${[
+      "$version Fethsaim $end",
+      "$comment 108 units of time are a cycle of the 4004, 10.8 microseconds $end",
+      "$timescale 100 ns $end",
+      "$scope module board $end",
+      ...chosen.map((line, at) => `$var ${kindOf(waves, line)} ${codes[at]} ${waves.lines[line].name} $end`),
+      "$upscope $end",
+      "$enddefinitions $end",
+      "#0",
+      "$dumpvars",
+      ...chosen.map((line, at) => this.changeText(at, waves.numberAt(line, waves.from))),
+      "$end",
+    ].join("\n")}\n`;
+  }
+
+  /** Yields the changes that the recording holds, in parts. */
+  * changes() {
+    const { waves, chosen } = this;
+    const tracks = chosen.map((line) => waves.trackOf(line));
+    const counts = new Uint32Array(chosen.length);
+    let lines = [];
+    for (const change of changesOf(waves, chosen)) {
+      const moment = Math.floor(change / LINES);
+      const index = change % LINES;
+      counts[index] += 1;
+      if (moment !== this.written) lines.push(`#${(moment - this.begun) * UNITS}`);
+      this.written = moment;
+      lines.push(this.changeText(index, tracks[index].valueBehind(counts[index])));
+      if (lines.length < LINES_OF_PART) continue;
+      yield `${lines.join("\n")}\n`;
+      lines = [];
+    }
+    if (lines.length > 0) yield `${lines.join("\n")}\n`;
+  }
+
+  /** Returns the end of the file. */
+  end() {
+    const { cycles } = this.waves;
+    return cycles > this.written ? `#${(cycles - this.begun) * UNITS}\n` : "";
+  }
 }
 
 /**
- * @param {Waves} waves
- * @param {number[]} chosen
- * @param {string[]} codes
- */
-function headerOf(waves, chosen, codes) {
-  return [
-    "$version Fethsaim $end",
-    "$comment 108 units of time are a cycle of the 4004, 10.8 microseconds $end",
-    "$timescale 100 ns $end",
-    "$scope module board $end",
-    ...chosen.map((line, at) => `$var ${kindOf(waves, line)} ${codes[at]} ${waves.lines[line].name} $end`),
-    "$upscope $end",
-    "$enddefinitions $end",
-    "#0",
-    "$dumpvars",
-    ...chosen.map((line, at) => changeText(waves, line, waves.from, codes[at])),
-    "$end",
-  ];
-}
-
-/**
- * The changes of the chosen lines in their order: by moments, then by lines.
+ * Returns the changes of the chosen lines in their order: by moments, then by lines.
  * @param {Waves} waves
  * @param {number[]} chosen
  */
@@ -84,25 +123,14 @@ function changesOf(waves, chosen) {
 }
 
 /**
- * The file, in parts.
+ * Yields the file of a whole recording, in parts.
  * @param {Waves} waves
  * @param {number[]} chosen the lines, by their numbers, in the order in which the file has them
  */
 export function* vcdParts(waves, chosen) {
-  const codes = chosen.map((_, at) => codeOf(at));
-  let text = headerOf(waves, chosen, codes);
-  // The file's time begins with it, as the recording does.
-  let told = waves.from;
-  for (const change of changesOf(waves, chosen)) {
-    const moment = Math.floor(change / LINES);
-    const index = change % LINES;
-    if (moment !== told) text.push(`#${(moment - waves.from) * UNITS}`);
-    told = moment;
-    text.push(changeText(waves, chosen[index], moment, codes[index]));
-    if (text.length < LINES_OF_PART) continue;
-    yield `${text.join("\n")}\n`;
-    text = [];
-  }
-  if (waves.cycles > told) text.push(`#${waves.span * UNITS}`);
-  if (text.length > 0) yield `${text.join("\n")}\n`;
+  const text = new VcdText(waves, chosen);
+  yield text.head();
+  yield* text.changes();
+  const end = text.end();
+  if (end) yield end;
 }

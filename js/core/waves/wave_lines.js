@@ -1,9 +1,9 @@
 // The lines of a board that are recorded, and what else a recording can have: their names, and where the bench tells each of them. The
-// same names, in the same order, as those of tools/wave.
+// page and `mcs4 wave` have the same names in the same order.
 
 import { BITS } from "../bench/board_form.js";
 import { numberOf, upTo } from "../bench/numbers.js";
-import { placeOf } from "../bench/places.js";
+import { placeOf } from "../conditions/places.js";
 import { Face } from "../board/face.js";
 import { wordsOfCharacter } from "../debug/standing.js";
 import * as say from "../../words/waves.js";
@@ -111,7 +111,9 @@ function portsOf(lines, face) {
 }
 
 /** The places that hold one value. */
-const VALUE = /^(acc|cy|dcl|r\d+|(ram|st)\..*)$/;
+const VALUE = /^(acc|cy|dcl|src|r\d+|p\d|(ram|st)\..*)$/;
+const DIGIT_WIDTH = 4;
+const PAIR_WIDTH = 8;
 /** @type {Record<string, number>} */
 const WIDTHS = { cy: 1, dcl: 3, src: 8 };
 
@@ -122,16 +124,15 @@ const WIDTHS = { cy: 1, dcl: 3, src: 8 };
  * @returns {WaveLine | null}
  */
 export function valueLine(text, board) {
-  const name = text.trim().toLowerCase().replace(/\s+/g, ".");
-  const pair = /^p([0-7])$/.exec(name);
-  if (pair) return made(name, "registers", "value", { places: [0, 1].map((half) => `r${2 * Number(pair[1]) + half}`), width: 8 });
-  if (name === "src") return made(name, "registers", "value", { places: [name], width: 8, title: say.SRC_OF_ROMS });
-  const place = placeOf(name);
-  if (!place || !VALUE.test(place.name) || place.probesOn(board).length !== 1) return null;
+  const place = placeOf(text);
+  const places = place && VALUE.test(place.name) ? place.probesOn(board) : [];
+  if (!place || places.length === 0) return null;
   const [word, bank, at] = place.name.split(".");
   const isMemory = word === "ram" || word === "st";
-  const title = word === "ram" ? say.inBank(bank, wordsOfCharacter(numberOf(at))) : isMemory ? say.STATUS_CHARACTER : "";
-  return made(place.name, isMemory ? say.ramGroup(bank) : "registers", "value", { places: [place.name], width: WIDTHS[word] || 4, title });
+  const title = word === "src" ? say.SRC_OF_ROMS : word === "ram" ? say.inBank(bank, wordsOfCharacter(numberOf(at)))
+    : isMemory ? say.STATUS_CHARACTER : "";
+  const width = /^p\d$/.test(word) ? PAIR_WIDTH : WIDTHS[word] || DIGIT_WIDTH;
+  return made(place.name, isMemory ? say.ramGroup(bank) : "registers", "value", { places, width, title });
 }
 
 /** The names of all registers and pairs. */

@@ -8,13 +8,22 @@ import { SourceMap } from "../machine/source_map.js";
  */
 
 /**
+ * Returns the program of a recording, by the map of its text.
+ * @param {SourceMap} map
+ * @param {string} text
+ * @returns {RecordedProgram}
+ */
+export function programInWaves(map, text) {
+  const labels = [...map.labels].map(([address, [name]]) => ({ address, name }));
+  return { text, lines: map.lines, labels: labels.sort((one, other) => one.address - other.address) };
+}
+
+/**
  * @param {Checked} checked
  * @param {string} text
  * @returns {RecordedProgram | null} null where the text is not what stands in ROM
  */
 export function recordedProgram({ map, refusal, difference }, text) {
   const source = new SourceMap(map, text);
-  if (refusal || difference || source.count === 0) return null;
-  const labels = [...source.labels].map(([address, [name]]) => ({ address, name }));
-  return { text, lines: source.lines, labels: labels.sort((one, other) => one.address - other.address) };
+  return refusal || difference || source.count === 0 ? null : programInWaves(source, text);
 }

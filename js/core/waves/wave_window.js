@@ -95,6 +95,11 @@ export class WaveWindow {
     this.goTo(wasAtEnd ? end - this.span : this.from);
   }
 
+  /** Shows all of a recording that stands still, unless somebody has chosen a part of it. */
+  fit() {
+    if (this.to >= this.end && this.span >= Math.min(USUAL, this.all)) this.showAll();
+  }
+
   /**
    * What is around a moment is seen, and cursor A stands there.
    * @param {number} moment
@@ -103,6 +108,16 @@ export class WaveWindow {
     this.cursors[0] = within(moment, this.begin, this.end);
     this.span = Math.min(USUAL, this.all);
     this.goTo(moment - this.span / 2);
+  }
+
+  /**
+   * Cursors that went along with the end, as nobody has moved them, come to two moments.
+   * @param {number} first
+   * @param {number} second
+   */
+  placeCursors(first, second) {
+    if (this.cursors.some((cursor) => cursor !== this.end)) return;
+    this.cursors = [first, second].map((moment) => within(moment, this.begin, this.end));
   }
 
   /** All is seen. */

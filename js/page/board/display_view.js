@@ -5,8 +5,7 @@ import { Cell, Switch, block, element } from "../ui/dom.js";
 import { shineOf } from "../../core/board/brightness.js";
 import { MINUS, NOT_LIT, POINT, hasPoints, isLit, patternsAt } from "../../core/board/digit_patterns.js";
 import { DisplayText } from "../../core/board/display_text.js";
-import { fittingGroups, isScanned } from "../../core/board/face_board.js";
-import { minusOf } from "./lamps_view.js";
+import { fittingGroups, isScanned, minusOf } from "../../core/board/face_board.js";
 import { upTo } from "../../core/bench/numbers.js";
 
 /**

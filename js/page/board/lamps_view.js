@@ -1,30 +1,23 @@
 // The lamps of a board: where its face tells a place for them, there; all others in rows, with their names or those of their lines.
 
 import { block, element } from "../ui/dom.js";
-import { SEEN_PART, shineOf } from "../../core/board/brightness.js";
-import { isLit } from "../../core/board/digit_patterns.js";
-import { fittingGroups, isScanned, lampsOf } from "../../core/board/face_board.js";
+import { shineOf } from "../../core/board/brightness.js";
+import { fittingGroups, isScanned, looseLamps } from "../../core/board/face_board.js";
+import { lampAt, scannedLampAt } from "../../core/board/seen_lamps.js";
 import { upTo } from "../../core/bench/numbers.js";
 import * as say from "../../words/board.js";
 
 /**
+ * @typedef {import("../../core/board/brightness.js").Brightness} Brightness
  * @typedef {import("../../core/board/face.js").Face} Face
  * @typedef {import("../../core/board/face.js").Group} Group
- */
-
-/**
- * @typedef {import("../../core/board/brightness.js").Brightness} Brightness
- *
- * How a lamp is seen: whether it is lit at an instant, by the marks of all lamps, for which part of the time it is, and whether that
- * counts as lit.
- * @typedef {{ isLit: (marks: string) => boolean, part: (brightness: Brightness) => number,
- *   isOn: (brightness: Brightness) => boolean }} Seen
+ * @typedef {import("../../core/board/seen_lamps.js").SeenLamp} SeenLamp
  */
 
 /** A lamp that is drawn. It changes the page only where it is brighter or darker now than it was before. */
 class Lamp {
   /**
-   * @param {Seen} seen
+   * @param {SeenLamp} seen
    * @param {string} name
    * @param {string} line
    * @param {string} colour
@@ -103,15 +96,12 @@ export class LampsView {
     this.face = face;
     const groups = fittingGroups(face, lines.length);
     const grid = face.grid.filter(({ lamp }) => lamp < lines.length);
-    const placed = new Set(grid.map(({ lamp }) => lamp));
-    for (const group of groups) for (const lamp of lampsOf(group)) placed.add(lamp);
-    if (groups.some(({ kind }) => kind === "display")) placed.add(minusOf(face));
     let scanned = 0;
     const drawn = groups.filter(({ kind }) => kind !== "display").map((group) => (
       isScanned(group) ? this.drawScanned(group, scanned++) : this.drawGroup(group)));
     if (grid.length > 0) drawn.push(this.drawGrid(grid));
     block("groups").replaceChildren(...drawn);
-    block("lamps").replaceChildren(...this.drawRows(upTo(lines.length).filter((at) => !placed.has(at))));
+    block("lamps").replaceChildren(...this.drawRows(looseLamps(face, lines.length)));
   }
 
   /** @param {number} at */
@@ -125,14 +115,12 @@ export class LampsView {
    * @param {string} name what it is called where it has none
    */
   lamp(at, name) {
-    /** @type {Seen} */
-    const seen = { isLit: (marks) => isLit(marks, at), part: ({ lamps }) => lamps[at], isOn: ({ isOn }) => isOn[at] };
-    return this.add(at, seen, this.nameOf(at) || name, this.lines[at]);
+    return this.add(at, lampAt(at), this.nameOf(at) || name, this.lines[at]);
   }
 
   /**
    * @param {number} at the lamp that it has its colour of
-   * @param {Seen} seen
+   * @param {SeenLamp} seen
    * @param {string} name
    * @param {string} line
    */
@@ -157,16 +145,9 @@ export class LampsView {
    * @param {number} number of those that are scanned
    */
   drawScanned(group, number) {
-    const { first, rows, columns, by } = group;
     return listOf(group, (at, words) => {
-      const [column, row] = [first + (at % columns), by + Math.floor(at / columns)];
-      /** @type {Seen["part"]} */
-      const part = ({ scanned }) => Math.min(1, scanned[number][at] * rows);
-      /** @type {Seen} */
-      const seen = {
-        isLit: (marks) => isLit(marks, column) && isLit(marks, row), part, isOn: (brightness) => part(brightness) >= SEEN_PART,
-      };
-      return this.add(column, seen, words, say.both(this.lines[column], this.lines[row]));
+      const seen = scannedLampAt(group, number, at);
+      return this.add(seen.column, seen, words, say.both(this.lines[seen.column], this.lines[seen.row]));
     });
   }
 
@@ -220,13 +201,4 @@ export class LampsView {
   shine(brightness) {
     for (const lamp of this.lamps) lamp.show(lamp.seen.part(brightness), lamp.seen.isOn(brightness));
   }
-}
-
-/**
- * The lamp that is the minus of a display, -1 where there is none.
- * @param {Face} face
- */
-export function minusOf(face) {
-  for (const [at, { text }] of face.lamps) if (text === "minus") return at;
-  return -1;
 }

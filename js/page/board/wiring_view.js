@@ -20,6 +20,9 @@ import * as say from "../../words/board.js";
 
 /** How far from a pin it is still the pin that is pointed at. */
 const REACH = 9;
+/** How long the leg of a chip is, and how wide half its notch. */
+const LEG = 7;
+const NOTCH = 6;
 
 export class WiringView {
   /** @param {() => boolean} isShown whether the picture is in front */
@@ -81,8 +84,8 @@ export class WiringView {
    * Draws another board.
    * @param {Board} board
    * @param {import("../../core/board/wiring.js").Appearance} look
-   * @param {{ moved: import("../../core/board/wiring.js").Moved, isWired: boolean }} how what was dragged stands where; and whether this board is the one
-   *   that is wired, so that its lines have levels
+   * @param {{ moved: import("../../core/board/wiring.js").Moved, isWired: boolean }} how what was dragged stands where; and whether this
+   *   board is the one that is wired, so that its lines have levels
    */
   draw(board, look, { moved, isWired }) {
     const { parts, wires, width, height } = drawBoard(board, look, moved);
@@ -147,7 +150,10 @@ export class WiringView {
     const words = `${title}: ${says.join("; ")}`;
     const box = drawn("g", { class: `part of-${kind}`, role: "button", tabindex: -1, "aria-label": words });
     const head = drawn("text", { class: "title", x: x + width / 2, y: y + HEAD - 9 }, title);
-    box.append(drawn("rect", { x, y, width, height, rx: 4 }), head);
+    const isChip = part.pins.some(({ number }) => number !== undefined);
+    const [middle, notch] = [x + width / 2, NOTCH];
+    box.append(drawn("rect", { x, y, width, height, rx: isChip ? 2 : 4 }), head);
+    if (isChip) box.append(drawn("path", { class: "notch", d: `M${middle - notch},${y}a${notch},${notch},0,0,0,${2 * notch},0` }));
     this.name(box, id);
     return drawn("g", {}, box, ...part.pins.map((pin) => this.drawPin(part, pin, nodes)));
   }
@@ -177,8 +183,12 @@ export class WiringView {
     nodes.set(pin.line, [...(nodes.get(pin.line) || []), dot]);
     const reach = drawn("circle", { class: "reach", ...centre, r: REACH });
     const words = `${part.title}, ${pin.label}, ${this.wordsOfPin(pin)}`;
-    const node = drawn("g", { "class": "at-pin", "role": "button", "tabindex": -1, "aria-label": words },
-      drawn("title", {}, pin.line || say.TEST_PIN), dot, label, reach);
+    const { number } = pin;
+    const title = drawn("title", {}, (pin.line || say.TEST_PIN) + (number === undefined ? "" : say.pinOf(number)));
+    const leg = number === undefined ? [] : [
+      drawn("rect", { class: "leg", x: isLeft ? pin.x - LEG : pin.x, y: pin.y - 3, width: LEG, height: 6 }),
+      drawn("text", { class: `number ${isLeft ? "at-right" : ""}`, x: pin.x + (isLeft ? -LEG : LEG), y: pin.y - 5 }, String(number))];
+    const node = drawn("g", { "class": "at-pin", "role": "button", "tabindex": -1, "aria-label": words }, title, ...leg, dot, label, reach);
     this.name(node, pin.id);
     return node;
   }

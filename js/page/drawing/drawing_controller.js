@@ -14,8 +14,11 @@ import { PictureZoom } from "./picture_zoom.js";
  * @typedef {import("../../core/drawing/drawing.js").Shown} Shown
  *
  * What it calls, beside what the drawing does: whether the picture is in front, and it is put there; the text is wired, which gives what
- * is told of that; the lines of a part are shown in the text; the session that is shown, in which something was done; a call failed.
- * @typedef {DrawingCalls & { isInFront: () => boolean, putInFront: () => void, wire: () => Promise<string>, find: (part: string) => void,
+ * is told of that; a routine that scans its keys comes into the source; the lines of a part are shown in the text; the session that is
+ * shown, in which something was done; a call failed.
+ * @typedef {import("../../core/bench/answers.js").Board} Board
+ * @typedef {DrawingCalls & { isInFront: () => boolean, putInFront: () => void, wire: () => Promise<string>,
+ *   scanKeys: (board: Board) => void, find: (part: string) => void,
  *   session: () => KeptSession | null, touched: () => void, failed: (fault: unknown) => void }} PictureCalls
  */
 
@@ -47,6 +50,9 @@ export class DrawingController {
       wire: () => this.tried(this.wire()),
       find: this.calls.find,
       tidy: () => this.tidy(),
+      scanKeys: () => {
+        if (this.view.shown) this.calls.scanKeys(this.view.shown.board);
+      },
     });
   }
 

@@ -12,7 +12,7 @@ import * as say from "../../words/drawing.js";
  * @typedef {import("../../core/drawing/fields.js").Field} Field
  * @typedef {import("../board/wiring_view.js").WiringView} WiringView
  * @typedef {{ act: (act: Act) => void, undoOrRedo: (which: "undo" | "redo") => void, wire: () => void, find: (part: string) => void,
- *   tidy: () => void }} ViewCalls
+ *   tidy: () => void, scanKeys: () => void }} ViewCalls
  */
 
 const WITH_DIGITS = new Set(["digit", "segments", "scanned"]);
@@ -146,6 +146,7 @@ export class DrawingView {
     this.fields = fields.map((each, at) => this.fieldNode(each, at, disabled));
     const rows = this.fields.map((node, at) => element("label", {}, `${fields[at].label} `, node));
     const ends = buttons.map(({ word, act }) => this.buttonNode(word, () => this.calls.act(act), disabled));
+    if (part === "keys") ends.push(this.buttonNode(say.INSERT_SCAN, () => this.calls.scanKeys(), disabled));
     if (part) ends.push(this.buttonNode(say.SHOW_IN_BOARD, () => this.calls.find(part), false));
     root.replaceChildren(head, ...rows, ...ends);
     const nodes = [...root.querySelectorAll("input, select, button")];

@@ -1,5 +1,6 @@
 // What guides: the help, the first program, stories of examples, and the box for lines.
 
+import { withKeys } from "../commands/key_list.js";
 import { HelpView } from "./help_view.js";
 import { LinesView } from "../lines/lines_view.js";
 import { linesOfBench } from "../../core/help/manual.js";
@@ -15,12 +16,13 @@ import * as say from "../../words/help.js";
  * @typedef {import("../../core/engine/examples.js").Example} Example
  * @typedef {import("../../core/help/manual.js").ManualSection} ManualSection
  *
- * What it calls, beside what the box for lines does: whether something stands above the bench; a session of an example begins, and whether
- * it did; the source is shown; its text, which is edited, or replaced with words about that; what the places of a story call; the first
+ * What it calls, beside what the box for lines does: a session of an example begins, and whether it did; the source is shown; its text,
+ * which is edited, or replaced with words about that; what a step points at comes into view; what the places of a story call; the first
  * program, or a story, was left; a story is not there.
- * @typedef {Omit<LinesCalls, "help"> & { isCovered: () => boolean, begin: (example: Example) => Promise<boolean>, showSource: () => void,
- *   program: () => string, edit: (program: string) => void, replace: (program: string, words: string) => void,
- *   acts: import("../../core/help/story_acts.js").ActCalls, left: () => void, refuse: (words: string) => void }} GuideCalls
+ * @typedef {Omit<LinesCalls, "help"> & { begin: (example: Example) => Promise<boolean>, showSource: () => void,
+ *   program: () => string, edit: (program: string) => void, reveal: (target: import("../../core/help/tour.js").Target) => void,
+ *   replace: (program: string, words: string) => void, acts: import("../../core/help/story_acts.js").ActCalls, left: () => void,
+ *   refuse: (words: string) => void }} GuideCalls
  */
 
 export class Guide {
@@ -30,7 +32,7 @@ export class Guide {
    */
   constructor(manual, calls) {
     this.calls = calls;
-    this.help = new HelpView(manual);
+    this.help = new HelpView(withKeys(manual));
     this.lines = new LinesView(linesOfBench(manual), {
       send: calls.send,
       wordsOf: calls.wordsOf,
@@ -39,18 +41,11 @@ export class Guide {
     this.tour = new TourView({
       begin: (example) => this.beginTour(example),
       put: (program) => this.put(program),
+      isPut: (program) => calls.program() === program,
+      reveal: calls.reveal,
       act: (act) => doAct(act, calls.acts),
       left: calls.left,
     });
-    addEventListener("keydown", (event) => this.typed(event));
-  }
-
-  /** @param {KeyboardEvent} event */
-  typed(event) {
-    if (event.key !== "F1" || this.calls.isCovered()) return;
-    event.preventDefault();
-    if (this.help.isOpen) this.help.close();
-    else this.help.open();
   }
 
   /** @param {Example} example */

@@ -37,7 +37,6 @@ export class HelpView {
     /** @type {string | null} what was searched when the sections were drawn; null before that */
     this.drawn = null;
     this.isOpen = false;
-    onClick(this.switch, () => (this.isOpen ? this.close() : this.open()));
     onClick(button("help-close"), () => this.close());
     this.search.addEventListener("input", () => this.draw());
     this.root.addEventListener("keydown", (event) => {
@@ -58,6 +57,12 @@ export class HelpView {
     this.root.hidden = false;
     this.switch.setAttribute("aria-expanded", "true");
     this.search.focus();
+  }
+
+  /** @param {string} wanted what is searched as it opens, "" for what was searched before */
+  toggle(wanted) {
+    if (this.isOpen) this.close();
+    else this.open(wanted || undefined);
   }
 
   close() {

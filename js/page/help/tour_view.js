@@ -1,5 +1,6 @@
 // What is gone through step by step beside the bench: the first program, or the story of an example.
 
+import { PointerRing } from "./pointer_ring.js";
 import { Cell, block, button, element, onClick } from "../ui/dom.js";
 import { FIRST_PROGRAM, TOUR, TourWatch } from "../../core/help/tour.js";
 import * as say from "../../words/help.js";
@@ -7,16 +8,27 @@ import * as say from "../../words/help.js";
 /**
  * @typedef {import("../../core/engine/examples.js").Example} Example
  * @typedef {import("../../core/help/tour.js").Part} Part
+ * @typedef {import("../../core/help/tour.js").Target} Target
  * @typedef {import("../../core/help/tour.js").TourStep} TourStep
  *
  * What it calls: a new session with the tour's board, which gives whether it was made; a program is put into the source; a place of a story
- * does what it says, which gives why it did not; the panel was left.
+ * does what it says, which gives why it did not; whether a program is in the source; what a step points at comes into view; the panel was
+ * left.
  * @typedef {{ begin: (example: Example) => Promise<boolean>, put: (program: string) => void,
- *   act: (act: import("../../core/help/story.js").Act) => Promise<string>, left: () => void }} TourCalls
+ *   act: (act: import("../../core/help/story.js").Act) => Promise<string>, isPut: (program: string) => boolean,
+ *   reveal: (target: Target) => void, left: () => void }} TourCalls
  */
 
-/** What bars that stick may cover is not seen. */
-const BESIDE_BARS = "-60px 0px -100px";
+/**
+ * What a step points at.
+ * @type {Record<Target, () => Element | null>}
+ */
+const TARGETS = {
+  send: () => document.querySelector("#program-editor .send"),
+  key: () => document.querySelector("#keys .key"),
+  margin: () => document.querySelector("#program-editor .cm-gutters"),
+  ram: () => document.querySelector("#banks .ram button"),
+};
 
 export class TourView {
   /** @param {TourCalls} calls */
@@ -31,12 +43,7 @@ export class TourView {
     this.told = new Cell(block("tour-told"));
     this.put = button("tour-put");
     this.next = button("tour-next");
-    /** @type {HTMLButtonElement | null} the place that was used last */
-    this.used = null;
-    this.isInView = true;
-    this.back = button("tour-return");
-    onClick(this.back, () => this.comeBack());
-    new IntersectionObserver((seen) => this.scrolled(seen[seen.length - 1].isIntersecting), { rootMargin: BESIDE_BARS }).observe(this.root);
+    this.ring = new PointerRing();
     for (const name of ["tour-begin", "first-program", "hello-program"]) onClick(button(name), () => this.begin());
     onClick(button("tour-close"), () => this.close());
     onClick(this.put, () => calls.put(this.watch.step.program));
@@ -60,7 +67,7 @@ export class TourView {
   close() {
     this.isOn = false;
     this.root.hidden = true;
-    this.scrolled(this.isInView);
+    this.ring.stop();
     this.calls.left();
   }
 
@@ -84,39 +91,36 @@ export class TourView {
     this.put.hidden = program === "";
     this.next.textContent = this.isLast ? say.END : say.NEXT_STEP;
     this.showDone();
+    this.pointOut();
+  }
+
+  /** What the step speaks of comes into view, with a ring round it: first what inserts its program; once it is done, what goes on. */
+  pointOut() {
+    const { program, target } = this.watch.step;
+    if (!target) {
+      this.ring.stop();
+      return;
+    }
+    this.calls.reveal(target);
+    this.ring.point(() => {
+      if (this.watch.isDone) return this.next;
+      return program !== "" && !this.calls.isPut(program) ? this.put : TARGETS[target]();
+    });
   }
 
   /** @param {Part} part */
   nodeOf(part) {
     if (typeof part === "string") return part;
     const made = element("button", { type: "button", className: "place" }, part.words);
-    onClick(made, async () => {
-      this.used = made;
-      this.told.set(await this.calls.act(part.act));
-    });
+    onClick(made, async () => this.told.set(await this.calls.act(part.act)));
     return made;
-  }
-
-  /**
-   * The panel has come into view, or has left it: then a button leads back, in the clock's bar, which is always there.
-   * @param {boolean} isInView
-   */
-  scrolled(isInView) {
-    this.isInView = isInView;
-    this.back.textContent = this.isStory ? say.BACK_TO_STORY : say.BACK_TO_STEPS;
-    this.back.hidden = !this.isOn || isInView;
-  }
-
-  /** Back to where one was in the panel. */
-  comeBack() {
-    this.root.scrollIntoView();
-    (this.used && this.used.isConnected ? this.used : this.root).focus({ preventScroll: true });
   }
 
   showDone() {
     const { isDone } = this.watch;
     this.told.set(isDone ? (this.isLast ? say.LAST_DONE : say.DONE) : "");
     this.root.classList.toggle("done", isDone);
+    this.next.classList.toggle("primary", isDone);
   }
 
   /** @param {string} lamps */

@@ -1,8 +1,13 @@
-// The breakpoints of the session that is shown: their list, the marks in the margin and in the listing, and the panel that shows them.
+// The breakpoints of the session that is shown: their list, the marks in the margin and in the listing, the panel that shows them, the row
+// in which their words are edited, and the menu of the margin.
 
 import { BreakpointKeeper } from "../../core/debug/breakpoint_keeper.js";
 import { marksOf } from "../../core/machine/breakpoint_marks.js";
+import { commandOf } from "../commands/command_table.js";
+import { ContextMenu } from "../commands/menu_view.js";
+import { BreakpointRow } from "./breakpoint_row.js";
 import { BreakpointsView } from "./breakpoints_view.js";
+import * as say from "../../words/machine.js";
 
 /**
  * @typedef {import("../../core/bench/bench.js").Bench} Bench
@@ -14,13 +19,20 @@ import { BreakpointsView } from "./breakpoints_view.js";
  * @typedef {import("../../core/machine/breakpoint_marks.js").BreakpointMark} BreakpointMark
  * @typedef {import("../../core/machine/source_map.js").SourceMap} SourceMap
  *
+ * @typedef {import("../../core/debug/breakpoints.js").Breakpoint} Breakpoint
+ * @typedef {import("./breakpoint_row.js").BreakpointField} BreakpointField
+ *
  * What it calls: the session that is shown, in which something was done; the texts as they stand; lines were served, or there were none to
  * serve; marks are shown at lines and at addresses; an address, or a line of the source, is shown; the program that stands in ROM is looked
- * for where the text is another one, or anew in any case; something is told where the hand was; a call failed.
+ * for where the text is another one, or anew in any case; an element is shown below a line of the source, null for none; the source is
+ * measured again; it comes to the front; the keyboard is the source's; time runs to a line; something is told where the hand was; a call
+ * failed.
  * @typedef {{ session: () => KeptSession | null, touched: () => void, texts: () => { board: string, program: string },
  *   served: (told: ServedLines) => Promise<void>, stands: (told: ServedLines) => void,
  *   showMarks: (lines: Map<number, BreakpointMark>, addresses: Map<number, BreakpointMark>) => void,
- *   goTo: (address: number) => void, reveal: (line: number) => void, freshSource: () => Promise<void>, checkSource: () => Promise<void>,
+ *   goTo: (address: number) => void, reveal: (line: number) => void, showBelow: (line: number, node: HTMLElement | null) => void,
+ *   whenMeasured: (act: () => void) => void, showSource: () => void, focusSource: () => void, runTo: (line: number) => void,
+ *   freshSource: () => Promise<void>, checkSource: () => Promise<void>,
  *   tell: (words: string) => void, failed: (fault: unknown) => void }} BreakpointsCalls
  */
 
@@ -35,6 +47,8 @@ export class BreakpointsController {
     /** @type {BreakpointKeeper} */
     this.keeper = this.makeKeeper();
     this.view = this.makeView();
+    this.row = this.makeRow();
+    this.menu = new ContextMenu("margin-menu", say.LINE);
   }
 
   makeKeeper() {
@@ -53,6 +67,7 @@ export class BreakpointsController {
     const { calls } = this;
     return new BreakpointsView({
       change: (id, some) => this.keeper.change(id, some),
+      edit: (breakpoint) => this.edit(breakpoint, "condition"),
       remove: (id) => this.keeper.remove(id),
       switchAll: (isOn) => this.keeper.switchAll(isOn),
       removeAll: () => this.keeper.removeAll(),
@@ -64,15 +79,73 @@ export class BreakpointsController {
     });
   }
 
+  makeRow() {
+    const { calls } = this;
+    return new BreakpointRow({
+      change: (id, some) => this.keeper.change(id, some),
+      type: (id, some) => this.keeper.type(id, some),
+      settled: () => this.keeper.settled,
+      place: ({ id, line }, node) => {
+        calls.showBelow(line, line > 0 ? node : null);
+        const root = this.view.rootOf(id);
+        if (line === 0 && root && !root.contains(node)) root.append(node);
+      },
+      whenPlaced: calls.whenMeasured,
+      leave: (node) => {
+        calls.showBelow(0, null);
+        node.remove();
+      },
+      left: ({ id, line }) => (line > 0 ? calls.focusSource() : this.view.focus(id)),
+    });
+  }
+
+  /**
+   * Opens the row of a breakpoint, below its line if it has one.
+   * @param {Breakpoint} breakpoint
+   * @param {BreakpointField} what the field that the caret comes to
+   */
+  edit(breakpoint, what) {
+    const { line } = breakpoint;
+    if (line > 0) this.calls.showSource();
+    if (line > 0) this.calls.reveal(line);
+    this.row.open(breakpoint, this.keeper.faults.get(breakpoint.id) || "", what);
+  }
+
+  /**
+   * Opens the menu of a line of the source, at its margin.
+   * @param {number} line
+   * @param {{ left: number, bottom: number }} point
+   */
+  openMenu(line, point) {
+    const { keeper, calls } = this;
+    const [toggle, condition] = ["debug.breakpoint", "debug.condition"].map((id) => commandOf(id).keys[0]);
+    const found = keeper.list.atLine(line);
+    const act = (/** @type {() => Promise<void>} */ work) => () => {
+      work().catch(calls.failed);
+    };
+    this.menu.open([
+      { words: found ? say.REMOVES_BREAKPOINT : say.ADDS_BREAKPOINT, key: toggle, act: act(() => this.toggleLine(line)) },
+      { words: say.CONDITION, key: condition, act: act(() => this.editLine(line, "condition")) },
+      { words: say.HIT_COUNT, act: act(() => this.editLine(line, "from")) },
+      { words: say.LOG_MESSAGE, act: act(() => this.editLine(line, "note")) },
+      ...(found ? [{ words: found.isOn ? say.DISABLE : say.ENABLE, act: () => keeper.change(found.id, { isOn: !found.isOn }) }] : []),
+      { words: say.RUN_TO_LINE, act: () => calls.runTo(line) },
+    ], point);
+  }
+
+  /** The texts that have the names of conditions. */
+  texts() {
+    const { board, program } = this.calls.texts();
+    return { board, program: this.keeper.map ? this.keeper.map.text : program, watched: this.keeper.watched };
+  }
+
   /**
    * The bench has these; gives which cannot be read, and why.
    * @param {Placed[]} placed
    * @returns {Promise<[number, string][]>}
    */
   async set(placed) {
-    const { board, program } = this.calls.texts();
-    const texts = { board, program: this.keeper.map ? this.keeper.map.text : program };
-    const { faults, ...told } = await this.bench.call("setBreakpoints", [placed, texts]);
+    const { faults, ...told } = await this.bench.call("setBreakpoints", [placed, this.texts()]);
     if (told.entries.length > 0) await this.calls.served(told);
     else this.calls.stands(told);
     return faults;
@@ -80,17 +153,20 @@ export class BreakpointsController {
 
   show() {
     const session = this.calls.session();
-    const { list, faults } = this.keeper;
-    if (session) session.record.breakpoints = list.kept;
+    const { list, faults, kept } = this.keeper;
+    if (session) session.record.breakpoints = kept;
     const { lines, addresses } = marksOf(list.all, faults);
     this.calls.showMarks(lines, addresses);
     this.view.show(this.keeper);
+    this.row.show((id) => list.get(id), faults);
   }
 
   /** @param {SessionRecord} record of another session, which is shown */
   open(record) {
+    this.row.close();
     this.view.forget();
-    this.keeper.open(record.breakpoints);
+    this.keeper.watched = record.watched || [];
+    this.keeper.open(record.id, record.breakpoints);
   }
 
   /** @param {number} line */
@@ -100,13 +176,14 @@ export class BreakpointsController {
   }
 
   /**
-   * The words of a line's breakpoint are wanted: they are in the panel.
+   * The words of a line's breakpoint are edited; it is set if there is none.
    * @param {number} line
+   * @param {BreakpointField} what
    */
-  async editLine(line) {
+  async editLine(line, what) {
     await this.calls.freshSource();
     const found = this.keeper.ofLine(line);
-    if (found) this.view.edit(found.id);
+    if (found) this.edit(found, what);
   }
 
   /**

@@ -1,11 +1,10 @@
-// The list of breakpoints: each with its place, whether it is on, its condition, count and note, and how often it was hit; and what was
-// logged.
+// The list of breakpoints: each with its place, whether it is on, what it does and how often it was hit; and what was logged.
 
 import { wordsOfCycles } from "../../core/time/cycles.js";
 import { wordsOfAddress, wordsOfLine } from "../../words/stops.js";
-import { Cell, Switch, block, button, element, onClick } from "../ui/dom.js";
-import { countOf, counted, hex } from "../../core/bench/numbers.js";
-import { markOf } from "../../core/machine/breakpoint_marks.js";
+import { Cell, block, button, buttonOf, element, onClick } from "../ui/dom.js";
+import { counted, hex } from "../../core/bench/numbers.js";
+import { detailsOfBreakpoint, markOf } from "../../core/machine/breakpoint_marks.js";
 import * as say from "../../words/machine.js";
 
 /**
@@ -15,19 +14,18 @@ import * as say from "../../words/machine.js";
  * @typedef {import("../../core/machine/source_map.js").SourceMap} SourceMap
  * @typedef {import("../../core/debug/breakpoint_keeper.js").BreakpointKeeper} BreakpointKeeper
  * @typedef {Pick<BreakpointKeeper, "list" | "faults" | "map">} Keeper
- * @typedef {{ root: HTMLLIElement, isOn: HTMLInputElement, mark: Cell, where: Cell, condition: HTMLInputElement, from: HTMLInputElement,
- *   note: HTMLInputElement, hits: Cell, fault: Cell, isBroken: Switch }} Row
+ * @typedef {{ root: HTMLLIElement, isOn: HTMLInputElement, mark: Cell, where: Cell, edit: HTMLButtonElement, hits: Cell, words: Cell,
+ *   fault: Cell }} Row
  *
- * What it calls: a breakpoint gets other words, or is switched; it is taken away; all are switched, or taken away; hits are counted anew;
- * the page goes to the place of one.
- * @typedef {{ change: (id: number, some: Partial<KeptBreakpoint>) => void, remove: (id: number) => void,
- *   switchAll: (isOn: boolean) => void, removeAll: () => void, forgetHits: () => void,
+ * What it calls: a breakpoint is switched; its words are to be edited; it is taken away; all are switched, or taken away; hits are counted
+ * anew; the page goes to the place of one.
+ * @typedef {{ change: (id: number, some: Partial<KeptBreakpoint>) => void, edit: (breakpoint: Breakpoint) => void,
+ *   remove: (id: number) => void, switchAll: (isOn: boolean) => void, removeAll: () => void, forgetHits: () => void,
  *   goTo: (breakpoint: Breakpoint) => void }} BreakpointCalls
  */
 
 /** So many notes are shown, the last ones. */
 const MOST_NOTES = 200;
-const MOST_HITS = 999999999;
 
 /**
  * Where a breakpoint is, in words.
@@ -37,17 +35,6 @@ const MOST_HITS = 999999999;
 export function whereBreakpointIs({ line, address }, map) {
   if (map && address >= 0) return wordsOfAddress(hex(address, 3), map);
   return line > 0 ? wordsOfLine(line) : hex(address, 3);
-}
-
-/**
- * @param {string} word
- * @param {string} placeholder
- * @param {number} size
- * @param {string} title
- */
-function makeField(word, placeholder, size, title) {
-  const field = element("input", { placeholder, size, title, autocomplete: "off", autocapitalize: "off", spellcheck: false });
-  return { field, label: element("label", {}, `${word} `, field) };
 }
 
 export class BreakpointsView {
@@ -89,19 +76,17 @@ export class BreakpointsView {
    * @param {SourceMap | null} map
    */
   showRow(row, breakpoint, fault, map) {
-    const { isOn, condition, from, note, hits } = breakpoint;
+    const { isOn, hits } = breakpoint;
     const { mark, words } = markOf(breakpoint, fault);
     row.isOn.checked = isOn;
     row.mark.set(mark);
     row.mark.node.title = words;
-    row.where.set(whereBreakpointIs(breakpoint, map));
-    // What is just being typed stays.
-    /** @type {[HTMLInputElement, string][]} */
-    const fields = [[row.condition, condition], [row.from, String(from)], [row.note, note]];
-    for (const [field, value] of fields) if (field !== document.activeElement) field.value = value;
+    const where = whereBreakpointIs(breakpoint, map);
+    row.where.set(where);
+    row.edit.setAttribute("aria-label", say.editBreakpoint(where));
     row.hits.set(hits > 0 ? counted(hits, "hit") : "");
-    row.fault.set(fault && say.stopsNothing(fault));
-    row.isBroken.set(fault !== "");
+    row.words.set(detailsOfBreakpoint(breakpoint));
+    row.fault.set(fault && say.stopsEachTime(fault));
   }
 
   /** @param {Keeper} keeper */
@@ -119,47 +104,22 @@ export class BreakpointsView {
    */
   makeRow(id, keeper) {
     const isOn = element("input", { "type": "checkbox", "aria-label": say.ON, "autocomplete": "off" });
-    const [mark, where, hits, fault] = [element("i", { "aria-hidden": "true" }), element("button", { type: "button", className: "place" }),
-      element("span", { className: "hits" }), element("p", { className: "fault", role: "alert" })].map((node) => new Cell(node));
-    const words = say.STOPS_WHERE;
-    const condition = makeField(say.WHERE, say.SUCH_AS_CONDITION, 12, words);
-    const from = makeField(say.FROM_HIT, "1", 3, say.STOPS_FROM_HIT);
-    const note = makeField(say.LOG, say.SUCH_AS_NOTE, 12, say.LOGGED);
-    const remove = element("button", { "type": "button", "aria-label": say.REMOVE_BREAKPOINT, "title": say.REMOVES_IT }, "\u00D7");
-    const root = element("li", {}, element("div", { className: "bar" }, isOn, mark.node, where.node, hits.node, remove),
-      element("div", { className: "words" }, condition.label, from.label, note.label), fault.node);
-    isOn.addEventListener("change", () => this.calls.change(id, { isOn: isOn.checked }));
-    onClick(remove, () => this.calls.remove(id));
-    onClick(where.node, () => {
+    const place = element("button", { type: "button", className: "place" });
+    const [mark, where, hits, words, fault] = [element("i", { "aria-hidden": "true" }), place, element("span", { className: "hits" }),
+      element("p", { className: "words" }), element("p", { className: "fault" })].map((node) => new Cell(node));
+    const act = (/** @type {(found: Breakpoint) => void} */ call) => () => {
       const found = keeper.list.get(id);
-      if (found) this.calls.goTo(found);
-    });
-    this.listen(condition.field, () => this.calls.change(id, { condition: condition.field.value.trim() }));
-    this.listen(note.field, () => this.calls.change(id, { note: note.field.value.trim() }));
-    this.listen(from.field, () => this.changeFrom(id, from.field));
-    const isBroken = new Switch((isOne) => condition.field.setAttribute("aria-invalid", String(isOne)));
-    const row = { root, isOn, mark, where, condition: condition.field, from: from.field, note: note.field, hits, fault, isBroken };
+      if (found) call(found);
+    };
+    const edit = buttonOf(say.EDIT, act((found) => this.calls.edit(found)), { className: "edit" });
+    const remove = buttonOf("\u00D7", () => this.calls.remove(id), { "aria-label": say.REMOVE_BREAKPOINT, "title": say.REMOVES_IT });
+    const root = element("li", {}, element("div", { className: "bar" }, isOn, mark.node, where.node, hits.node, edit, remove),
+      words.node, fault.node);
+    isOn.addEventListener("change", () => this.calls.change(id, { isOn: isOn.checked }));
+    onClick(where.node, act((found) => this.calls.goTo(found)));
+    const row = { root, isOn, mark, where, edit, hits, words, fault };
     this.rows.set(id, row);
     return row;
-  }
-
-  /**
-   * What is typed counts at Enter, and where the field is left.
-   * @param {HTMLInputElement} field
-   * @param {() => void} act
-   */
-  listen(field, act) {
-    field.addEventListener("change", act);
-  }
-
-  /**
-   * @param {number} id
-   * @param {HTMLInputElement} field
-   */
-  changeFrom(id, field) {
-    const from = field.value.trim() === "" ? 1 : countOf(field.value, MOST_HITS);
-    field.setAttribute("aria-invalid", String(from < 1));
-    if (from >= 1) this.calls.change(id, { from });
   }
 
   /**
@@ -183,14 +143,18 @@ export class BreakpointsView {
   }
 
   /**
-   * Its words are wanted: the caret stands in its condition.
+   * The row of the list that has a breakpoint.
    * @param {number} id
    */
-  edit(id) {
-    const fold = document.querySelector("#breakpoints .fold[aria-expanded='false']");
-    if (fold instanceof HTMLElement) fold.click();
+  rootOf(id) {
     const row = this.rows.get(id);
-    if (row) row.condition.focus();
+    return row && row.root;
+  }
+
+  /** @param {number} id of the breakpoint whose row gets the keyboard */
+  focus(id) {
+    const row = this.rows.get(id);
+    if (row) row.edit.focus();
   }
 
   /** Another session is shown. */

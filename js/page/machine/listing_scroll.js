@@ -11,7 +11,7 @@ import { element } from "../ui/dom.js";
  */
 
 /** The height of a row where none has been laid out, in pixels. */
-const USUAL_HEIGHT = 20;
+const USUAL_HEIGHT = 24;
 
 export class ListingScroll {
   /**

@@ -1,8 +1,8 @@
 // The RAM of a board, bank by bank: each character with its address, watched by a click and edited in place.
 
-import { Cell, block, element, oneStop, pressedSwitch, setStop } from "../ui/dom.js";
+import { Cell, block, byId, element, oneStop, pressedSwitch, setStop } from "../ui/dom.js";
 import { hex, upTo } from "../../core/bench/numbers.js";
-import { CHARACTERS, STATUS } from "../../core/bench/places.js";
+import { CHARACTERS, STATUS } from "../../core/conditions/places.js";
 import * as say from "../../words/machine.js";
 
 /**
@@ -37,6 +37,14 @@ function namesIn(register, names) {
   ];
 }
 
+/** So many characters stay together in a line. */
+const HALF = CHARACTERS / 2;
+
+/** @param {Cell[]} some */
+function groupOf(some) {
+  return element("span", { className: "nibbles" }, ...some.map(({ node }) => node));
+}
+
 export class RamView {
   /**
    * @param {Changes} changes
@@ -60,6 +68,10 @@ export class RamView {
     /** @type {Map<string, Cell>} */
     this.ports = new Map();
     this.block = block("banks");
+    /** @type {HTMLElement[]} one for each bank */
+    this.tables = [];
+    this.chooser = byId("bank", HTMLSelectElement);
+    this.chooser.addEventListener("change", () => this.showBank());
     oneStop(this.block, () => CHARACTERS + STATUS);
   }
 
@@ -73,18 +85,34 @@ export class RamView {
     this.characters.clear();
     this.ports.clear();
     this.warm = new Map();
-    this.block.replaceChildren(...board.banks.map((bank) => this.drawBank(bank)));
+    this.tables = board.banks.map((bank) => this.drawBank(bank));
+    this.block.replaceChildren(...this.tables);
+    this.offerBanks(board.banks.map(({ bank }) => bank));
     block("memory-hint").hidden = board.banks.length === 0;
     if (board.banks.length === 0) this.block.textContent = say.NO_RAM;
     setStop(this.block);
   }
 
+  /** @param {number[]} banks those that have chips */
+  offerBanks(banks) {
+    this.chooser.replaceChildren(...banks.map((bank, at) => element("option", { value: String(at) }, say.bankOf(bank))));
+    block("bank-chooser").hidden = banks.length < 2;
+    this.showBank();
+  }
+
+  /** Shows the chosen bank alone. */
+  showBank() {
+    this.tables.forEach((table, at) => {
+      table.hidden = this.chooser.value !== String(at);
+    });
+  }
+
   /** @param {{ bank: number, chips: number }} bank */
   drawBank({ bank, chips }) {
     const rows = upTo(chips).flatMap((chip) => upTo(4).map((register) => this.drawRegister({ bank, chip, register })));
-    const heads = [say.CHARACTERS, "status", "port"].map((word) => element("th", { scope: "col" }, word));
+    const heads = [say.CHARACTERS, "status"].map((word) => element("th", { scope: "col" }, word));
     const head = element("thead", {}, element("tr", {}, element("td"), ...heads));
-    return element("table", { className: "ram" }, element("caption", {}, `bank ${bank}`), head, element("tbody", {}, ...rows));
+    return element("table", { "className": "ram", "aria-label": say.bankOf(bank) }, head, element("tbody", {}, ...rows));
   }
 
   /** @param {Register} at */
@@ -94,11 +122,10 @@ export class RamView {
     const status = upTo(STATUS).map((character) => this.drawStatus(at, character));
     const names = element("small", { className: "cell-names", hidden: true });
     this.registers.set(`${bank}.${chip}.${register}`, { characters, status, names, shown: "" });
-    const cells = [characters, status].map((some) => element("td", {}, ...some.map(({ node }) => node)));
-    cells[0].append(names);
-    const row = element("tr", {}, element("th", { scope: "row", title: wordsOf(at) }, `${chip}.${register}`), ...cells);
-    if (register === 0) row.append(this.drawPort(bank, chip));
-    return row;
+    const halves = [characters.slice(0, HALF), characters.slice(HALF), status].map(groupOf);
+    const cells = [element("td", {}, ...halves.slice(0, 2), names), element("td", {}, halves[2])];
+    if (register === 0) cells[1].append(this.drawPort(bank, chip));
+    return element("tr", {}, element("th", { scope: "row", title: wordsOf(at) }, `${chip}.${register}`), ...cells);
   }
 
   /**
@@ -152,7 +179,7 @@ export class RamView {
     const cell = new Cell(element("span", { title: say.portTitle(bank, chip) }));
     this.editor.refuse(cell.node, say.RAM_PORTS_STAY);
     this.ports.set(`${bank}.${chip}`, cell);
-    return element("td", { rowSpan: 4, className: "port" }, cell.node);
+    return element("p", { className: "port" }, say.PORT, cell.node);
   }
 
   /** @param {Ram} told */

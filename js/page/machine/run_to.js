@@ -1,7 +1,8 @@
 // Run to here: to a line of the listing by Control and a click, by the second button, or by Control and Enter; to the line of the source
 // that the caret is in by Control and F10.
 
-import * as say from "../../words/machine.js";
+import { commandOf } from "../commands/command_table.js";
+import { keyNameOf } from "../commands/keys.js";
 
 /**
  * @param {HTMLElement} root the listing
@@ -26,19 +27,15 @@ export function listenToHere(root, addressAt, runTo) {
   }, { capture: true });
 }
 
-
 /**
  * @param {HTMLElement} root the editor of the source
- * @param {() => number | undefined} addressOfCaret
- * @param {(address: number) => void} runTo
- * @param {(words: string) => void} tell
+ * @param {() => void} runToCaret
  */
-export function listenToCaret(root, addressOfCaret, runTo, tell) {
+export function listenToCaret(root, runToCaret) {
+  const { keys } = commandOf("time.toCursor");
   root.addEventListener("keydown", (event) => {
-    if (event.key !== "F10" || !event.ctrlKey || event.shiftKey || event.altKey) return;
+    if (!keys.includes(keyNameOf(event))) return;
     event.preventDefault();
-    const address = addressOfCaret();
-    if (address === undefined) tell(say.NO_ADDRESS);
-    else runTo(address);
+    runToCaret();
   }, { capture: true });
 }

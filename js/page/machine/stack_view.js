@@ -43,7 +43,7 @@ export class StackView {
     root.setAttribute("aria-label", say.COUNTER_AND_RETURNS);
     oneStop(root, () => 1);
     setStop(root);
-    block("registers").append(root);
+    block("call-stack").append(root);
   }
 
   /**

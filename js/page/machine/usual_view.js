@@ -9,8 +9,10 @@ import * as say from "../../words/machine.js";
  * @typedef {import("../../core/debug/usual_faults.js").Kind} Kind
  * @typedef {import("../../core/debug/usual_faults.js").UsualFault} UsualFault
  *
- * What it calls: an address with its name and its line; it is shown; time stops at these from here on, which is kept; how it was chosen.
+ * What it calls: an address with its name and its line; it is shown; time stops at these from here on, which is kept; how many
+ * are listed; how it was chosen.
  * @typedef {{ wordsOf: (address: number) => string, goTo: (address: number) => void, stopAt: (kinds: Kind[]) => void,
+ *   counted: (count: number) => void,
  *   chosen: () => string, choose: (kinds: string) => void }} UsualCalls
  */
 
@@ -30,6 +32,7 @@ export class UsualView {
     this.calls.stopAt([...this.stops]);
     this.block.hidden = true;
     this.list.replaceChildren();
+    this.calls.counted(0);
   }
 
   /** @param {UsualFault[]} faults */
@@ -37,6 +40,7 @@ export class UsualView {
     if (faults.length === 0) return;
     this.list.append(...faults.map((fault) => this.row(fault)));
     this.block.hidden = false;
+    this.calls.counted(this.list.children.length);
   }
 
   /** @param {UsualFault} fault */

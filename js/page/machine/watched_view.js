@@ -7,12 +7,13 @@ import * as say from "../../words/machine.js";
 /**
  * @typedef {import("../../core/debug/standing.js").Standing} Standing
  * @typedef {import("../../core/debug/watched.js").Watched} Watched
+ * @typedef {import("../../core/conditions/conditions.js").Names} Names
  * @typedef {{ root: HTMLLIElement, value: HTMLElement, shape: string, cells: Cell[] }} Row
  *
  * What it calls: a cell that shows a value can be edited; what stands in the machine, null while time runs; the list is another one; its
  * texts are kept.
- * @typedef {{ offer: import("../text/meaning_view.js").Offer, standing: () => Standing | null, listed: () => void,
- *   keep: (texts: string[]) => void }} WatchedCalls
+ * @typedef {{ offer: import("../text/meaning_view.js").Offer, standing: () => Standing | null, names: () => Names,
+ *   listed: () => void, keep: (texts: string[]) => void }} WatchedCalls
  */
 
 export class WatchedView {
@@ -33,13 +34,14 @@ export class WatchedView {
 
   /** @param {unknown} texts that were kept with a session */
   open(texts) {
-    this.told.textContent = "";
-    this.take(readAllWatched(texts));
+    const { all, fault } = readAllWatched(texts);
+    this.told.textContent = fault;
+    this.take(all);
   }
 
   add() {
     const written = field("watched-field");
-    const { watched, fault } = readWatched(written.value);
+    const { watched, fault } = readWatched(written.value, this.calls.names());
     const isFull = this.all.length >= MOST_WATCHED;
     this.told.textContent = isFull ? say.mostWatched(MOST_WATCHED) : fault;
     written.setAttribute("aria-invalid", String(this.told.textContent !== ""));
@@ -81,16 +83,16 @@ export class WatchedView {
   show() {
     const standing = this.calls.standing();
     if (!standing) return;
-    this.all.forEach((watched, at) => this.showRow(this.rows[at], watched, standing));
+    const names = this.calls.names();
+    this.all.forEach((watched, at) => this.showRow(this.rows[at], watched, watched.pieces(standing, names)));
   }
 
   /**
    * @param {Row} row
    * @param {Watched} watched
-   * @param {Standing} standing
+   * @param {import("../../core/debug/value_words.js").Piece[]} pieces what it is now
    */
-  showRow(row, watched, standing) {
-    const pieces = watched.pieces(standing);
+  showRow(row, watched, pieces) {
     const shape = pieces.map((piece) => (typeof piece === "string" ? piece : piece.place)).join("\n");
     const values = pieces.flatMap((piece) => (typeof piece === "string" ? [] : [piece]));
     if (shape !== row.shape) {

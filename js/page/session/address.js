@@ -32,11 +32,12 @@ export function forgetStory() {
 }
 
 /**
+ * What an address names; blanks that came in behind it as it was copied count for nothing.
  * @param {string} hash
  * @returns {{ kind: AddressKind | "", value: string }}
  */
 export function readAddress(hash) {
-  const [, kind, value] = /^#(session|example|link)=(.*)$/.exec(hash) || [];
+  const [, kind, value] = /^#(session|example|link)=(.*?)(?:%20|%09|%0A|%0D|\s)*$/i.exec(hash) || [];
   return { kind: /** @type {AddressKind | ""} */ (kind || ""), value: kind === "example" ? decoded(value) : value || "" };
 }
 

@@ -19,11 +19,15 @@ import * as say from "../../words/session.js";
  *
  * What it calls: another session is shown from here on; what it is now is shown; whether the source is what stands in ROM; time runs, or
  * stands still, and words tell why; no more of it passes; where it stands still; something was done in the session; what time
- * has done since that was logged last, and it is logged; why the session is not kept, "" where it is.
- * @typedef {{ begin: (record: SessionRecord) => void, show: (shown: Shown) => void, checkSource: () => void, run: () => void,
+ * has done since that was logged last, and it is logged; why the session is not kept, "" where it is; whether it is saved.
+ * @typedef {{ begin: (record: SessionRecord) => void, show: (shown: Shown) => void, checkSource: () => Promise<void>, run: () => void,
  *   halted: (words: string) => void, standStill: () => Promise<void>, where: () => string, touched: () => void, ran: () => RanEntry[],
- *   showRan: (ran: RanEntry[], fault: string) => void, notKept: (words: string) => void }} CurrentCalls
+ *   showRan: (ran: RanEntry[], fault: string) => void, notKept: (words: string) => void,
+ *   saved: (state: "example" | "saved" | "failed") => void }} CurrentCalls
  */
+
+/** What is hidden until there is a session to show. */
+const SHOWN_WITH_SESSION = ["bench", "session-bar", "clock", "tools", "statusbar"];
 
 export class CurrentSession {
   /**
@@ -41,6 +45,8 @@ export class CurrentSession {
     this.session = null;
     /** When it was kept last. */
     this.kept = 0;
+    /** Whether the session that is being opened runs on: no line of its source is the current one. */
+    this.willRun = false;
   }
 
   /**
@@ -60,14 +66,25 @@ export class CurrentSession {
     calls.begin(record);
     calls.show(shown);
     this.showName();
-    block("bench").hidden = false;
-    block("session-bar").hidden = false;
-    calls.checkSource();
-    await this.keep();
     const { goal, runs } = record;
-    if (runs && !goal) calls.run();
+    this.willRun = runs && !goal;
+    await this.showParts();
+    await this.keep();
+    if (this.willRun) calls.run();
     else calls.halted(goal ? wordsOfBroken(goal, runs, calls.where()) : say.STOPPED);
+    this.willRun = false;
     await this.remember();
+  }
+
+  /**
+   * Shows the page's parts, at first only to be measured: what is seen before the names of the source have come would move.
+   */
+  async showParts() {
+    const isFirst = block("bench").hidden;
+    document.body.classList.toggle("settling", isFirst);
+    for (const part of SHOWN_WITH_SESSION) block(part).hidden = false;
+    await this.calls.checkSource();
+    document.body.classList.remove("settling");
   }
 
   /** What was done before the page was loaded anew can be gone back to. */
@@ -168,6 +185,7 @@ export class CurrentSession {
     const fault = await this.session.keep();
     calls.showRan(ran, fault);
     calls.notKept(fault && say.notKept(fault));
+    calls.saved(fault || !this.store.keeps ? "failed" : this.session.isUntouched ? "example" : "saved");
     return fault;
   }
 

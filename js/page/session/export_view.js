@@ -1,6 +1,6 @@
 // The dialog that puts a part of the session into a file of its own: a text, or what stands in ROM.
 
-import { button, element, onClick } from "../ui/dom.js";
+import { element, onClick } from "../ui/dom.js";
 import { download } from "./download.js";
 import * as say from "../../words/session.js";
 
@@ -24,7 +24,6 @@ export class ExportView {
       element("ul", { "aria-label": say.FILES }, ...this.files().map((file) => this.row(file))), this.told);
     document.body.append(this.dialog);
     onClick(close, () => this.dialog.close());
-    onClick(button("export-button"), () => this.open());
   }
 
   /** @returns {ExportedFile[]} */

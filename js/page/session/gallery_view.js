@@ -19,7 +19,7 @@ function nodesOf(shape) {
     return [drawn("rect", { class: "cap", x, y, width, height, rx: 2 }), drawn("text", { x: middle, y: base + 3 }, shape.legend)];
   }
   return [drawn("rect", { class: "glass", x, y, width, height, rx: 2 }),
-    drawn("text", { class: "digits", x: x + width - 5, y: base + 6 }, shape.digits)];
+    drawn("text", { class: `digits ${shape.colour}`, x: x + width - 5, y: base + 6 }, shape.digits)];
 }
 
 /**

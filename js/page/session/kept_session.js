@@ -15,16 +15,17 @@ let made = 0;
  * @param {string} name
  * @param {Uint8Array} file
  * @param {{ boardText: string, programText: string, testText?: string, propertiesText?: string,
- *   breakpoints?: SessionRecord["breakpoints"] }} texts
+ *   breakpoints?: SessionRecord["breakpoints"], watched?: SessionRecord["watched"], wired?: SessionRecord["wired"] }} given
  * @param {boolean} runs
  * @returns {SessionRecord}
  */
-export function newRecord(name, file, { boardText, programText, testText = "", propertiesText = "", breakpoints }, runs = false) {
+export function newRecord(name, file, given, runs = false) {
+  const { boardText, programText, testText = "", propertiesText = "", breakpoints, watched, wired } = given;
   made += 1;
   const id = `${Date.now().toString(36)}-${made}-${Math.floor(Math.random() * 1e9).toString(36)}`;
   const texts = { boardText, programText, testText, propertiesText };
   const own = { id, name: shortName(name) || "session", file, ...texts, runs, revision: 0, changed: Date.now() };
-  return breakpoints ? { ...own, breakpoints } : own;
+  return { ...own, ...(breakpoints ? { breakpoints } : {}), ...(watched ? { watched } : {}), ...(wired ? { wired } : {}) };
 }
 
 export class KeptSession {

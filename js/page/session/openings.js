@@ -10,6 +10,8 @@ const KEY = "fethsaim.opening.";
 const SETTLE_TIME = 1000;
 /** A page that is left so soon was not hung, but left; and an opening that was begun so lately may be under way in another tab. */
 const SOON = 2000;
+/** What a window says as its page is left: a browser that passes over one of them has the other. */
+const LEAVING = ["beforeunload", "pagehide"];
 
 export class Openings {
   /**
@@ -66,6 +68,14 @@ export class Openings {
   forget(id) {
     this.begun.delete(id);
     this.change((store) => store.removeItem(KEY + id));
+  }
+
+  /** @param {Pick<Window, "addEventListener">} target the window of the page */
+  listen(target) {
+    // As a page is left Firefox 153 often runs no function that has not run before, so all that is needed then runs once now.
+    this.begun.set("", { time: this.now(), isEnded: false });
+    this.leave();
+    for (const name of LEAVING) target.addEventListener(name, () => this.leave());
   }
 
   /** The page is left, and can still be told so: what is shown has not hung it, nor has what was begun just now. */

@@ -13,6 +13,7 @@ import * as say from "../../words/session.js";
  * @typedef {import("../../core/bench/bench.js").Bench} Bench
  * @typedef {import("../../core/engine/examples.js").Example} Example
  * @typedef {import("./kept_session.js").KeptSession} KeptSession
+ * @typedef {import("../ui/notice.js").NoticeAction} NoticeAction
  * @typedef {import("./locks.js").Locks} Locks
  * @typedef {import("./locks.js").Release} Release
  * @typedef {import("./store.js").SessionRecord} SessionRecord
@@ -21,9 +22,10 @@ import * as say from "../../words/session.js";
  *
  * What it calls: the session that is shown; it is kept; another one is shown in its place; one was left for a new one; something was
  * refused; texts of a file come into the editors, and an image into ROM; time runs at another speed.
- * @typedef {{ session: () => KeptSession | null, keep: () => Promise<string>, refuse: (words: string) => void,
- *   speed: (id: string) => void,
- *   left: (record: SessionRecord) => void, texts: (name: string, texts: import("../../core/session/opened_file.js").FileTexts) => void,
+ * @typedef {{ session: () => KeptSession | null, keep: () => Promise<string>,
+ *   refuse: (words: string, ...actions: NoticeAction[]) => void, speed: (id: string) => void,
+ *   left: (record: SessionRecord) => void,
+ *   texts: (name: string, texts: import("../../core/session/opened_file.js").FileTexts) => Promise<void>,
  *   image: (name: string, bytes: Int16Array) => Promise<void>,
  *   use: (record: SessionRecord, release: Release, example: string) => Promise<void> }} ManagerCalls where nothing was done yet in a
  *   session of an example, `example` is its name
@@ -65,10 +67,11 @@ export class SessionManager {
 
   /**
    * @param {string} words
+   * @param {NoticeAction[]} actions what can be done instead
    * @returns {false}
    */
-  refuse(words) {
-    this.calls.refuse(words);
+  refuse(words, ...actions) {
+    this.calls.refuse(words, ...actions);
     return false;
   }
 
@@ -78,7 +81,7 @@ export class SessionManager {
    */
   async open(id) {
     const release = await this.locks.take(id);
-    if (!release) return this.refuse(say.IN_ANOTHER_TAB);
+    if (!release) return this.refuse(say.IN_ANOTHER_TAB, { word: say.OPEN_A_COPY, act: () => this.copy(id) });
     try {
       await this.calls.use(await this.keptRecord(id), release, "");
       return true;
@@ -148,7 +151,7 @@ export class SessionManager {
     try {
       const bytes = new Uint8Array(await file.slice(0, LONGEST_PROJECT + 1).arrayBuffer());
       const opened = openedFile(file.name, bytes);
-      if (opened.kind === "texts") this.calls.texts(file.name, opened.texts);
+      if (opened.kind === "texts") await this.calls.texts(file.name, opened.texts);
       else if (opened.kind === "image") await this.calls.image(file.name, opened.bytes);
       else return await this.openSession(opened.kind === "project" ? await this.ofProject(bytes) : await this.ofSession(file.name, bytes));
       return true;

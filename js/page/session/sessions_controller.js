@@ -16,14 +16,16 @@ import * as say from "../../words/session.js";
  * @typedef {import("./kept_session.js").KeptSession} KeptSession
  * @typedef {import("./locks.js").Release} Release
  * @typedef {import("./store.js").SessionRecord} SessionRecord
- * @typedef {{ bench: import("../../core/bench/bench.js").Bench, store: import("./store.js").SessionStore, locks: import("./locks.js").Locks,
- *   words: import("../../core/bench/words.js").Words, notice: import("../ui/notice.js").Notice, examples: Example[] }} Parts
+ * @typedef {{ bench: import("../../core/bench/bench.js").Bench, store: import("./store.js").SessionStore,
+ *   locks: import("./locks.js").Locks, words: import("../../core/bench/words.js").Words,
+ *   notice: import("../ui/notice.js").Notice, examples: Example[] }} Parts
  *
  * What it calls: the session that is shown; it is kept; another one is shown in its place; it gets another name; a link is opened; texts of
  * a file come into the editors, and an image into ROM; time runs at another speed.
  * @typedef {{ session: () => KeptSession | null, keep: () => Promise<string>, rename: (name: string) => void,
  *   speed: (id: string) => void,
- *   texts: (name: string, texts: import("../../core/session/opened_file.js").FileTexts) => void, image: (name: string, bytes: Int16Array) => Promise<void>,
+ *   texts: (name: string, texts: import("../../core/session/opened_file.js").FileTexts) => Promise<void>,
+ *   image: (name: string, bytes: Int16Array) => Promise<void>,
  *   use: (record: SessionRecord, release: Release, example: string) => Promise<void>, link: (text: string) => Promise<void> }} Calls
  */
 
@@ -45,10 +47,10 @@ export class SessionsController {
     this.used = () => {};
     this.persistence = new Persistence();
     this.openings = new Openings();
-    addEventListener("pagehide", () => this.openings.leave());
+    this.openings.listen(window);
     this.lines = new OfferedLines(notice);
-    /** @type {(words: string) => void} */
-    const refuse = (told) => notice.show(told, "session");
+    /** @type {(words: string, ...actions: import("../ui/notice.js").NoticeAction[]) => void} */
+    const refuse = (told, ...actions) => notice.show(told, "session", ...actions);
     this.manager = new SessionManager(bench, store, locks, words, {
       ...calls,
       refuse,
@@ -82,8 +84,6 @@ export class SessionsController {
       },
       openFile: (file) => manager.openFile(file),
       openFolder: (read) => manager.openFolder(read),
-      save: () => manager.save(),
-      saveSession: () => manager.saveSession(),
       rename: (name) => calls.rename(name),
       keptWhere: () => (this.store.keeps ? say.KEPT_HERE + (this.persistence.isPromised ? say.PROMISED : "") : say.KEPT_NOWHERE),
     });
@@ -155,12 +155,19 @@ export class SessionsController {
    * @param {string} story the example of it, "" for none
    */
   async openFirst(story) {
-    const named = readAddress(location.hash);
+    const { hash } = location;
+    const named = readAddress(hash);
     const isStory = named.kind === "" && this.examples.some((each) => each.name === story && each.story);
     const { kind, value } = isStory ? { kind: "example", value: story } : named;
     const isQuiet = kind === "" || kind === "link" || (kind === "session" && this.openings.isUnended(value));
     if (isQuiet || !(await this.openNamed(kind, value))) await this.openLast(isQuiet);
     if (kind === "link") await this.calls.link(value);
+    if (kind === "") this.refuseAddress(hash);
+  }
+
+  /** @param {string} hash which names nothing that the page has */
+  refuseAddress(hash) {
+    if (hash.length > 1) this.notice.show(say.namesNothing(shortName(hash)), "session");
   }
 
   /**
@@ -202,7 +209,8 @@ export class SessionsController {
     const { kind, value } = readAddress(location.hash);
     const session = this.calls.session();
     if (!session) return;
-    if (kind === "link") await this.calls.link(value);
+    if (kind === "") this.refuseAddress(location.hash);
+    else if (kind === "link") await this.calls.link(value);
     else if (kind === "session" && !this.isShown(value)) await this.open(value);
     else if (kind === "example" && session.example !== value) await this.beginNamed(value);
   }

@@ -4,6 +4,7 @@ import { pictureOf } from "./gallery_view.js";
 import { block, button, byId, element, field, onClick } from "../ui/dom.js";
 import { folderOfFiles, foldersOf, readFolder } from "./folder_files.js";
 import { KeptList } from "./kept_list.js";
+import { ORDER, TO_DO, exampleWords } from "../../words/examples.js";
 import * as say from "../../words/session.js";
 
 /**
@@ -17,18 +18,20 @@ import * as say from "../../words/session.js";
  *   bringBack: (records: SessionRecord[]) => Promise<void>, begin: (example: Example) => Promise<boolean>,
  *   beginStory: (example: Example) => Promise<boolean>, openFile: (file: File) => Promise<boolean>,
  *   openFolder: (read: () => Promise<import("./folder_files.js").Folder>) => Promise<boolean>,
- *   save: () => void, saveSession: () => void, rename: (name: string) => void,
+ *   rename: (name: string) => void,
  *   keptWhere: () => string }} SessionsCalls
  */
 
 /**
- * The bench that one begins an own board with stands before the others.
+ * The examples, the short ones first; the bench that one begins an own board with stands before the others.
  * @param {Example[]} examples
  */
-function emptyFirst(examples) {
+function inOrder(examples) {
   /** @type {(example: Example) => boolean} */
   const isEmpty = ({ board, program, lines, project }) => [board, program, lines, project].every((text) => text === "");
-  return [...examples.filter(isEmpty), ...examples.filter((example) => !isEmpty(example))];
+  /** @type {(example: Example) => number} */
+  const placeOf = (example) => (isEmpty(example) ? -1 : ORDER.indexOf(example.name));
+  return [...examples].sort((one, other) => placeOf(one) - placeOf(other));
 }
 
 export class SessionsView {
@@ -50,14 +53,11 @@ export class SessionsView {
       bringBack: (records) => this.changeKept(() => calls.bringBack(records)),
       button: (word, label, act) => this.button(word, label, act),
     });
-    for (const name of ["sessions-button", "first-example"]) onClick(button(name), () => this.open());
+    onClick(button("first-example"), () => this.openExamples());
     onClick(button("close-sessions"), () => this.close());
-    onClick(button("open-button"), () => field("file").click());
-    onClick(button("save-button"), () => this.calls.save());
-    onClick(button("save-session-button"), () => this.calls.saveSession());
     field("file").addEventListener("change", () => this.take(field("file")));
     field("name").addEventListener("change", () => this.calls.rename(field("name").value));
-    block("examples").replaceChildren(...emptyFirst(examples).map((example) => this.exampleLine(example)));
+    block("examples").replaceChildren(...inOrder(examples).map((example) => this.exampleLine(example)));
     this.dialog.addEventListener("close", () => this.closed());
     this.listenToDrops();
   }
@@ -71,6 +71,12 @@ export class SessionsView {
     if (this.dialog.open) return;
     this.dialog.showModal();
     this.notice.moveTo(this.dialog);
+  }
+
+  /** The dialog, with the examples in view. */
+  async openExamples() {
+    await this.open();
+    block("examples").scrollIntoView();
   }
 
   close() {
@@ -101,7 +107,8 @@ export class SessionsView {
   exampleLine(example) {
     const open = this.button(example.name, say.newSession(example.name), () => this.choose(() => this.calls.begin(example)));
     open.prepend(pictureOf(example.board));
-    const title = element("span", { className: "grow" }, example.title);
+    const toDo = Object.entries(TO_DO).find(([name]) => name === example.name);
+    const title = element("span", { className: "grow" }, toDo ? exampleWords(example.title, toDo[1]) : example.title);
     if (!example.story) return element("li", {}, open, title);
     const words = say.newStory(example.name);
     return element("li", {}, open, title, this.button(say.WITH_STORY, words, () => this.choose(() => this.calls.beginStory(example))));

@@ -54,7 +54,7 @@ export class Sharing {
     if (!texts) return;
     const tooLong = wordsOfLength(texts);
     if (tooLong) {
-      this.notice.show(say.noLink(tooLong), "share");
+      this.notice.show(say.noLink(tooLong), "refusal");
       return;
     }
     const address = location.href.replace(/#.*$/, "") + addressOf("link", await linkOf(texts));

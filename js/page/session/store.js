@@ -8,12 +8,14 @@ import * as say from "../../words/session.js";
  * of tests, nor one of properties. `runs` tells whether time runs, so that a reload goes on as it was; `cycles` are those that were
  * counted, and `breakpoints` those of the source, which a file does not hold either; `watched`, the list of values; `isTitled`, whether
  * its name is the title that its texts tell, since it was given none; `goal`, what a move that is under way goes on to;
- * `places`, where parts of the picture were dragged to; `printed`, what was sent to the board's printer.
+ * `places`, where parts of the picture were dragged to; `printed`, what was sent to the board's printer; `wired`, the texts of the boards
+ * that were wired last, the one that is wired first; `rows`, how the rows of waves are arranged.
  * @typedef {{ id: string, name: string, file: Uint8Array, boardText: string, programText: string, testText?: string,
  *   propertiesText?: string, runs: boolean, revision: number, changed: number, cycles?: import("../../core/time/cycles.js").KeptCycles,
  *   isTitled?: boolean, breakpoints?: import("../../core/debug/breakpoints.js").KeptBreakpoint[], watched?: string[],
  *   goal?: import("../../core/debug/goals.js").Goal, places?: [string, import("../../core/board/wiring.js").Point][],
- *   printed?: import("../../core/engine/printing.js").Printed }} SessionRecord
+ *   printed?: import("../../core/engine/printing.js").Printed, rows?: import("../../core/waves/wave_rows.js").KeptRows,
+ *   wired?: import("../../core/board/wired_text.js").WiredText[] }} SessionRecord
  *
  * @typedef {{ keeps: boolean, isWhole: boolean, all: () => Promise<SessionRecord[]>,
  *   get: (id: string) => Promise<SessionRecord | undefined>, put: (record: SessionRecord) => Promise<void>,

@@ -7,15 +7,23 @@ import * as say from "../../words/session.js";
  * @typedef {import("../ui/ask_view.js").AskView} AskView
  * @typedef {import("./kept_session.js").KeptSession} KeptSession
  * @typedef {import("../ui/notice.js").Notice} Notice
- * @typedef {{ text: string, open: (session: string, text: string) => void, replaceText: (text: string) => void }} TextEditor
+ * @typedef {{ text: string, open: (session: string, text: string) => void, replaceText: (text: string) => void,
+ *   undoOrRedo: (which: "undo" | "redo") => boolean }} TextEditor
  *
  * What it calls: the session that is shown; something is done in it; it is kept; names in the board's text may be others; a source
- * text of what is in ROM; texts of a file were taken, of which one is to be seen, with lines for the bench; a call failed.
+ * text of what is in ROM; whether each line of a program has an error; texts of a file were taken, of which one is to be seen, with lines
+ * for the bench; a call failed.
  * @typedef {{ session: () => KeptSession | null, touch: () => void, keep: () => Promise<string>, named: (boardText: string) => void,
- *   source: () => Promise<string>, took: (seen: TextName, lines: string) => void, failed: (fault: unknown) => void }} TextsCalls
+ *   source: () => Promise<string>, isNoProgram: (text: string) => Promise<boolean>, took: (seen: TextName, lines: string) => void,
+ *   failed: (fault: unknown) => void }} TextsCalls
  */
 
-/** @typedef {keyof typeof say.WHICH_TEXT} TextName */
+/**
+ * @typedef {keyof typeof say.WHICH_TEXT} TextName
+ * A text that was replaced: the old text, the one in its place, and the step of the editor that brings the old one back while nothing else
+ * was done.
+ * @typedef {{ name: TextName, old: string, now: string, way: "undo" | "redo" }} Replaced
+ */
 
 /** The texts are kept so many milliseconds after the last change. */
 const EDIT_TIME = 600;
@@ -81,6 +89,20 @@ export class TextsController {
   }
 
   /**
+   * Opens the texts of a file. A text that is perhaps no program is asked for first.
+   * @param {string} name of the file
+   * @param {import("../../core/session/opened_file.js").FileTexts} texts
+   */
+  async open(name, texts) {
+    const session = this.calls.session();
+    const { program, isGuess } = texts;
+    const isOdd = isGuess === true && program !== null && (await this.calls.isNoProgram(program));
+    const question = { title: say.replaceByOdd(name), words: [say.eachLineWrong(name)], accept: say.REPLACE_IT, refuse: say.LEAVE_AS_IS };
+    if (isOdd && !(await this.ask.ask(question))) return;
+    if (session && this.isShown(session)) this.take(name, texts);
+  }
+
+  /**
    * Texts of a file come into the editors; those that were there can be brought back, and the bench has none of them yet.
    * @param {string} name of the file
    * @param {import("../../core/session/opened_file.js").FileTexts} texts
@@ -89,12 +111,11 @@ export class TextsController {
     if (tests !== null) this.takeBeside("tests", name, tests);
     if (properties !== null) this.takeBeside("properties", name, properties);
     if (tests !== null || properties !== null) return;
-    if (board !== null) this.replace("board", board, say.boardReplaced(name));
-    if (program !== null) this.replace("program", program, say.sourceReplaced(name));
+    const replaced = [...(board === null ? [] : this.put("board", board)), ...(program === null ? [] : this.put("program", program))];
     this.calls.took(board !== null ? "board" : "program", lines);
     const [where, what] = board === null ? [say.SOURCE, say.ASSEMBLES] : [say.BOARD, say.WIRES];
     const both = board !== null && program !== null ? say.BOARD_AND_SOURCE : where;
-    this.notice.show(say.textIsIn(name, both, what, both === where ? "" : say.THEN_ASSEMBLE), "file");
+    this.tell(replaced, say.textIsIn(name, both, what, both === where ? "" : say.THEN_ASSEMBLE));
   }
 
   /**
@@ -103,9 +124,20 @@ export class TextsController {
    * @param {string} text
    */
   takeBeside(where, name, text) {
-    this.replace(where, text, say.textReplaced(say.WHICH_TEXT[where], name));
+    const replaced = this.put(where, text);
     this.calls.took(where, "");
-    this.notice.show(`${name} ${say.BESIDE[where]}`, "file");
+    this.tell(replaced, `${name} ${say.BESIDE[where]}`);
+  }
+
+  /**
+   * One notice for what a file did, with what can be undone of it.
+   * @param {Replaced[]} replaced
+   * @param {string} words
+   */
+  tell(replaced, words) {
+    const session = this.calls.session();
+    if (session && replaced.length > 0) this.offer(session, replaced, words);
+    else this.notice.show(words, "file");
   }
 
   async takeFromRom() {
@@ -151,32 +183,59 @@ export class TextsController {
    */
   replace(name, text, words) {
     const session = this.calls.session();
-    if (!session) return;
+    const replaced = this.put(name, text);
+    if (session && replaced.length > 0) this.offer(session, replaced, words);
+  }
+
+  /**
+   * Puts another text in the place of the one that is here. Returns the old one, if it can be missed.
+   * @param {TextName} name
+   * @param {string} text
+   * @returns {Replaced[]}
+   */
+  put(name, text) {
+    if (!this.calls.session()) return [];
     const old = this[name].text;
     this[name].replaceText(text);
     this.edited();
-    if (old.trim() !== "" && old !== text) this.offer(session, { name, old, words });
+    return old.trim() !== "" && old !== text ? [{ name, old, now: text, way: "undo" }] : [];
+  }
+
+  /**
+   * Brings a text back as Ctrl Z does, by the editor's own history; where the text was edited since, as another edit.
+   * @param {Replaced} replaced
+   * @returns {Replaced[]} what this has replaced in its turn
+   */
+  back({ name, old, now, way }) {
+    const editor = this[name];
+    if (editor.text !== now || !editor.undoOrRedo(way) || editor.text !== old) return this.put(name, old);
+    this.edited();
+    return [{ name, old: now, now: old, way: way === "undo" ? "redo" : "undo" }];
   }
 
   /**
    * @param {KeptSession} session
-   * @param {{ name: TextName, old: string, words: string }} replaced
+   * @param {Replaced[]} replaced
+   * @param {string} words
    */
-  offer(session, replaced) {
-    this.notice.show(replaced.words, "undo", { word: say.UNDO, act: () => this.bringBack(session, replaced) });
+  offer(session, replaced, words) {
+    this.notice.show(words, "undo", { word: say.UNDO, act: () => this.bringBack(session, replaced, words) });
   }
 
   /**
-   * Brings a text back; what is there by then can be brought back in its turn.
+   * Brings texts back; what is there by then can be brought back in its turn.
    * @param {KeptSession} session
-   * @param {{ name: TextName, old: string, words: string }} replaced
+   * @param {Replaced[]} replaced
+   * @param {string} words
    */
-  bringBack(session, replaced) {
-    if (this.isShown(session)) {
-      this.replace(replaced.name, replaced.old, say.textIsBack(say.WHICH_TEXT[replaced.name]));
-    } else {
-      this.offer(session, replaced);
+  bringBack(session, replaced, words) {
+    if (!this.isShown(session)) {
+      this.offer(session, replaced, words);
       this.notice.show(say.inOtherSession(session.record.name), "refusal");
+      return;
     }
+    const back = replaced.flatMap((each) => this.back(each));
+    const [{ name }] = replaced;
+    if (back.length > 0) this.offer(session, back, replaced.length > 1 ? say.TEXTS_ARE_BACK : say.textIsBack(say.WHICH_TEXT[name]));
   }
 }

@@ -4,7 +4,7 @@ import { Cancelled } from "../../core/bench/faults.js";
 import { countOfFaults } from "../../core/bench/words.js";
 import { button, onClick } from "../ui/dom.js";
 import { BesideText } from "../text/beside_text.js";
-import { completeTest, helpForTest, testForms } from "../../core/text/test_words.js";
+import { completeTest, firstTest, helpForTest, testForms } from "../../core/text/test_words.js";
 import { markOfOutcomes, wordsOfFaults, wordsOfOutcomes } from "../../words/results.js";
 import { TestsView } from "./tests_view.js";
 import * as say from "../../words/testing.js";
@@ -35,7 +35,7 @@ export class TestsTab {
     this.beside = new BesideText({
       name: "tests",
       firstButton: "first-test",
-      firstText: () => say.FIRST_TEST,
+      firstText: firstTest,
       forms: testForms(manual),
       wordsAt: helpForTest,
       complete: completeTest,

@@ -6,7 +6,7 @@ import { button, onClick } from "../ui/dom.js";
 import { EditorView } from "./editor_view.js";
 import { PARTS } from "../../core/text/folding.js";
 import { LiveFaults } from "./live_faults.js";
-import { COLOURS } from "./test_colours.js";
+import { COLOURS } from "../../core/text/test_colours.js";
 
 /**
  * @typedef {import("../../core/testing/prepared.js").TextFault} TextFault

@@ -1,9 +1,10 @@
 // The texts of the board and of the program: an editor each, with its faults, its search, and words about what is pointed at.
 
 import { Cell, below, block, element, onClick } from "../ui/dom.js";
+import { editorKeys } from "../commands/keys.js";
 import { CountMarks } from "./count_marks.js";
 import { FaultView } from "./fault_view.js";
-import { keysOfFolding } from "./fold_view.js";
+import { actsOfFolding } from "./fold_view.js";
 import { LineMarks } from "./line_marks.js";
 import { LineValues } from "./line_values.js";
 import { MeaningView } from "./meaning_view.js";
@@ -18,12 +19,17 @@ import * as say from "../../words/text.js";
  * @typedef {import("../../core/text/completion.js").Completion} Completion
  * @typedef {import("../../core/debug/value_words.js").Piece} Piece
  * @typedef {import("../../core/text/text_fault.js").Fault} Fault
+ * @typedef {import("../commands/command_table.js").TextAct} TextAct
  * @typedef {import("./line_editor.js").Position} Position
  * @typedef {import("../../core/debug/breakpoints.js").Edit} Edit
  *
- * What an editor calls: its text was edited; it is sent; a breakpoint is wanted at a line, or is not wanted any more.
+ * @typedef {import("../machine/breakpoint_row.js").BreakpointField} BreakpointField
+ *
+ * What an editor calls: its text was edited; it is sent; a breakpoint is wanted at a line, or is not wanted any more; its words are to be
+ * edited; the menu of a line's margin is wanted.
  * @typedef {{ edited: (edits: Edit[]) => void, send: () => void, toggleBreakpoint: (line: number) => void,
- *   editBreakpoint?: (line: number) => void }} EditorCalls
+ *   editBreakpoint?: (line: number, what: BreakpointField) => void,
+ *   askedMargin?: (line: number, point: { left: number, bottom: number }) => void }} EditorCalls
  *
  * What kind of text it is: what its comments begin with, its colours, its gutters, the blanks that a new line begins with, where it is not
  * those of the line before, what folds in it; whether a word (in upper case) is an
@@ -62,10 +68,12 @@ export class EditorView {
     const { colours, gutters, indent, folds, isInstruction = () => false } = language;
     this.editor = new TextEditor({ container, label, colours, gutters, indent, folds, keys: this.keys(), calls: this.textCalls() });
     const { editor } = this.editor;
+    /** @type {(faults: Fault[]) => void} the errors of the text are others */
+    this.listed = () => {};
     this.marks = new LineMarks(editor);
     this.counts = new CountMarks(editor, this.marks);
     this.lineValues = new LineValues(editor);
-    this.faults = new FaultView(editor, this.marks, list, ({ line, from }) => this.editor.goTo({ line: line - 1, ch: from }));
+    this.faults = new FaultView(editor, this.marks, list, (fault) => this.goToFault(fault));
     this.search = new SearchBar(editor, paper, label);
     this.names = new NameView(this.editor, paper, { isInstruction, tell: (words) => this.told.set(words) });
     /** Timers: the pointer or the caret rests, and typing does. */
@@ -78,25 +86,60 @@ export class EditorView {
 
   /** @returns {import("./text_editor.js").KeyMap} */
   keys() {
-    /** @type {(name: string, act: () => void) => import("./text_editor.js").KeyMap} */
-    const withControl = (name, act) => ({ [`Ctrl-${name}`]: act, [`Cmd-${name}`]: act });
+    // Undo and redo are the editor's own.
+    const acts = Object.entries(this.acts()).filter(([name]) => name !== "undo" && name !== "redo");
     return {
-      ...withControl("Enter", () => this.calls.send()),
-      ...withControl("F", () => this.search.open()),
-      ...withControl("H", () => this.search.open(true)),
-      ...withControl("G", () => this.names.goToLine()),
-      ...withControl("/", () => this.editor.comment(this.language.mark)),
-      ...(this.language.isInstruction ? this.keysOfNames() : {}),
-      ...(this.language.folds ? keysOfFolding(this.language.folds) : {}),
-      "Ctrl-Space": () => this.editor.editor.complete(),
-      "F9": (editor) => this.calls.toggleBreakpoint(editor.getCursor().line + 1),
-      "Shift-F9": (editor) => this.askedFor(editor.getCursor().line + 1),
+      ...editorKeys("text.assembleAndRun", () => this.calls.send()),
+      ...Object.assign({}, ...acts.map(([name, act]) => (
+        editorKeys(/** @type {import("../commands/command_table.js").CommandId} */ (`text.${name}`), act)))),
+      ...editorKeys("debug.breakpoint", () => this.toggleBreakpoint()),
+      ...editorKeys("debug.condition", () => this.editBreakpoint("condition")),
     };
   }
 
-  /** @returns {import("./text_editor.js").KeyMap} */
-  keysOfNames() {
-    return { "F12": () => this.names.define(), "Shift-F12": () => this.names.find(), "F2": () => this.names.rename() };
+  /**
+   * What can be done in this text, by its name in the table of commands.
+   * @returns {Partial<Record<TextAct, () => void>>}
+   */
+  acts() {
+    const { folds, isInstruction, mark } = this.language;
+    const folding = Object.entries(folds ? actsOfFolding(folds) : {}).map(([name, act]) => [name, () => act(this.editor.editor)]);
+    return {
+      find: () => this.search.open(),
+      replace: () => this.search.open(true),
+      line: () => this.names.goToLine(),
+      comment: () => this.editor.comment(mark),
+      complete: () => this.editor.editor.complete(),
+      ...(isInstruction ? { define: () => this.names.define(), uses: () => this.names.find(), rename: () => this.names.rename() } : {}),
+      ...Object.fromEntries(folding),
+      undo: () => this.undoOrRedo("undo"),
+      redo: () => this.undoOrRedo("redo"),
+    };
+  }
+
+  /**
+   * Does something in the text, whose caret has the keyboard then.
+   * @param {TextAct} what
+   */
+  act(what) {
+    const act = this.acts()[what];
+    if (!act) return;
+    this.editor.editor.focus();
+    act();
+  }
+
+  /** Sets or clears a breakpoint at the line of the caret. */
+  toggleBreakpoint() {
+    this.calls.toggleBreakpoint(this.editor.editor.getCursor().line + 1);
+  }
+
+  /**
+   * Edits the words of the breakpoint at the line of the caret.
+   * @param {BreakpointField} what
+   */
+  editBreakpoint(what) {
+    const { editBreakpoint } = this.calls;
+    if (editBreakpoint) editBreakpoint(this.editor.editor.getCursor().line + 1, what);
   }
 
   /** @returns {import("./text_editor.js").TextCalls} */
@@ -105,7 +148,7 @@ export class EditorView {
       edited: (edits) => this.changed(edits),
       moved: () => this.moved(),
       clickedGutter: (line) => this.calls.toggleBreakpoint(line),
-      askedGutter: (line, event) => this.askedFor(line, event),
+      askedGutter: (line, event) => this.askedMargin(line, event),
       clickedName: () => this.language.isInstruction && this.names.define(),
       refused: (size) => this.told.set(say.notPutIn(size.toLocaleString("en"), LONGEST_KEPT.toLocaleString("en"))),
       complete: ({ line, ch }) => this.language.complete(this.lines, line, ch),
@@ -113,15 +156,15 @@ export class EditorView {
   }
 
   /**
-   * The words of a line's breakpoint are wanted.
+   * The menu of a line's margin is wanted.
    * @param {number} line
-   * @param {Event} [event]
+   * @param {Event} event
    */
-  askedFor(line, event) {
-    const { editBreakpoint } = this.calls;
-    if (!editBreakpoint) return;
-    if (event) event.preventDefault();
-    editBreakpoint(line);
+  askedMargin(line, event) {
+    const { askedMargin } = this.calls;
+    if (!askedMargin || !(event instanceof MouseEvent)) return;
+    event.preventDefault();
+    askedMargin(line, { left: event.clientX, bottom: event.clientY });
   }
 
   /** @param {HTMLElement} wrapper */
@@ -228,6 +271,14 @@ export class EditorView {
   }
 
   /**
+   * The last step is undone, or done again; false where there is none.
+   * @param {"undo" | "redo"} which
+   */
+  undoOrRedo(which) {
+    return this.editor.undoOrRedo(which);
+  }
+
+  /**
    * The line whose instruction comes next, or 0 for none; it is brought into view.
    * @param {number} line
    */
@@ -258,7 +309,13 @@ export class EditorView {
    */
   showFaults(faults, more = "") {
     this.faults.show(faults, more);
+    this.listed(faults);
     this.moved();
+  }
+
+  /** @param {Fault} fault is where the caret goes */
+  goToFault({ line, from }) {
+    this.editor.goTo({ line: line - 1, ch: from });
   }
 
   /**

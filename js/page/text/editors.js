@@ -14,7 +14,7 @@ import { moreThan } from "../../core/board/face.js";
 import { PARTS } from "../../core/text/folding.js";
 import { LiveFaults } from "./live_faults.js";
 import { instructionsOf } from "../../core/help/manual.js";
-import { MOST_FAULTS } from "../../core/text/program_faults.js";
+import { MOST_FAULTS, isNoProgram } from "../../core/text/program_faults.js";
 import { boardTables, helpForBoard, helpForProgram } from "../../core/text/text_help.js";
 import { TOUR_BOARD } from "../../words/help.js";
 import * as say from "../../words/text.js";
@@ -26,15 +26,17 @@ import * as say from "../../words/text.js";
  * @typedef {import("../../core/debug/breakpoints.js").Edit} Edit
  * @typedef {import("../../core/text/text_fault.js").Fault} Fault
  * @typedef {import("../../core/bench/words.js").Words} Words
+ * @typedef {import("../machine/breakpoint_row.js").BreakpointField} BreakpointField
  *
  * What they call: a text was edited, the program by these edits; its bytes came into ROM, where `isBegun` with a reset; lines are sent,
  * which gives the first answer, or null where they failed; time is stopped, and runs; the counter, as it is written; a breakpoint is
- * wanted at a line of the program, or is not wanted any more, or its words are; what a name of the program means, and a word at a place of
- * a line stands for now; a cell that shows such a value can be edited; a text has so many faults; a board's text is put in the place of the
- * one that is there, with words about it; a call failed.
+ * wanted at a line of the program, or is not wanted any more, or its words are to be edited; the menu of a line's margin is wanted; what
+ * a name of the program means, and a word at a place of a line stands for now; a cell that shows such a value can be edited; a text has so
+ * many faults; a board's text is put in the place of the one that is there, with words about it; a call failed.
  * @typedef {{ edited: (edits: Edit[]) => void, assembled: (isBegun: boolean) => Promise<void>,
  *   act: (lines: string) => Promise<string | null>, stop: () => Promise<void>, run: () => void,
- *   counter: () => string, toggleBreakpoint: (line: number) => void, editBreakpoint: (line: number) => void,
+ *   counter: () => string, toggleBreakpoint: (line: number) => void, editBreakpoint: (line: number, what: BreakpointField) => void,
+ *   askedMargin: (line: number, point: { left: number, bottom: number }) => void,
  *   meaningOf: (name: string) => string,
  *   valuesAt: (text: string, at: number) => import("../../core/debug/value_words.js").Piece[], offer: import("./meaning_view.js").Offer,
  *   hasFaults: (name: "program" | "board", count: number) => void, replaceBoard: (text: string, words: string) => void,
@@ -56,12 +58,14 @@ export class Editors {
     this.tables = boardTables(manual);
     this.program = this.makeProgram();
     this.board = this.makeBoard();
-    const all = this.allFaults(words);
-    this.programFaults = new LiveFaults((isWanted) => all.ofProgram(this.program.text, isWanted),
+    /** @type {string | null} the board's text that is being wired */
+    this.wiring = null;
+    this.all = this.allFaults(words);
+    this.programFaults = new LiveFaults((isWanted) => this.all.ofProgram(this.program.text, isWanted),
       (found) => this.show("program", found), calls.failed);
     onClick(button("assemble-only"), () => this.assembleOnly().catch(calls.failed));
     onClick(button("first-board"), () => this.wireFirst().catch(calls.failed));
-    this.boardFaults = new LiveFaults((isWanted) => all.ofBoard(this.board.text, isWanted),
+    this.boardFaults = new LiveFaults((isWanted) => this.all.ofBoard(this.board.text, isWanted),
       (found) => this.show("board", found), calls.failed);
   }
 
@@ -96,6 +100,7 @@ export class Editors {
       send: () => this.assembleAndRun().catch(this.calls.failed),
       toggleBreakpoint: this.calls.toggleBreakpoint,
       editBreakpoint: this.calls.editBreakpoint,
+      askedMargin: this.calls.askedMargin,
     });
   }
 
@@ -193,7 +198,11 @@ export class Editors {
 
   async wire() {
     if (!(await this.hasNoFaults("board"))) return;
-    const answer = await this.calls.act(`wire\n${this.board.sent}.\n`);
+    const { text, sent } = this.board;
+    this.wiring = text;
+    const answer = await this.calls.act(`wire\n${sent}.\n`).finally(() => {
+      this.wiring = null;
+    });
     if (answer === null) return;
     const refusal = refusalOf(answer);
     this.board.tell(refusal ? this.wordsOfRefusal(refusal) : say.BOARD_WIRED);
@@ -219,6 +228,15 @@ export class Editors {
     const found = await (name === "program" ? this.programFaults : this.boardFaults).look();
     if (found && found.faults.length > 0) this.refuseFaults(name, found.faults);
     return found !== undefined && found.faults.length === 0;
+  }
+
+  /**
+   * Whether each line of code of a text has an error.
+   * @param {string} text
+   */
+  async isNoProgram(text) {
+    const found = await this.all.ofProgram(text, () => true);
+    return found !== undefined && isNoProgram(text, found);
   }
 
   /**

@@ -8,7 +8,6 @@ import * as say from "../../words/text.js";
 
 /**
  * @typedef {import("./line_editor.js").LineEditor} LineEditor
- * @typedef {import("./line_editor.js").KeyMap} KeyMap
  * @typedef {import("../../core/text/folding.js").Parts} Parts
  */
 
@@ -52,20 +51,23 @@ export function folding(parts) {
 }
 
 /**
+ * What folds in a text with such parts, and unfolds.
  * @param {Parts} parts
- * @returns {KeyMap}
  */
-export function keysOfFolding(parts) {
+export function actsOfFolding(parts) {
   return {
-    "Shift-Ctrl-[": (editor) => {
+    /** @param {LineEditor} editor */
+    fold: (editor) => {
       const head = headOf(linesOf(editor.doc), editor.getCursor().line, parts);
       if (head < 0) return;
       editor.setCursor({ line: head, ch: Infinity });
       foldCode(editor.view);
     },
-    "Shift-Ctrl-]": (editor) => unfold(editor, editor.getCursor().line),
-    "Shift-Ctrl-Alt-[": (editor) => foldAllOf(editor),
-    "Shift-Ctrl-Alt-]": (editor) => void unfoldAll(editor.view),
+    /** @param {LineEditor} editor */
+    unfold: (editor) => unfold(editor, editor.getCursor().line),
+    foldAll: foldAllOf,
+    /** @param {LineEditor} editor */
+    unfoldAll: (editor) => void unfoldAll(editor.view),
   };
 }
 

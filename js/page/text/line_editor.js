@@ -8,8 +8,9 @@ import { indentUnit } from "@codemirror/language";
 import { ChangeSet, Compartment, EditorState, Prec, Transaction } from "@codemirror/state";
 import { EditorView, dropCursor, highlightSpecialChars, keymap, lineNumbers } from "@codemirror/view";
 import { lineColours } from "./line_colours.js";
-import { gutterLayer, gutterOf, lookOf, markLayer, textLayer, textMark } from "./line_layers.js";
+import { belowLayer, elementBelow, gutterLayer, gutterOf, lookOf, markLayer, textLayer, textMark } from "./line_layers.js";
 import { keepRulesInSheet } from "./style_rules.js";
+import { below } from "../ui/dom.js";
 
 /**
  * @typedef {{ line: number, ch: number }} Position
@@ -60,7 +61,8 @@ function editsOf(transaction) {
   const edits = [];
   transaction.changes.iterChanges((from, to, _from, _to, inserted) => {
     const removed = doc.slice(from, to).toJSON();
-    edits.unshift({ from: positionIn(doc, from), to: positionIn(doc, to), text: inserted.toJSON(), removed, origin });
+    const isWhole = from === 0 && to === doc.length;
+    edits.unshift({ from: positionIn(doc, from), to: positionIn(doc, to), text: inserted.toJSON(), removed, origin, isWhole });
   });
   return edits;
 }
@@ -79,7 +81,10 @@ export class LineEditor {
     this.wraps = false;
     /** @type {Map<string, Layer>} by the names of the gutters */
     this.marks = new Map(parts.gutters.filter((name) => name !== "numbers").map((name) => [name, markLayer()]));
-    this.layers = { next: textLayer(), nextNumber: gutterLayer(), lacking: gutterLayer(), faults: textLayer(), values: textLayer() };
+    this.layers = { next: textLayer(), nextNumber: gutterLayer(), lacking: gutterLayer(), faults: textLayer(), values: textLayer(),
+      below: belowLayer() };
+    /** @type {HTMLElement | null} what is shown below a line */
+    this.below = null;
     /** @type {(() => void)[]} what is to be done after each edit */
     this.afterEdits = [];
     this.extensions = this.extensionsOf(parts);
@@ -360,6 +365,25 @@ export class LineEditor {
     this.layers.values.show(this.view, ranges);
   }
 
+  /**
+   * Shows an element below a line.
+   * @param {number} line from 0
+   * @param {HTMLElement | null} node null for none
+   */
+  showBelow(line, node) {
+    this.below = node;
+    this.fitBelow();
+    this.layers.below.show(this.view, node ? [elementBelow(node).range(this.offset({ line, ch: Infinity }))] : []);
+  }
+
+  /** What is shown below a line is no wider than what is seen of the text. */
+  fitBelow() {
+    if (!this.below) return;
+    const gutters = below(this.view.dom, ".cm-gutters", HTMLElement).offsetWidth;
+    this.below.style.setProperty("left", `${gutters}px`);
+    this.below.style.setProperty("max-width", `${this.view.scrollDOM.clientWidth - gutters}px`);
+  }
+
   focus() {
     this.view.focus();
   }
@@ -426,6 +450,7 @@ export class LineEditor {
 
   /** What surrounds the text has another size. */
   refresh() {
+    this.fitBelow();
     this.view.requestMeasure();
   }
 

@@ -8,6 +8,7 @@ import * as say from "../../words/text.js";
 
 /**
  * @typedef {import("@codemirror/state").Extension} Extension
+ * @typedef {import("@codemirror/state").Transaction} Transaction
  * @typedef {RangeSet<any>} Ranges
  *
  * What stands in a gutter at a line, from 0, and what it means.
@@ -67,18 +68,44 @@ class WordsBehind extends WidgetType {
   }
 }
 
+/** An element of the page below a line. */
+class ElementBelow extends WidgetType {
+  /** @param {HTMLElement} node */
+  constructor(node) {
+    super();
+    this.node = node;
+  }
+
+  /** @param {ElementBelow} other */
+  eq({ node }) {
+    return node === this.node;
+  }
+
+  // Its keys and clicks are its own.
+  ignoreEvent() {
+    return true;
+  }
+
+  toDOM() {
+    return this.node;
+  }
+}
+
 /** A set of ranges over the text. */
 export class Layer {
-  /** @param {(field: StateField<Ranges>) => Extension} provide says what the ranges are to the editor */
-  constructor(provide) {
+  /**
+   * @param {(field: StateField<Ranges>) => Extension} provide says what the ranges are to the editor
+   * @param {(ranges: Ranges, edit: Transaction) => Ranges} [move] where they are after an edit
+   */
+  constructor(provide, move = (ranges, { changes }) => ranges.map(changes)) {
     /** @type {import("@codemirror/state").StateEffectType<Ranges>} */
     this.put = StateEffect.define();
     /** @type {StateField<Ranges>} */
     this.field = StateField.define({
       create: () => RangeSet.empty,
-      update: (ranges, { changes, effects }) => {
-        const put = effects.find((effect) => effect.is(this.put));
-        return put ? put.value : ranges.map(changes);
+      update: (ranges, transaction) => {
+        const put = transaction.effects.find((effect) => effect.is(this.put));
+        return put ? put.value : move(ranges, transaction);
       },
       provide,
     });
@@ -98,6 +125,23 @@ export class Layer {
 /** A layer of looks of the text. */
 export function textLayer() {
   return new Layer((field) => EditorView.decorations.from(field));
+}
+
+/** A layer of elements below lines: each stays below its line, also where another line begins at that one's end. */
+export function belowLayer() {
+  return new Layer((field) => EditorView.decorations.from(field), (ranges, { changes, docChanged, newDoc, startState: { doc } }) => {
+    if (!docChanged) return ranges;
+    const moved = [];
+    for (const at = ranges.iter(); at.value; at.next()) {
+      moved.push(at.value.range(newDoc.lineAt(changes.mapPos(doc.lineAt(at.from).from, 1)).to));
+    }
+    return RangeSet.of(moved);
+  });
+}
+
+/** @param {HTMLElement} node */
+export function elementBelow(node) {
+  return Decoration.widget({ widget: new ElementBelow(node), block: true, side: 1 });
 }
 
 /** A layer of looks of the gutters. */

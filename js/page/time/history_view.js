@@ -1,9 +1,8 @@
 // The bar of steps and of the past: back and forward, so many instructions, and on or back to a change.
 
 import { button, byId, element, field, onClick } from "../ui/dom.js";
-import { placeOf } from "../../core/bench/places.js";
+import { goalOfText } from "../../core/debug/becoming.js";
 import { countOf, upTo } from "../../core/bench/numbers.js";
-import { PLACES_TOLD } from "../../words/bench.js";
 import * as say from "../../words/time.js";
 
 /**
@@ -11,12 +10,14 @@ import * as say from "../../words/time.js";
  * @typedef {import("../../core/engine/going_back.js").BackGoal} BackGoal
  * @typedef {import("../../core/debug/goals.js").Goal} Goal
  *
- * What it calls: time passes until a goal is reached; back and forward; the status says something.
- * @typedef {{ goOn: (goal: Goal) => void, goBack: (goal: BackGoal) => void, goForward: () => void, tell: (words: string) => void }}
- *   HistoryCalls
+ * What it calls: time passes until a goal is reached; back and forward; the names that a condition may have; the status says something.
+ * @typedef {{ goOn: (goal: Goal) => void, goBack: (goal: BackGoal) => void, goForward: () => void,
+ *   names: () => import("../../core/conditions/conditions.js").Names, tell: (words: string) => void }} HistoryCalls
  */
 
 const MOST_INSTRUCTIONS = 10000000;
+/** A fault is told up to so many characters, as it quotes what was typed. */
+const LONGEST_FAULT = 200;
 
 /**
  * The names of places that a board has, the most wanted ones first; others can be typed.
@@ -37,17 +38,14 @@ export class HistoryView {
     this.count = field("step-count");
     this.place = field("change-place");
     this.forward = button("forward");
-    /** @type {string[]} */
-    this.lampNames = [];
     onClick(button("back-stop"), () => calls.goBack({ kind: "stop" }));
     onClick(button("back-breakpoint"), () => calls.goBack({ kind: "arrival", place: "" }));
-    onClick(button("back-instruction"), () => calls.goBack({ kind: "instruction" }));
     onClick(this.forward, () => calls.goForward());
     onClick(button("step-many"), () => this.stepMany());
-    onClick(button("until-change"), () => this.withPlace((place) => calls.goOn({ kind: "change", place })));
-    onClick(button("back-change"), () => this.withPlace((place) => calls.goBack({ kind: "change", place })));
+    onClick(button("until-change"), () => this.withGoal((goal) => calls.goOn(goal)));
+    onClick(button("back-change"), () => this.withGoal((goal) => calls.goBack(goal)));
     this.onEnter(this.count, () => this.stepMany());
-    this.onEnter(this.place, () => this.withPlace((place) => calls.goOn({ kind: "change", place })));
+    this.onEnter(this.place, () => this.withGoal((goal) => calls.goOn(goal)));
   }
 
   /**
@@ -62,6 +60,14 @@ export class HistoryView {
     });
   }
 
+  /** Another session is shown: its fields are as they are at first. */
+  begin() {
+    for (const input of [this.count, this.place]) {
+      input.value = input.defaultValue;
+      input.removeAttribute("aria-invalid");
+    }
+  }
+
   /** @param {number} future how many times forward is possible */
   showFuture(future) {
     const isNone = future === 0;
@@ -73,7 +79,6 @@ export class HistoryView {
    * @param {string[]} lampNames "" for a lamp without one
    */
   draw(board, lampNames) {
-    this.lampNames = lampNames;
     const places = offeredPlaces(board, lampNames);
     byId("change-places", HTMLDataListElement).replaceChildren(...places.map((value) => element("option", { value })));
   }
@@ -85,12 +90,12 @@ export class HistoryView {
     else this.calls.tell(say.giveCount(MOST_INSTRUCTIONS.toLocaleString("en")));
   }
 
-  /** @param {(place: string) => void} act */
-  withPlace(act) {
-    const lamp = this.lampNames.indexOf(this.place.value.trim() || "-");
-    const place = placeOf(lamp >= 0 ? `lamp ${lamp}` : this.place.value);
-    this.place.setAttribute("aria-invalid", String(place === null));
-    if (place) act(place.name);
-    else this.calls.tell(say.giveChange(PLACES_TOLD));
+  /** @param {(goal: NonNullable<ReturnType<typeof goalOfText>["goal"]>) => void} act */
+  withGoal(act) {
+    const text = this.place.value;
+    const { goal, fault } = text.trim() === "" ? { goal: null, fault: "" } : goalOfText(text, this.calls.names());
+    this.place.setAttribute("aria-invalid", String(goal === null));
+    if (goal) act(goal);
+    else this.calls.tell(fault === "" ? say.GIVE_CHANGE : say.cannotBeSought(fault.slice(0, LONGEST_FAULT)));
   }
 }

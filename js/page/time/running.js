@@ -1,8 +1,8 @@
 // Time that runs: by the clock or at full speed, up to a stop, and what is told of it.
 
 import { isStop, readRun, refusalOf } from "../../core/bench/answers.js";
-import { wordsOfHalt, wordsOfMove, wordsOfStop, wordsOfWhen } from "../../words/stops.js";
-import { Cell, block, button } from "../ui/dom.js";
+import { wordsOfHalt, wordsOfMove, wordsOfStop } from "../../words/stops.js";
+import { Cell, block } from "../ui/dom.js";
 import { wordsOfTime } from "../../core/bench/words.js";
 import { AskedKeys } from "../../core/board/asked_keys.js";
 import { Sound } from "../board/sound.js";
@@ -16,15 +16,14 @@ import * as say from "../../words/time.js";
  * @typedef {import("../../core/bench/protocol.js").Stop} Stop
  * @typedef {import("../../core/debug/goals.js").Goal} Goal
  * @typedef {import("../../core/bench/bench.js").Bench} Bench
- * @typedef {import("../../core/debug/breakpoints.js").Breakpoint} Breakpoint
  * @typedef {import("../session/current_session.js").CurrentSession} CurrentSession
  * @typedef {import("../../core/time/speeds.js").Speed} Speed
  *
- * What it calls: time begins to run; what it has done is shown, logged and counted; what is drawn more seldom is drawn now, and the
- * listing; whether an instruction is in its middle; the cycles that were counted; where time stands still, with its name and its line; a
- * breakpoint; what a refusal means; a step is served; a call failed.
- * @typedef {{ began: () => void, took: (frame: Frame) => void, drawRest: () => void, drawListing: () => void, isOwed: () => boolean,
- *   cycles: () => number, where: () => string, breakpoint: (id: number) => Breakpoint | undefined,
+ * What it calls: time begins to run, and stands still; what it has done is shown, logged and counted; what is drawn more seldom is drawn
+ * now, and the listing; whether an instruction is in its middle; the cycles that were counted; where time stands still, with its name and
+ * its line; when a breakpoint stops, in words; how many breakpoints have an error; what a refusal means; a step is served; a call failed.
+ * @typedef {{ began: () => void, stood: () => void, took: (frame: Frame) => void, drawRest: () => void, drawListing: () => void,
+ *   isOwed: () => boolean, cycles: () => number, where: () => string, when: (id: number) => string, unreadable: () => number,
  *   wordsOfRefusal: (number: number) => string, step: () => Promise<string | null>, failed: (fault: unknown) => void }} RunningCalls
  */
 
@@ -45,6 +44,8 @@ export class Running {
     this.calls = calls;
     /** @type {(why: string) => void} time has stopped by itself */
     this.ended = () => {};
+    /** @type {(isRunning: boolean) => void} time runs from here on, or stands still */
+    this.showRunning = () => {};
     /** @type {Goal | null} up to which time runs */
     this.goal = null;
     /** The cycles that were counted where time began to run. */
@@ -60,7 +61,6 @@ export class Running {
     });
     this.status = new Cell(block("status"));
     this.rateTold = new Cell(block("rate"));
-    this.runWord = new Cell(button("run"));
   }
 
   makeClock() {
@@ -105,8 +105,8 @@ export class Running {
     this.begun = calls.cycles();
     calls.began();
     if (!goal) bench.call("drop", []).catch(calls.failed);
-    this.runWord.set(say.STOP);
-    this.tell(goal ? wordsOfMove(goal) : say.TIME_RUNS);
+    this.showRunning(true);
+    this.tell(goal ? wordsOfMove(goal) : say.timeRuns(current.name, calls.unreadable()));
     this.clock.start();
     this.beginRate();
     bench.isRunning = this.clock.isFull;
@@ -178,7 +178,7 @@ export class Running {
     this.beginRate();
     const words = say.timeStood(wordsOfTime(time), wasHidden);
     this.tell(words);
-    setTimeout(() => this.status.text === words && this.tell(say.TIME_RUNS), TOLD_TIME);
+    setTimeout(() => this.status.text === words && this.tell(say.timeRuns(this.current.name, this.calls.unreadable())), TOLD_TIME);
   }
 
   /**
@@ -192,11 +192,12 @@ export class Running {
     bench.isRunning = false;
     if (current.session) current.session.record.runs = false;
     this.aim(null);
-    this.runWord.set(say.RUN);
+    this.showRunning(false);
     this.tell(words);
     this.showRate();
     calls.drawRest();
     calls.drawListing();
+    calls.stood();
   }
 
   /** Lets no more time pass, and takes what it has done. */
@@ -262,7 +263,7 @@ export class Running {
   reasonOf(stop, goal = this.goal) {
     const refusal = refusalOf(stop.why);
     if (refusal) return say.stoppedBy(stop.why, this.calls.wordsOfRefusal(refusal.number));
-    return wordsOfStop(goal, stop, this.where, wordsOfWhen(this.calls.breakpoint(stop.id || 0)));
+    return wordsOfStop(goal, stop, this.where, this.calls.when(stop.id || 0));
   }
 
   async step() {

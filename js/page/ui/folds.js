@@ -1,25 +1,24 @@
 // Panels that can be folded to their heading.
 
-import { element, onClick } from "./dom.js";
+import { block, element, onClick } from "./dom.js";
 import * as say from "../../words/page.js";
 
 /**
  * @typedef {import("./choices.js").Choices} Choices
  */
 
-/** Where a window is as narrow as a phone, panels with `data-fold="narrow"` are folded until they are wanted. */
-export const NARROW = "(max-width: 699px)";
-
 /**
- * The heading of each panel with `data-fold` becomes a button that folds it; what was chosen is kept.
+ * Makes the heading of each panel with `data-fold` a button that folds it; what was chosen is kept. Gives the panels' ids.
  * @param {Choices} choices
  */
 export function makeFolds(choices) {
-  for (const panel of /** @type {NodeListOf<HTMLElement>} */ (document.querySelectorAll("[data-fold]"))) {
+  const panels = [.../** @type {NodeListOf<HTMLElement>} */ (document.querySelectorAll("[data-fold]"))];
+  for (const panel of panels) {
     const heading = panel.querySelector("h2");
     if (!heading) continue;
     heading.replaceChildren(makeFold(panel, heading.textContent || "", choices));
   }
+  return panels.map(({ id }) => id);
 }
 
 /**
@@ -30,8 +29,7 @@ export function makeFolds(choices) {
 function makeFold(panel, title, choices) {
   const name = `fold.${panel.id}`;
   const fold = element("button", { type: "button", className: "fold", title: say.FOLDS }, title);
-  const usual = panel.dataset.fold === "narrow" && matchMedia(NARROW).matches ? "folded" : "unfolded";
-  let isFolded = (choices.get(name) || usual) === "folded";
+  let isFolded = choices.get(name) === "folded";
   const show = () => {
     panel.classList.toggle("folded", isFolded);
     fold.setAttribute("aria-expanded", String(!isFolded));
@@ -43,4 +41,13 @@ function makeFold(panel, title, choices) {
   });
   show();
   return fold;
+}
+
+/**
+ * Unfolds a panel that is folded.
+ * @param {string} id
+ */
+export function unfold(id) {
+  const fold = block(id).querySelector("h2 > .fold[aria-expanded='false']");
+  if (fold instanceof HTMLElement) fold.click();
 }

@@ -1,8 +1,9 @@
-// Words for what went wrong, and for what can be undone: a list, where it is seen wherever the page is scrolled to. Of a kind there is one
-// notice, the newest; it goes when that kind is well again. What can be undone has a notice each, and so has each session that was not
-// opened by itself.
+// Words for what went wrong, and for what can be undone: the newest three, where they are seen wherever the page is scrolled to. Of a kind
+// there is one notice, the newest; it goes when that kind is well again. What can be undone has a notice each, and so has each session that
+// was not opened by itself. What went well leaves by itself. All of them can be read again in a list.
 
 import { block, element } from "./dom.js";
+import { NoticeList } from "./notice_list.js";
 import * as say from "../../words/page.js";
 
 /**
@@ -11,17 +12,36 @@ import * as say from "../../words/page.js";
  * (`unended`), any other fault (""), and `undo`.
  * @typedef {"" | "kept" | "session" | "store" | "refusal" | "share" | "file" | "left" | "unended" | "undo"} NoticeKind
  * @typedef {{ word: string, act: () => void }} NoticeAction a button beside the words
- * @typedef {{ kind: NoticeKind, words: string, node: HTMLElement }} Row
+ * @typedef {{ kind: NoticeKind, words: string, node: HTMLElement, message: import("./notice_list.js").Message, timer: number }} Row
  */
 
 /** Faults that are told again and again while they last: who dismissed one does not see the same words again before it was well. */
 const LASTING = new Set(["kept", "store"]);
 /** Kinds that have a notice each. */
 const SEVERAL = new Set(["undo", "unended"]);
+/** Kinds of what went well. */
+const WENT_WELL = new Set(["undo", "file", "share", "left"]);
+/** A notice of what went well stays for so many milliseconds. */
+const STAY_TIME = 8000;
+/** So many are shown. */
+const MOST_SHOWN = 3;
+
+/**
+ * Returns the notices that make room: the oldest of what went well, else the oldest.
+ * @template {{ kind: NoticeKind }} Each
+ * @param {Each[]} rows the newest one first
+ * @returns {Each[]}
+ */
+export function pushedOut(rows) {
+  const older = rows.slice(1).reverse();
+  const order = [...older.filter(({ kind }) => WENT_WELL.has(kind)), ...older.filter(({ kind }) => !WENT_WELL.has(kind))];
+  return order.slice(0, Math.max(0, rows.length - MOST_SHOWN));
+}
 
 export class Notice {
   constructor() {
     this.block = block("notice");
+    this.list = new NoticeList((message, action) => this.act(message, action));
     /** @type {Row[]} the newest one first */
     this.rows = [];
     /** @type {Map<NoticeKind, string>} lasting faults that were dismissed */
@@ -43,12 +63,27 @@ export class Notice {
     if (this.dismissed.get(kind) === words) return;
     if (LASTING.has(kind) && this.rows.some((row) => row.kind === kind && row.words === words)) return;
     if (!SEVERAL.has(kind)) this.hide(kind);
-    const row = { kind, words, node: element("div", { className: "notice", role: "alert" }, element("p", {}, words)) };
-    row.node.append(...actions.map((action) => this.button(action.word, `${action.word}: ${words}`, () => this.do(row, action))));
+    const message = { words, time: new Date(), actions };
+    this.list.add(message);
+    const row = { kind, words, node: element("div", { className: "notice", role: "alert" }, element("p", {}, words)), message, timer: 0 };
+    row.node.append(...actions.map((each) => this.button(each.word, say.ofNotice(each.word, words), () => this.act(message, each))));
     row.node.append(this.button(say.DISMISS, say.DISMISS_NOTICE, () => this.dismiss(row), "dismiss"));
     this.rows.unshift(row);
     this.block.prepend(row.node);
     this.block.hidden = false;
+    for (const each of pushedOut(this.rows)) this.remove(each);
+    if (WENT_WELL.has(kind)) this.leaveLater(row);
+  }
+
+  /**
+   * A notice leaves after some time, but not while somebody is at it.
+   * @param {Row} row
+   */
+  leaveLater(row) {
+    row.timer = window.setTimeout(() => {
+      if (row.node.matches(":hover, :focus-within")) this.leaveLater(row);
+      else this.remove(row);
+    }, STAY_TIME);
   }
 
   /**
@@ -67,17 +102,20 @@ export class Notice {
   }
 
   /**
-   * @param {Row} row
+   * Does what a notice offers, once.
+   * @param {import("./notice_list.js").Message} message
    * @param {NoticeAction} action
    */
-  do(row, action) {
-    this.remove(row);
+  act(message, action) {
+    message.actions = [];
+    for (const row of this.rows.filter((each) => each.message === message)) this.remove(row);
     action.act();
   }
 
   /** @param {Row} row */
   remove(row) {
     const hadFocus = row.node.contains(document.activeElement);
+    clearTimeout(row.timer);
     this.rows = this.rows.filter((each) => each !== row);
     row.node.remove();
     this.block.hidden = this.rows.length === 0;

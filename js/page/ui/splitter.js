@@ -1,69 +1,104 @@
-// How wide the column beside the texts is: its edge is dragged, or moved by the arrows of the keyboard.
+// The borders between panels: each one is dragged, or moved by the arrows of the keyboard; a double click gives the usual place back.
 
 import { block } from "./dom.js";
 
 /** @typedef {import("./choices.js").Choices} Choices */
 
-/** In pixels. */
-const LEAST = 280;
-const MOST = 900;
+/**
+ * A border, the panel whose size it changes, and on which side of the panel it is. The sizes are in pixels.
+ * @typedef {{ id: string, of: string, property: string, side: "left" | "right" | "top" | "bottom", least: number, most: number }} Border
+ */
+
 const MOVE = 20;
-const NAME = "side";
+/** @type {Record<Border["side"], Record<string, number>>} how much larger the panel becomes by a key */
+const KEYS = {
+  left: { ArrowLeft: MOVE, ArrowRight: -MOVE },
+  right: { ArrowLeft: -MOVE, ArrowRight: MOVE },
+  top: { ArrowUp: MOVE, ArrowDown: -MOVE },
+  bottom: { ArrowUp: -MOVE, ArrowDown: MOVE },
+};
 
 export class Splitter {
-  /** @param {Choices} choices */
-  constructor(choices) {
+  /**
+   * @param {Choices} choices
+   * @param {Border} border
+   */
+  constructor(choices, border) {
     this.choices = choices;
-    this.node = block("splitter");
+    this.border = border;
+    this.node = block(border.id);
+    this.panel = block(border.of);
+    this.isUpright = border.side === "left" || border.side === "right";
+    this.node.setAttribute("aria-valuemin", String(border.least));
+    this.node.setAttribute("aria-valuemax", String(border.most));
+    /** What the panel's size is beside the place of the pointer that holds the border. */
+    this.held = 0;
     this.node.addEventListener("pointerdown", (event) => {
       event.preventDefault();
       this.node.setPointerCapture(event.pointerId);
+      this.held = this.size - this.along(event);
     });
     this.node.addEventListener("pointermove", (event) => {
-      if (this.node.hasPointerCapture(event.pointerId)) this.set(this.right - event.clientX);
+      if (this.node.hasPointerCapture(event.pointerId)) this.set(this.held + this.along(event));
     });
+    this.node.addEventListener("focus", () => this.tell());
     this.node.addEventListener("keydown", (event) => this.typed(event));
     this.node.addEventListener("dblclick", () => this.reset());
-    this.show(Number(choices.get(NAME)) || 0);
+    this.show(Number(choices.get(this.name)) || 0);
   }
 
-  /** Where the column beside the texts ends. */
-  get right() {
-    return block("program-column").getBoundingClientRect().right;
+  /** The name of the choice that keeps it. */
+  get name() {
+    return `size.${this.border.of}`;
   }
 
-  /** How wide it is now. */
-  get width() {
-    return block("program-column").getBoundingClientRect().width;
+  /** How large the panel is now. */
+  get size() {
+    const { width, height } = this.panel.getBoundingClientRect();
+    return this.isUpright ? width : height;
   }
 
-  /** @param {number} width */
-  set(width) {
-    const taken = Math.round(Math.min(MOST, Math.max(LEAST, width)));
-    this.choices.set(NAME, String(taken));
+  /**
+   * Where the pointer is, in the direction in which the panel grows.
+   * @param {{ clientX: number, clientY: number }} point
+   */
+  along({ clientX, clientY }) {
+    const { side } = this.border;
+    const at = this.isUpright ? clientX : clientY;
+    return side === "left" || side === "top" ? -at : at;
+  }
+
+  /** @param {number} size */
+  set(size) {
+    const { least, most } = this.border;
+    const taken = Math.round(Math.min(most, Math.max(least, size)));
+    this.choices.set(this.name, String(taken));
     this.show(taken);
   }
 
-  /** As wide as it is by itself. */
+  /** Gives the panel its usual size. */
   reset() {
-    this.choices.set(NAME, "");
+    this.choices.set(this.name, "");
     this.show(0);
   }
 
-  /** @param {number} width 0 for the usual one */
-  show(width) {
+  /** @param {number} size 0 for the usual one */
+  show(size) {
     const { style } = document.documentElement;
-    if (width > 0) style.setProperty("--side-width", `${width}px`);
-    else style.removeProperty("--side-width");
-    this.node.setAttribute("aria-valuenow", String(width || Math.round(this.width) || LEAST));
+    if (size > 0) style.setProperty(this.border.property, `${size}px`);
+    else style.removeProperty(this.border.property);
+    this.tell();
+  }
+
+  tell() {
+    this.node.setAttribute("aria-valuenow", String(Math.round(this.size) || this.border.least));
   }
 
   /** @param {KeyboardEvent} event */
   typed(event) {
-    /** @type {Record<string, number>} */
-    const moves = { ArrowLeft: MOVE, ArrowRight: -MOVE };
+    const moves = KEYS[this.border.side];
     if (event.key === "Home" || event.key === "Escape") this.reset();
-    else if (event.key in moves) this.set(this.width + moves[event.key]);
+    else if (event.key in moves) this.set(this.size + moves[event.key]);
     else return;
     event.preventDefault();
   }

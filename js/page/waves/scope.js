@@ -1,11 +1,12 @@
 // The logic analyser: records the lines of the board over time, shows them, and saves them as a VCD file.
 
-import { Cell, block, button, byId, field, onClick } from "../ui/dom.js";
+import { Cell, below, block, button, byId, field, onClick } from "../ui/dom.js";
 import { download } from "../session/download.js";
 import { LiveWaves } from "../../core/waves/live_waves.js";
 import { lineNamed, namedInEdge } from "../../core/waves/trigger.js";
 import { vcdParts } from "../../core/waves/vcd.js";
 import { WaveChoice } from "./wave_choice.js";
+import { pngOf, svgOf } from "./wave_pictures.js";
 import { find, readSearch } from "../../core/waves/wave_search.js";
 import { WaveView } from "./wave_view.js";
 import { MOST_CYCLES, grouped, readCycles, recordedText } from "../../core/waves/wave_words.js";
@@ -22,15 +23,36 @@ import * as say from "../../words/waves.js";
  *
  * What it calls: records so many cycles, from here on or up to here, and values by their names (null where it failed, which is told);
  * records from here on whatever is done (null where that failed), and ends that; all that can be recorded of the board; the name of the
- * session; shows an address in the program; whether it records is told at its tab.
+ * session; shows an address in the program; whether it records is told at its tab; how rows are arranged is kept.
  * @typedef {{ record: (cycles: number, isBefore: boolean, values: string[]) => Promise<Recorded | null>,
  *   begin: (wanted: { trigger: string } & LiveWanted, values: string[]) => Promise<{ recorded: Recorded | null, fault: string } | null>,
  *   end: () => Promise<LivePart | null>, offered: () => WaveLine[], name: () => string, goTo: (address: number) => void,
- *   isOn: (isOn: boolean) => void }} ScopeCalls
+ *   isOn: (isOn: boolean) => void, keep: (rows: import("../../core/waves/wave_rows.js").KeptRows) => void }} ScopeCalls
  */
 
 /** A picture that goes on is drawn once in so many milliseconds. */
 const PICTURE_TIME = 100;
+
+/** Of what opens below the row of controls one is open; it is closed by Escape, and by a press elsewhere. */
+function listenToPops() {
+  const pops = [.../** @type {NodeListOf<HTMLDetailsElement>} */ (block("wave-bar").querySelectorAll(".pop"))];
+  const closeBut = (/** @type {EventTarget | null} */ target) => {
+    for (const pop of pops) if (pop.open && !(target instanceof Node && pop.contains(target))) pop.open = false;
+  };
+  addEventListener("pointerdown", ({ target }) => closeBut(target), true);
+  const files = byId("wave-files", HTMLDetailsElement);
+  files.addEventListener("click", ({ target }) => {
+    if (target instanceof HTMLButtonElement) files.open = false;
+  });
+  for (const pop of pops) {
+    pop.addEventListener("toggle", () => pop.open && closeBut(pop));
+    pop.addEventListener("keydown", (event) => {
+      if (event.key !== "Escape") return;
+      pop.open = false;
+      below(pop, "summary", HTMLElement).focus();
+    });
+  }
+}
 
 export class Scope {
   /** @param {ScopeCalls} calls */
@@ -41,7 +63,9 @@ export class Scope {
     this.found = new Cell(block("wave-search-told"));
     this.recordWord = new Cell(button("record"));
     this.recordWord.set(say.RECORD);
-    this.view = new WaveView(calls.goTo);
+    /** @type {WaveView} */
+    this.view = new WaveView({ goTo: calls.goTo, hide: (name) => this.choice.tick(name, false), keep: calls.keep });
+    /** @type {WaveChoice} */
     this.choice = new WaveChoice({
       offered: calls.offered, choose: (chosen) => this.view.choose(chosen), wants: () => this.wantOthers(),
     });
@@ -57,6 +81,9 @@ export class Scope {
   listen() {
     onClick(button("record"), () => this.record());
     onClick(button("save-waves"), () => this.save());
+    onClick(button("save-png"), () => this.savePng());
+    onClick(button("save-svg"), () => this.saveSvg());
+    listenToPops();
     for (const id of ["record-cycles", "trigger", "behind"]) {
       field(id).addEventListener("keydown", (event) => {
         if (event.key === "Enter") this.record();
@@ -91,7 +118,10 @@ export class Scope {
     const input = field(id);
     const cycles = input.value.trim() === "0" && least === 0 ? 0 : readCycles(input.value) || -1;
     input.setAttribute("aria-invalid", String(cycles < 0));
-    if (cycles < 0) this.told.set(say.howManyCycles(least, MOST_CYCLES.toLocaleString("en")));
+    if (cycles < 0) {
+      this.told.set(say.howManyCycles(least, MOST_CYCLES.toLocaleString("en")));
+      byId("wave-settings", HTMLDetailsElement).open = true;
+    }
     return cycles;
   }
 
@@ -123,8 +153,7 @@ export class Scope {
 
   /** @param {Waves} waves */
   show(waves) {
-    block("waves").hidden = false;
-    button("save-waves").disabled = false;
+    block("waves").hidden = block("wave-tools").hidden = false;
     this.view.begin(waves);
     this.choice.begin(waves);
   }
@@ -209,11 +238,20 @@ export class Scope {
     if (this.live !== live) return;
     this.view.grow(live.triggered);
     if (live.over === "trigger") this.view.showAround(live.triggered);
+    else if (!live.isOn) this.view.fit();
     this.choice.grown();
     this.tellLive(live);
     const { over } = live;
     // Who runs a new program waits for the same again.
     if (over === "board" || over === "program") this.begin();
+  }
+
+  /** Time stands still: what was recorded so far is seen as a whole. */
+  stands() {
+    const { live } = this;
+    if (!live || !live.isOn) return;
+    this.drawLive(live);
+    if (live.triggered < 0) this.view.fit();
   }
 
   /** @param {LiveWaves} live */
@@ -253,17 +291,31 @@ export class Scope {
     this.count.set("");
     this.recordWord.set(say.RECORD);
     this.calls.isOn(false);
-    block("waves").hidden = true;
-    button("save-waves").disabled = true;
+    block("waves").hidden = block("wave-tools").hidden = true;
+  }
+
+  /**
+   * The recording, of which a row is shown; null if there is none, which is told.
+   * @returns {Waves | null}
+   */
+  get saved() {
+    const { waves, lines } = this.view;
+    if (waves && lines.length === 0) this.told.set(say.NO_LINE_CHOSEN);
+    return lines.length === 0 ? null : waves;
   }
 
   save() {
-    const { waves, rows } = this.view;
-    if (!waves) return;
-    if (rows.length === 0) {
-      this.told.set(say.NO_LINE_CHOSEN);
-      return;
-    }
-    download(this.calls.name(), ".vcd", new Blob([...vcdParts(waves, rows)], { type: "text/plain" }));
+    const { saved } = this;
+    if (saved) download(this.calls.name(), ".vcd", new Blob([...vcdParts(saved, this.view.lines)], { type: "text/plain" }));
+  }
+
+  savePng() {
+    const { saved } = this;
+    if (saved) pngOf(this.view.picture(saved), (blob) => download(this.calls.name(), ".png", blob));
+  }
+
+  saveSvg() {
+    const { saved } = this;
+    if (saved) download(this.calls.name(), ".svg", new Blob([svgOf(this.view.picture(saved))], { type: "image/svg+xml" }));
   }
 }

@@ -1,4 +1,4 @@
-// Draws waves on a canvas.
+// Draws waves on a canvas, or on a picture that is saved.
 
 import { countUpTo } from "../../core/waves/growing.js";
 import { isText } from "../../core/waves/wave_lines.js";
@@ -7,10 +7,15 @@ import { ticksOf } from "../../core/waves/wave_window.js";
 /**
  * @typedef {import("../../core/waves/waves.js").Waves} Waves
  * @typedef {import("../../core/waves/wave_window.js").WaveWindow} WaveWindow
- * @typedef {{ ink: string, faint: string, grid: string, sheet: string, chosen: string, first: string, second: string }} Colours
- * @typedef {{ waves: Waves, rows: number[], selected: number, view: WaveWindow, top: number, gutter: number, height: number,
- *   trigger: number, colours: Colours, font: string }} Picture what is drawn: `rows` are lines, `top` is how many pixels of them are
- *   scrolled away above, `trigger` the moment of the trigger, -1 for none
+ * @typedef {import("../../core/waves/wave_rows.js").WaveRow} WaveRow
+ * @typedef {import("../../core/waves/wave_rows.js").RowColour} RowColour
+ * @typedef {CanvasRenderingContext2D | import("../../core/waves/svg_context.js").SvgContext} Context
+ * @typedef {{ ink: string, faint: string, grid: string, sheet: string, chosen: string, first: string, second: string, measured: string }
+ *   & Record<RowColour, string>} Colours
+ * @typedef {{ row: number, from: number, to: number }} Stretch of a row, by two moments
+ * @typedef {{ waves: Waves, rows: WaveRow[], selected: number, view: WaveWindow, top: number, gutter: number, height: number,
+ *   trigger: number, measured: Stretch | null, colours: Colours, font: string }} Picture what is drawn: `top` is how many pixels of the
+ *   rows are scrolled away above, `trigger` the moment of the trigger, -1 for none, `measured` what the pointer is on
  */
 
 /** The height of the moments above, and of a line. */
@@ -20,11 +25,13 @@ export const ROW = 26;
 const TICK_ROOM = 92;
 /** The width of a cursor's letter. */
 const FLAG = 14;
+/** The names of a group's rows begin here. */
+const INDENT = 14;
 /** From a line's edge to its high level. */
 const MARGIN = 5;
 
 /**
- * @param {CanvasRenderingContext2D} context
+ * @param {Context} context
  * @param {Picture} picture
  */
 export function drawWaves(context, picture) {
@@ -50,7 +57,7 @@ export function drawWaves(context, picture) {
 
 /**
  * Draws inside a rectangle alone.
- * @param {CanvasRenderingContext2D} context
+ * @param {Context} context
  * @param {[number, number, number, number]} box
  * @param {() => void} draw
  */
@@ -64,7 +71,7 @@ function clipped(context, box, draw) {
 }
 
 /**
- * @param {CanvasRenderingContext2D} context
+ * @param {Context} context
  * @param {Picture} picture
  */
 function drawTicks(context, { view, gutter, height, colours }) {
@@ -84,7 +91,7 @@ function drawTicks(context, { view, gutter, height, colours }) {
 }
 
 /**
- * @param {CanvasRenderingContext2D} context
+ * @param {Context} context
  * @param {number[]} points x and y in turn
  */
 function strokeLine(context, ...points) {
@@ -94,14 +101,14 @@ function strokeLine(context, ...points) {
 }
 
 /**
- * @param {CanvasRenderingContext2D} context
+ * @param {Context} context
  * @param {Picture} picture
  * @param {number} row
  * @param {number} y
  */
 function drawRow(context, picture, row, y) {
-  const { waves, rows, selected, view, gutter, colours } = picture;
-  const line = rows[row];
+  const { waves, rows, selected, view, gutter, colours, measured } = picture;
+  const { line, title, colour, group, isFolded } = rows[row];
   if (row === selected) {
     context.fillStyle = colours.chosen;
     context.fillRect(0, y, gutter + view.width, ROW);
@@ -109,17 +116,38 @@ function drawRow(context, picture, row, y) {
   context.strokeStyle = colours.grid;
   strokeLine(context, 0, y + ROW - 0.5, gutter + view.width, y + ROW - 0.5);
   context.fillStyle = colours.ink;
-  const name = `${row === selected ? "\u25B8" : ""}${nameInGutter(waves.lines[line])}`;
+  if (line < 0) {
+    context.fillText(`${isFolded ? "\u25B8" : "\u25BE"} ${title}`, 4, y + ROW / 2);
+    return;
+  }
+  const name = `${row === selected ? "\u25B8" : ""}${title || nameInGutter(waves.lines[line])}`;
   const value = valueInGutter(picture, line);
   const room = Math.min(88, context.measureText(value).width);
-  clipped(context, [0, y, gutter - 14 - room, ROW], () => context.fillText(name, 4, y + ROW / 2));
+  const ink = colour === "" ? colours.ink : colours[colour];
+  context.fillStyle = ink;
+  clipped(context, [0, y, gutter - 14 - room, ROW], () => context.fillText(name, group === "" ? 4 : INDENT, y + ROW / 2));
   context.textAlign = "right";
   clipped(context, [gutter - 92, y, 88, ROW], () => context.fillText(value, gutter - 6, y + ROW / 2));
   context.textAlign = "left";
   clipped(context, [gutter, y, view.width, ROW], () => {
+    context.strokeStyle = context.fillStyle = ink;
     if (isText(waves.lines[line])) drawTexts(context, picture, line, y);
     else drawLevels(context, picture, line, y);
+    if (measured && measured.row === row) drawMeasured(context, picture, measured, y);
   });
+}
+
+/**
+ * What is measured of a row, underlined.
+ * @param {Context} context
+ * @param {Picture} picture
+ * @param {Stretch} measured
+ * @param {number} y
+ */
+function drawMeasured(context, { view, gutter, colours }, { from, to }, y) {
+  const [begin, end] = [from, to].map((moment) => Math.min(Math.max(view.xOf(moment), -2), view.width + 2));
+  context.fillStyle = colours.measured;
+  context.fillRect(gutter + begin, y + ROW - 4, Math.max(1, end - begin), 3);
 }
 
 /**
@@ -141,18 +169,17 @@ function valueInGutter({ waves, view }, line) {
 
 /**
  * One bit: high and low levels, and a block where edges are closer than pixels.
- * @param {CanvasRenderingContext2D} context
+ * @param {Context} context
  * @param {Picture} picture
  * @param {number} line
  * @param {number} y
  */
-function drawLevels(context, { waves, view, gutter, colours }, line, y) {
+function drawLevels(context, { waves, view, gutter }, line, y) {
   const changes = waves.changesOf(line);
   const [high, low] = [y + MARGIN + 0.5, y + ROW - MARGIN - 0.5];
   const end = Math.min(view.width, view.xOf(waves.cycles));
   let level = waves.numberAt(line, Math.floor(view.from));
   let seen = countUpTo(changes, Math.floor(view.from));
-  context.strokeStyle = context.fillStyle = colours.ink;
   context.lineWidth = 1.5;
   context.beginPath();
   context.moveTo(gutter, level ? high : low);
@@ -180,18 +207,17 @@ function drawLevels(context, { waves, view, gutter, colours }, line, y) {
 
 /**
  * The counter or the label: a box for each value, with the value in it where it has room.
- * @param {CanvasRenderingContext2D} context
+ * @param {Context} context
  * @param {Picture} picture
  * @param {number} line
  * @param {number} y
  */
-function drawTexts(context, { waves, view, gutter, colours }, line, y) {
+function drawTexts(context, { waves, view, gutter }, line, y) {
   const changes = waves.changesOf(line);
   const [high, low] = [y + MARGIN + 0.5, y + ROW - MARGIN - 0.5];
   const end = Math.min(view.width, view.xOf(waves.cycles));
   let from = 0;
   let seen = countUpTo(changes, Math.floor(view.from));
-  context.strokeStyle = context.fillStyle = colours.ink;
   strokeLine(context, gutter, high, gutter + end, high);
   strokeLine(context, gutter, low, gutter + end, low);
   while (from < end) {
@@ -206,7 +232,7 @@ function drawTexts(context, { waves, view, gutter, colours }, line, y) {
 }
 
 /**
- * @param {CanvasRenderingContext2D} context
+ * @param {Context} context
  * @param {string} value
  * @param {number} from
  * @param {number} to
@@ -219,7 +245,7 @@ function drawValue(context, value, from, to, y) {
 }
 
 /**
- * @param {CanvasRenderingContext2D} context
+ * @param {Context} context
  * @param {Picture} picture
  * @param {number} at 0 for A, 1 for B
  * @param {string} colour
@@ -233,24 +259,32 @@ function drawCursor(context, picture, at, colour) {
 }
 
 /**
+ * Returns where the flag of a mark begins: the mark is in its middle, but the flag does not cross the right edge.
+ * @param {number} x of the mark
+ * @param {number} right the edge
+ */
+export function flagAt(x, right) {
+  return Math.min(x - FLAG / 2, right - FLAG);
+}
+
+/**
  * A moment that is marked, by a line with a letter on a flag.
- * @param {CanvasRenderingContext2D} context
+ * @param {Context} context
  * @param {Picture} picture
  * @param {{ moment: number, letter: string, y: number, colour: string, dash: number[] }} mark
  */
-function drawMark(context, { view, gutter, height }, { moment, letter, y, colour, dash }) {
+function drawMark(context, { view, gutter, height, colours }, { moment, letter, y, colour, dash }) {
   const x = Math.round(gutter + view.xOf(moment)) + 0.5;
-  if (x < gutter) return;
+  if (x < gutter || view.xOf(moment) > view.width) return;
   context.strokeStyle = context.fillStyle = colour;
   context.setLineDash(dash);
   strokeLine(context, x, 0, x, height);
   context.setLineDash([]);
   context.lineWidth = 1;
   context.textAlign = "center";
-  context.fillRect(x - FLAG / 2, y, FLAG, 12);
-  context.save();
-  context.globalCompositeOperation = "destination-out";
-  context.fillText(letter, x, y + 6.5);
-  context.restore();
+  const flag = flagAt(x, gutter + view.width);
+  context.fillRect(flag, y, FLAG, 12);
+  context.fillStyle = colours.sheet;
+  context.fillText(letter, flag + FLAG / 2, y + 6.5);
   context.textAlign = "left";
 }

@@ -1,4 +1,5 @@
-// Fingers, mouse and wheel on the waves: a click puts the cursor, a drag moves the part that is seen, two fingers zoom.
+// Fingers, mouse and wheel on the waves: a click puts the cursor, a drag moves the part that is seen, or a row by its name, two fingers and
+// the wheel zoom.
 
 /**
  * @typedef {{ x: number, y: number }} Point
@@ -6,6 +7,9 @@
  * @property {(point: Point, isOther: boolean) => void} click puts the cursor; with Shift the other one
  * @property {(point: Point) => boolean} holdsCursor whether a drag from there moves the cursor
  * @property {(point: Point) => void} drag moves the cursor
+ * @property {(point: Point) => boolean} isName whether names of rows are there
+ * @property {(from: Point, to: Point) => void} dragRow moves a row by its name
+ * @property {(point: Point | null) => void} hover the pointer is there, and nothing is pressed; null: it is gone
  * @property {(pixels: number) => void} pan
  * @property {(factor: number, x: number) => void} zoom
  */
@@ -28,6 +32,8 @@ export class WavePointers {
     this.begun = { x: 0, y: 0 };
     this.hasMoved = false;
     this.holdsCursor = false;
+    this.holdsRow = false;
+    node.addEventListener("pointerleave", () => calls.hover(null));
     node.addEventListener("pointerdown", (event) => this.begin(event));
     node.addEventListener("pointermove", (event) => this.move(event));
     node.addEventListener("pointerup", (event) => this.end(event));
@@ -53,17 +59,23 @@ export class WavePointers {
     this.hasMoved = this.down.size > 1;
     this.begun = point;
     this.holdsCursor = this.down.size === 1 && this.calls.holdsCursor(point);
+    this.holdsRow = this.down.size === 1 && this.calls.isName(point);
+    this.calls.hover(null);
   }
 
   /** @param {PointerEvent} event */
   move(event) {
     const before = this.down.get(event.pointerId);
-    if (!before) return;
     const point = this.pointOf(event);
+    if (!before) {
+      if (event.pointerType === "mouse") this.calls.hover(point);
+      return;
+    }
     if (Math.abs(point.x - this.begun.x) + Math.abs(point.y - this.begun.y) > STILL) this.hasMoved = true;
     if (!this.hasMoved) return;
     if (this.down.size === 2) this.pinch(event.pointerId, before, point);
     else if (this.holdsCursor) this.calls.drag(point);
+    else if (this.holdsRow) this.calls.dragRow(before, point);
     else this.calls.pan(before.x - point.x);
     this.down.set(event.pointerId, point);
   }
@@ -87,12 +99,17 @@ export class WavePointers {
     if (!this.hasMoved) this.calls.click(this.pointOf(event), event.shiftKey);
   }
 
-  /** @param {WheelEvent} event */
+  /**
+   * The wheel zooms at the pointer, pans if it is turned sideways or with Shift, and scrolls the rows at their names.
+   * @param {WheelEvent} event
+   */
   turn(event) {
-    const pans = event.shiftKey ? event.deltaY || event.deltaX : event.deltaX;
-    if (event.ctrlKey || event.metaKey) this.calls.zoom(event.deltaY < 0 ? WHEEL : 1 / WHEEL, this.pointOf(event).x);
-    else if (pans !== 0) this.calls.pan(pans);
-    else return;
+    const { deltaX, deltaY, shiftKey, ctrlKey, metaKey } = event;
+    const point = this.pointOf(event);
+    const isSideways = shiftKey || Math.abs(deltaX) > Math.abs(deltaY);
+    if (!ctrlKey && !metaKey && !isSideways && this.calls.isName(point)) return;
     event.preventDefault();
+    if (isSideways) this.calls.pan(deltaX || deltaY);
+    else if (deltaY !== 0) this.calls.zoom(deltaY < 0 ? WHEEL : 1 / WHEEL, point.x);
   }
 }

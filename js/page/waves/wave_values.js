@@ -17,12 +17,12 @@ export class WaveValues {
 
   /**
    * @param {Waves} waves
-   * @param {number[]} rows
+   * @param {import("../../core/waves/wave_rows.js").WaveRow[]} rows
    */
   draw({ lines }, rows) {
-    this.rows = rows;
+    this.rows = rows.map(({ line }) => line);
     this.cells = rows.map(() => [new Cell(element("td")), new Cell(element("td"))]);
-    const made = rows.map((line, at) => element("tr", {}, element("th", { scope: "row" }, lines[line].name),
+    const made = rows.map(({ line, title }, at) => element("tr", {}, element("th", { scope: "row" }, title || lines[line].name),
       ...this.cells[at].map((cell) => cell.node)));
     block("wave-table").replaceChildren(...made);
   }

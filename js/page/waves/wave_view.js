@@ -2,16 +2,27 @@
 
 import { Cell, block, button, byId, field, onClick, pressedSwitch } from "../ui/dom.js";
 import { AXIS, ROW, drawWaves } from "./wave_canvas.js";
+import { measureAt, measureText } from "../../core/waves/measuring.js";
+import { RowMenu } from "./row_menu.js";
 import { WavePointers } from "./wave_pointers.js";
+import { ROW_COLOURS, WaveRows } from "../../core/waves/wave_rows.js";
 import { WaveValues } from "./wave_values.js";
 import { WaveWindow } from "../../core/waves/wave_window.js";
 import { betweenText, cursorText, spokenText } from "../../core/waves/wave_words.js";
+import * as say from "../../words/waves.js";
 
 /**
  * @typedef {import("./wave_canvas.js").Colours} Colours
+ * @typedef {import("./wave_canvas.js").Picture} Picture
  * @typedef {import("./wave_pointers.js").Point} Point
+ * @typedef {import("../../core/waves/wave_rows.js").KeptRows} KeptRows
+ * @typedef {import("../../core/waves/wave_rows.js").RowColour} RowColour
+ * @typedef {import("../../core/waves/wave_rows.js").WaveRow} WaveRow
  * @typedef {import("../../core/waves/wave_words.js").Base} Base
  * @typedef {import("../../core/waves/waves.js").Waves} Waves
+ *
+ * What it calls: shows an address in the program; a line is not to be shown; how the rows are arranged is kept.
+ * @typedef {{ goTo: (address: number) => void, hide: (name: string) => void, keep: (rows: KeptRows) => void }} WaveViewCalls
  */
 
 /** How much a button or a key zooms. */
@@ -26,20 +37,33 @@ const MOST_ROWS = 20;
 /** What colours are called in the style sheet. */
 const COLOURS = {
   ink: "--wave-ink", faint: "--wave-faint", grid: "--wave-grid", sheet: "--wave-sheet", chosen: "--wave-chosen", first: "--wave-first",
-  second: "--wave-second",
+  second: "--wave-second", measured: "--wave-measured",
+  ...Object.fromEntries(ROW_COLOURS.map((colour) => [colour, `--wave-${colour}`])),
 };
+/** From the pointer to what is measured there. */
+const NEAR = 12;
 
 export class WaveView {
-  /** @param {(address: number) => void} goTo shows an address in the program */
-  constructor(goTo) {
-    this.goTo = goTo;
+  /** @param {WaveViewCalls} calls */
+  constructor(calls) {
+    this.calls = calls;
     this.canvas = byId("wave-canvas", HTMLCanvasElement);
     this.scroll = block("wave-scroll");
     this.room = block("wave-room");
     /** @type {Waves | null} */
     this.waves = null;
-    /** @type {number[]} the lines that are shown */
+    /** @type {number[]} the lines that are shown, in the order of the board */
+    this.chosen = [];
+    this.arrangement = new WaveRows();
+    /** @type {WaveRow[]} */
     this.rows = [];
+    /** @type {WaveRow | null} the row that is dragged by its name */
+    this.dragged = null;
+    /** @type {Point | null} where the pointer is, if nothing is pressed */
+    this.pointer = null;
+    this.measure = block("wave-measure");
+    this.measured = new Cell(this.measure);
+    this.menu = new RowMenu(this);
     /** The row that edges are looked for in, -1 for none. */
     this.selected = -1;
     this.view = new WaveWindow(0);
@@ -58,6 +82,7 @@ export class WaveView {
   listen() {
     this.canvas.addEventListener("keydown", (event) => this.type(event));
     this.canvas.addEventListener("focus", () => this.ask());
+    this.canvas.addEventListener("contextmenu", (event) => this.openMenu(event));
     this.scroll.addEventListener("scroll", () => this.ask());
     new ResizeObserver(() => this.ask()).observe(this.scroll);
     for (const query of ["(prefers-color-scheme: dark)", "(forced-colors: active)"]) {
@@ -67,15 +92,18 @@ export class WaveView {
       click: (point, isOther) => this.click(point, isOther),
       holdsCursor: ({ x, y }) => y < AXIS && x >= this.gutter,
       drag: ({ x }) => this.move(this.view.cyclesAt(x - this.gutter)),
-      pan: (pixels) => this.change(() => this.view.goTo(this.view.from + (pixels / this.view.width) * this.view.span)),
-      zoom: (factor, x) => this.change(() => this.view.zoom(factor, this.view.cyclesAt(x - this.gutter))),
+      isName: ({ x, y }) => y >= AXIS && x < this.gutter,
+      dragRow: (from, to) => this.dragRow(from, to),
+      hover: (point) => this.hover(point),
+      pan: (pixels) => this.see(() => this.view.goTo(this.view.from + (pixels / this.view.width) * this.view.span)),
+      zoom: (factor, x) => this.see(() => this.view.zoom(factor, this.view.cyclesAt(x - this.gutter))),
     });
   }
 
   listenToButtons() {
     onClick(button("zoom-in"), () => this.zoom(ZOOM));
     onClick(button("zoom-out"), () => this.zoom(1 / ZOOM));
-    onClick(button("zoom-all"), () => this.change(() => this.view.showAll()));
+    onClick(button("zoom-all"), () => this.see(() => this.view.showAll()));
     onClick(button("edge-before"), () => this.toEdge(false));
     onClick(button("edge-after"), () => this.toEdge(true));
     onClick(button("wave-go-to"), () => this.showInstruction());
@@ -89,7 +117,20 @@ export class WaveView {
 
   /** The line of the selected row, -1 for none. */
   get line() {
-    return this.selected < 0 ? -1 : this.rows[this.selected];
+    return this.selected < 0 ? -1 : this.rows[this.selected].line;
+  }
+
+  /** The names of the lines that are shown, in the order of their rows. */
+  get names() {
+    const { waves, arrangement, chosen } = this;
+    return waves ? arrangement.ordered(chosen.map((line) => waves.lines[line].name)) : [];
+  }
+
+  /** The lines that are shown, in the order of their rows. */
+  get lines() {
+    const { waves, names, chosen } = this;
+    const numbers = new Map(waves ? chosen.map((line) => [waves.lines[line].name, line]) : []);
+    return names.map((name) => numbers.get(name) || 0);
   }
 
   /** @param {Waves} waves another recording */
@@ -111,9 +152,18 @@ export class WaveView {
     this.ask();
   }
 
+  /** The recording stands still: all of it is seen, with the cursors at the first two edges of the first row that has some. */
+  fit() {
+    const { waves, view, rows } = this;
+    const row = rows.find(({ line }) => waves !== null && line >= 0 && waves.changesOf(line).length > 0);
+    const edges = [...(waves && row ? waves.changesOf(row.line).slice(0, 2) : []), view.begin, view.begin];
+    view.placeCursors(edges[0], edges[1]);
+    this.see(() => view.fit());
+  }
+
   /** @param {number} moment is seen, with what is around it */
   showAround(moment) {
-    this.change(() => this.view.showAround(moment));
+    this.see(() => this.view.showAround(moment));
   }
 
   /** @param {Base} base how numbers are written */
@@ -123,33 +173,151 @@ export class WaveView {
     this.ask();
   }
 
-  /** @param {number[]} rows the lines that are shown */
-  choose(rows) {
-    const { line } = this;
-    this.rows = rows;
-    this.selected = Math.max(rows.indexOf(line), rows.length > 0 ? 0 : -1);
-    this.room.style.setProperty("height", `${AXIS + rows.length * ROW}px`);
-    this.scroll.style.setProperty("height", `${AXIS + Math.max(1, Math.min(MOST_ROWS, rows.length)) * ROW}px`);
-    if (this.waves) this.values.draw(this.waves, rows);
+  /** @param {number[]} lines that are shown, in the order of the board */
+  choose(lines) {
+    this.chosen = lines;
+    this.arrange(this.rows[this.selected]);
+  }
+
+  /**
+   * The rows are others, or elsewhere.
+   * @param {WaveRow | undefined} marked the row that is marked
+   */
+  arrange(marked) {
+    const { waves } = this;
+    this.rows = waves ? this.arrangement.arrange(waves.lines, this.chosen) : [];
+    const { length } = this.rows;
+    this.selected = Math.max(marked ? this.rowOf(marked) : -1, length > 0 ? 0 : -1);
+    this.room.style.setProperty("height", `${AXIS + length * ROW}px`);
+    this.scroll.style.setProperty("height", `${AXIS + Math.max(1, Math.min(MOST_ROWS, length)) * ROW}px`);
+    if (waves) this.values.draw(waves, this.rows.filter(({ line }) => line >= 0));
     this.ask();
+  }
+
+  /** @param {WaveRow} row of before */
+  rowOf({ line, group }) {
+    return this.rows.findIndex((each) => each.line === line && (line >= 0 || each.group === group));
+  }
+
+  /** @param {Point} point */
+  rowAt({ y }) {
+    return y < AXIS ? -1 : Math.floor((y - AXIS + this.scroll.scrollTop) / ROW);
+  }
+
+  // --- how rows are arranged ---
+
+  /** @param {KeptRows | undefined} kept of a session */
+  open(kept) {
+    this.arrangement = new WaveRows(kept);
+    this.arrange(undefined);
+  }
+
+  /**
+   * Something of the rows becomes other, and is kept.
+   * @param {() => void} act
+   */
+  rearrange(act) {
+    const marked = this.rows[this.selected];
+    act();
+    this.arrange(marked);
+    this.calls.keep(this.arrangement.kept);
+  }
+
+  /**
+   * @param {number} at
+   * @param {number} to
+   */
+  moveRow(at, to) {
+    const { names, rows } = this;
+    if (!rows[at] || !rows[to]) return;
+    this.select(at);
+    this.rearrange(() => this.arrangement.move(rows, names, at, to));
+    this.select(this.selected);
+  }
+
+  /**
+   * @param {Point} from
+   * @param {Point} to
+   */
+  dragRow(from, to) {
+    this.dragged = this.dragged || this.rows[this.rowAt(from)] || null;
+    const at = this.dragged ? this.rowOf(this.dragged) : -1;
+    if (at >= 0 && this.rowAt(to) !== at) this.moveRow(at, this.rowAt(to));
+  }
+
+  /**
+   * Lines get another look.
+   * @param {string[]} names
+   * @param {import("../../core/waves/wave_rows.js").RowLook} look
+   */
+  change(names, look) {
+    this.rearrange(() => names.forEach((name) => this.arrangement.change(name, look)));
+  }
+
+  /** @param {string} group folds or unfolds */
+  fold(group) {
+    this.rearrange(() => this.arrangement.fold(group));
+  }
+
+  /** @param {MouseEvent} event the menu of the row there is wanted, of the marked one if there is none there, as by a key */
+  openMenu(event) {
+    event.preventDefault();
+    const { left, top } = this.canvas.getBoundingClientRect();
+    const at = this.rowAt({ x: event.clientX - left, y: event.clientY - top });
+    const isPointed = event.button === 2 || event.ctrlKey || (event instanceof PointerEvent && event.pointerType === "touch");
+    if (this.rows[at] && isPointed) this.select(at);
+    const row = this.rows[this.selected];
+    const y = top + AXIS + this.selected * ROW - this.scroll.scrollTop;
+    if (row) this.menu.open(row, { left: Math.max(left, event.clientX), bottom: event.clientY > top ? event.clientY : y });
+  }
+
+  // --- what is measured ---
+
+  /** @param {Point | null} point where the pointer is; null if it presses, or is gone */
+  hover(point) {
+    this.pointer = point;
+    if (!point) this.dragged = null;
+    this.ask();
+  }
+
+  /**
+   * What the pointer is on: told beside it, and underlined in the picture.
+   * @param {Waves} waves
+   * @returns {import("./wave_canvas.js").Stretch | null}
+   */
+  tellMeasure(waves) {
+    const { pointer, gutter, view } = this;
+    const row = pointer ? this.rowAt(pointer) : -1;
+    const { line = -1 } = this.rows[row] || {};
+    const isOn = pointer !== null && pointer.x >= gutter && line >= 0;
+    if (this.measure.hidden === isOn) this.measure.hidden = !isOn;
+    if (!pointer || !isOn) return null;
+    const moment = Math.min(Math.max(Math.floor(view.cyclesAt(pointer.x - gutter)), waves.from), waves.cycles);
+    const measure = measureAt(waves, line, moment);
+    this.measured.set(measureText(waves.valueAt(line, moment), measure));
+    const { offsetWidth, style } = this.measure;
+    const box = this.canvas.getBoundingClientRect();
+    style.setProperty("left", `${Math.max(0, Math.min(box.left + pointer.x + NEAR, box.right - offsetWidth))}px`);
+    style.setProperty("top", `${box.top + pointer.y + NEAR}px`);
+    return { row, from: measure.from, to: measure.to };
   }
 
   // --- what is done by hand ---
 
   /** @param {() => void} act changes what is seen */
-  change(act) {
+  see(act) {
     act();
     this.ask();
   }
 
   /** @param {number} moment */
   move(moment) {
-    this.change(() => this.view.move(moment));
+    this.see(() => this.view.move(moment));
   }
 
   /** @param {number} cursor 0 for A, 1 for B */
   activate(cursor) {
-    this.change(() => {
+    this.see(() => {
       this.view.active = cursor;
       this.view.move(this.view.moment);
     });
@@ -159,7 +327,7 @@ export class WaveView {
   zoom(factor) {
     const { view } = this;
     const isSeen = view.moment >= view.from && view.moment <= view.to;
-    this.change(() => view.zoom(factor, isSeen ? view.moment : view.from + view.span / 2));
+    this.see(() => view.zoom(factor, isSeen ? view.moment : view.from + view.span / 2));
   }
 
   /** @param {boolean} isForward */
@@ -172,12 +340,19 @@ export class WaveView {
 
   /** Shows the instruction at the active cursor in the program. */
   showInstruction() {
-    if (this.waves) this.goTo(this.waves.counterAt(this.view.moment));
+    if (this.waves) this.calls.goTo(this.waves.counterAt(this.view.moment));
+  }
+
+  /** By Enter: the instruction at the cursor, or the group that is marked. */
+  enter() {
+    const row = this.rows[this.selected];
+    if (row && row.line < 0) this.fold(row.group);
+    else this.showInstruction();
   }
 
   /** @param {number} line is marked, where it is shown */
   mark(line) {
-    const row = this.rows.indexOf(line);
+    const row = this.rows.findIndex((each) => each.line === line);
     if (row >= 0) this.select(row);
   }
 
@@ -197,8 +372,9 @@ export class WaveView {
    */
   click({ x, y }, isOther) {
     if (!this.waves) return;
-    const row = Math.floor((y - AXIS + this.scroll.scrollTop) / ROW);
-    if (y >= AXIS && row < this.rows.length) this.select(row);
+    const row = this.rowAt({ x, y });
+    if (this.rows[row]) this.select(row);
+    if (this.rows[row] && this.rows[row].line < 0) this.fold(this.rows[row].group);
     if (x < this.gutter) return;
     if (isOther) this.view.active = 1 - this.view.active;
     this.move(this.view.momentAt(x - this.gutter, this.waves, y >= AXIS ? this.line : -1));
@@ -206,17 +382,23 @@ export class WaveView {
 
   /** @param {KeyboardEvent} event */
   type(event) {
-    if (event.ctrlKey || event.metaKey || event.altKey || !this.waves) return;
+    if (event.ctrlKey || event.metaKey || !this.waves) return;
     const { view } = this;
     const far = event.shiftKey ? 10 : 1;
+    const way = { ArrowUp: -1, ArrowDown: 1 }[event.key];
+    if (event.altKey && way !== undefined) {
+      event.preventDefault();
+      this.moveRow(this.selected, this.selected + way);
+    }
+    if (event.altKey) return;
     /** @type {Record<string, (() => void) | undefined>} */
     const acts = {
       ArrowLeft: () => this.move(view.moment - far), ArrowRight: () => this.move(view.moment + far),
       ArrowUp: () => this.select(this.selected - 1), ArrowDown: () => this.select(this.selected + 1),
       PageUp: () => this.move(view.moment - view.span / 2), PageDown: () => this.move(view.moment + view.span / 2),
       Home: () => this.move(view.begin), End: () => this.move(view.end),
-      "+": () => this.zoom(ZOOM), "-": () => this.zoom(1 / ZOOM), 0: () => this.change(() => view.showAll()),
-      Enter: () => this.showInstruction(),
+      "+": () => this.zoom(ZOOM), "-": () => this.zoom(1 / ZOOM), 0: () => this.see(() => view.showAll()),
+      Enter: () => this.enter(),
       "/": () => field("wave-search").focus(),
       p: () => this.toEdge(false), n: () => this.toEdge(true), a: () => this.activate(0), b: () => this.activate(1),
     };
@@ -243,7 +425,7 @@ export class WaveView {
   show() {
     const { waves, view } = this;
     if (!waves || this.scroll.clientWidth === 0) return;
-    this.draw(waves);
+    this.draw(waves, this.tellMeasure(waves));
     this.told[0].set(cursorText("A", view.cursors[0], waves));
     this.told[1].set(cursorText("B", view.cursors[1], waves));
     this.told[2].set(betweenText(view.between));
@@ -251,12 +433,16 @@ export class WaveView {
     this.canvas.setAttribute("aria-valuemin", String(view.begin));
     this.canvas.setAttribute("aria-valuemax", String(view.end));
     this.canvas.setAttribute("aria-valuenow", String(view.moment));
-    this.canvas.setAttribute("aria-valuetext", spokenText(view.moment, waves, this.line));
+    const { line = 0, title = "" } = this.rows[this.selected] || {};
+    this.canvas.setAttribute("aria-valuetext", (line < 0 ? say.groupIs(title) : "") + spokenText(view.moment, waves, this.line));
     this.values.show(waves, view.cursors);
   }
 
-  /** @param {Waves} waves */
-  draw(waves) {
+  /**
+   * @param {Waves} waves
+   * @param {Picture["measured"]} measured
+   */
+  draw(waves, measured) {
     const { scroll, canvas, gutter } = this;
     const [width, height] = [scroll.clientWidth, scroll.clientHeight];
     const ratio = devicePixelRatio || 1;
@@ -269,11 +455,21 @@ export class WaveView {
     const context = canvas.getContext("2d");
     if (!context) return;
     context.setTransform(ratio, 0, 0, ratio, 0, 0);
-    const style = getComputedStyle(canvas);
+    drawWaves(context, { ...this.picture(waves), top: scroll.scrollTop, height, measured });
+  }
+
+  /**
+   * What is drawn, all rows of it.
+   * @param {Waves} waves
+   * @returns {Picture}
+   */
+  picture(waves) {
+    const style = getComputedStyle(this.canvas);
     const colours = Object.fromEntries(Object.entries(COLOURS).map(([name, property]) => [name, style.getPropertyValue(property).trim()]));
-    drawWaves(context, {
-      waves, rows: this.rows, selected: this.selected, view: this.view, top: scroll.scrollTop, gutter, height, trigger: this.trigger,
+    const { rows, selected, view, gutter, trigger } = this;
+    return {
+      waves, rows, selected, view, top: 0, gutter, height: AXIS + rows.length * ROW, trigger, measured: null,
       colours: /** @type {Colours} */ (/** @type {unknown} */ (colours)), font: `12px ${style.fontFamily}`,
-    });
+    };
   }
 }

@@ -6,7 +6,7 @@ use crate::page::files::{
 };
 use crate::sessions::put;
 use mcs_disk::{Disk, MemDisk};
-use mcs_journal::{FILE_SIZE, OpenFault};
+use mcs_journal::{FILE_SIZE, StoreFault};
 use mcs_page::fault::ServeFault;
 use mcs_session::session::Session;
 use mcs_shell::shell::run_shell;
@@ -172,7 +172,7 @@ fn questions_leave_the_file(rt: HostRuntime) {
 }
 
 /// A file is refused by this fault, in every call, and stays as it was.
-fn expect_refused(alloc: Global, rt: &impl Abort, file: &[u8], fault: OpenFault) {
+fn expect_refused(alloc: Global, rt: &impl Abort, file: &[u8], fault: StoreFault) {
     let mut kept = copy(alloc, rt, file);
     for call in CALLS {
         let why = answers(alloc, rt, call, kept.as_mut_slice(), SECOND).err();
@@ -190,7 +190,7 @@ fn files_of_another_size(rt: HostRuntime) {
     // a byte more, a byte less, eight bytes, no byte
     for size in [FILE_SIZE + 1, FILE_SIZE - 1, 8, 0] {
         made.truncate(size);
-        expect_refused(alloc, &rt, made.as_slice(), OpenFault::NotASession);
+        expect_refused(alloc, &rt, made.as_slice(), StoreFault::NotASession);
     }
 }
 
@@ -200,7 +200,7 @@ fn files_of_one_byte_over_and_over(rt: HostRuntime) {
     // rubbish, and all bytes 0
     for byte in [0xA5, 0] {
         let file = vec![in alloc; byte; FILE_SIZE].expect(&rt, "memory");
-        expect_refused(alloc, &rt, file.as_slice(), OpenFault::NotASession);
+        expect_refused(alloc, &rt, file.as_slice(), StoreFault::NotASession);
     }
 }
 
@@ -210,11 +210,11 @@ fn files_that_hold_no_session(rt: HostRuntime) {
     let made = new_file(alloc, &rt);
     // another name, the length of the snapshot, a state of a version to come, a record that spells
     // no command
-    let changes: [(usize, &[u8], OpenFault); 4] = [
-        (7, b"2", OpenFault::NotASession),
-        (19, &[0], OpenFault::Damaged),
-        (24, &[3], OpenFault::Damaged),
-        (16_400, &[1, 0, 1, 0], OpenFault::Damaged),
+    let changes: [(usize, &[u8], StoreFault); 4] = [
+        (7, b"2", StoreFault::NotASession),
+        (19, &[0], StoreFault::Damaged),
+        (24, &[3], StoreFault::Damaged),
+        (16_400, &[1, 0, 1, 0], StoreFault::Damaged),
     ];
     for (at, bytes, fault) in changes {
         let mut changed = copy(alloc, &rt, made.as_slice());

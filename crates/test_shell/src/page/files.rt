@@ -2,7 +2,7 @@
 use crate::checks::equal;
 use crate::sessions::put;
 use mcs_fixtures::files::{NEW_BENCH, POKE};
-use mcs_journal::{FILE_SIZE, OpenFault};
+use mcs_journal::{FILE_SIZE, StoreFault};
 use mcs_page::fault::ServeFault;
 use mcs_page::page::{ServedInput, ask, begin, serve, serve_and_settle, settle};
 use mcs_shell::ends::ShellEnd;
@@ -68,7 +68,7 @@ pub(crate) fn served(
 }
 
 /// Puts a snapshot in the place of a file's records.
-pub(crate) fn settled(alloc: Global, file: &mut [u8]) -> Result<(), OpenFault> {
+pub(crate) fn settled(alloc: Global, file: &mut [u8]) -> Result<(), StoreFault> {
     settle(alloc, file)
 }
 

@@ -4,7 +4,7 @@
 use crate::checks::equal;
 use crate::page::files::{CARRIED_OVER, Call, put_version_1, served, settled};
 use crate::sessions::put;
-use mcs_journal::{FILE_SIZE, OpenFault};
+use mcs_journal::{FILE_SIZE, StoreFault};
 use mcs_page::fault::ServeFault;
 use mcs_page::page::{ServedInput, begin};
 use mcs_shell::ends::ShellEnd;
@@ -80,7 +80,7 @@ impl Desk {
     fn settle(&mut self, alloc: Global, rt: &impl Abort) -> bool {
         self.prepare(rt);
         if let Err(fault) = settled(alloc, self.file.as_mut_slice()) {
-            equal(rt, fault, OpenFault::NoMemory);
+            equal(rt, fault, StoreFault::NoMemory);
             self.expect_untouched(rt);
             equal(rt, settled(alloc, self.file.as_mut_slice()), Ok(()));
             return true;
@@ -118,7 +118,7 @@ impl Desk {
         self.prepare(rt);
         let first = self.call_once(alloc, call, input, room);
         if let Err(ServeFault::Refused(fault)) = first {
-            equal(rt, fault, OpenFault::NoMemory);
+            equal(rt, fault, StoreFault::NoMemory);
             self.expect_untouched(rt);
             let again = self.call_once(alloc, call, input, room);
             return Told {

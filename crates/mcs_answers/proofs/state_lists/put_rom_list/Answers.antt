@@ -2,7 +2,7 @@ use Rattle.std.proofs.Common.{◌≡◌, ◌++◌, ap, ◌∙◌, sym, arith}
 use Rattle.std.specs.List.{flat_map, range_with_len}
 use Rattle.mcs_model.specs.declared.limits.TheConstants.{ROMS}
 use Rattle.mcs_model.specs.QueryText.{one_word}
-use Rattle.mcs_answers.specs.PortPieces.{rom_items}
+use Rattle.mcs_model.specs.QueryText.{rom_items}
 use Rattle.mcs_answers.specs.Commas.{with_commas}
 use Rattle.mcs_answers.proofs.Growing.{pieced}
 use Rattle.mcs_answers.proofs.ListedWords.{commas-flat_map}

@@ -1,6 +1,6 @@
 use Rattle.std.proofs.Common.{◌≡◌, ◌+◌, ◌*◌, ◌++◌, ◌≤◌, length}
 use Rattle.std.specs.List.{flat_map, range_with_len}
-use Rattle.mcs_answers.specs.PortPieces.{rom_items}
+use Rattle.mcs_model.specs.QueryText.{rom_items}
 use Rattle.mcs_answers.specs.Commas.{with_commas}
 use Rattle.mcs_answers.proofs.state_lists.put_rom_list.Given as goal
 

@@ -1,10 +1,10 @@
 use Rattle.std.proofs.Common.{◌≡◌, ℕ, ◌<◌, ◌≤◌, None, length, get_or}
-use Rattle.mcs_board.specs.Fitting.{rom_after_reset}
+use Rattle.mcs_board.specs.Fitting.{port_after_reset}
 use Rattle.mcs_board.proofs.roms.clear_ports.Given as goal
 
 abbrev pub invariant-loop-i : goal.invariant-loop-i
 invariant-loop-i l = record {
   len : length l.roms.items ≡ length l.fn.roms.items;
-  done : (k : ℕ) → k < l.i → get_or l.roms.items k None ≡ rom_after_reset (get_or l.fn.roms.items k None);
+  done : (k : ℕ) → k < l.i → get_or l.roms.items k None ≡ port_after_reset (get_or l.fn.roms.items k None);
   rest : (k : ℕ) → l.i ≤ k → get_or l.roms.items k None ≡ get_or l.fn.roms.items k None;
 }

@@ -4,7 +4,7 @@ use Rattle.mcs_host.proofs.laws.each_image_may_be_found.Goals as goal
 
 -- what was told of a file, left after all of its calls, with these bytes found
 abbrev left_with : FileDisk → List ℕ → FileDisk
-left_with file c = record file { on = record file.on { end = record file.on.end { calls_by_the_end = file.on.history.calls; found = c } } }
+left_with file c = record file { on = record file.on { end = record file.on.end { notes = file.on.history.notes; start = c } } }
 
 pub returns : goal.returns
 returns g = λ file c image. (left_with file c, image, record { faults = refl; bytes = refl; start = refl; calls = refl; asked = refl; stable = refl; by_the_end = refl; found = refl })

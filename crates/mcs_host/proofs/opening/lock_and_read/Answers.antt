@@ -18,8 +18,8 @@ returns-then-found-eq0-clause-asked g c =
     c.if-make.true c.requires.named c.requires.begun c.in_ok-lock.ensures.same c.in_ok-lock.ensures.asked measured none
     c.in_ok-fill_and_read.ensures.same c.in_ok-fill_and_read.ensures.asked size (record { size = written; zeros = zeros })
 
-pub returns-in_ok-map_err-clause-asked : goal.returns-in_ok-map_err-clause-asked
-returns-in_ok-map_err-clause-asked g c =
+pub returns-in_ok-write_whole-clause-asked : goal.returns-in_ok-write_whole-clause-asked
+returns-in_ok-write_whole-clause-asked g c =
     let state = g.N.File.HostFile.state in
     let bytes = c.sync_and_read.new.bytes.items in
     let measured : state c.length.new.self ≡ asked (Length c.in_ok-found.found true) (state c.lock.new.opened) = search rules in

@@ -9,7 +9,7 @@ use Rattle.mcs_disk.specs.Disk.{part, bytes_of, size_of}
 use Rattle.mcs_journal.specs.File.{Holds, IsLog, start_of}
 use Rattle.mcs_journal.specs.Writing.{IsHeader, IsSnapshot}
 use Rattle.mcs_journal.specs.declared.slot.Slot.{Slot}
-use Rattle.mcs_journal.specs.declared.fault.OpenFault.TheVariants.{Damaged}
+use Rattle.mcs_journal.specs.declared.fault.StoreFault.TheVariants.{Damaged}
 use Rattle.mcs_journal.proofs.reading.read_contents.Goals as goal
 
 -- a header, the snapshot and the log of its slot make the contents

@@ -2,7 +2,7 @@ use Rattle.mcs_disk.proofs.CallLaws.{size_of-bytes}
 use Rattle.mcs_journal.proofs.Asked.{on_err, reads_more, reads_sum}
 use Rattle.mcs_journal.specs.Calls.{AreReads, many_reads}
 use Rattle.std.proofs.Common.{rules, ◌≡◌, ◌≢◌, ◌≤◌, ◌+◌, ◌*◌, ◌-◌, List, [], ◌∷◌, ◌++◌, ℕ, length, length-append, sym, ◌∙◌, ap, subst, arith, IsErrOf, get_or}
-use Rattle.mcs_journal.specs.declared.fault.OpenFault.TheVariants.{Damaged}
+use Rattle.mcs_journal.specs.declared.fault.StoreFault.TheVariants.{Damaged}
 use Rattle.mcs_disk.specs.Disk.{part, bytes_of}
 use Rattle.mcs_journal.specs.Writing.{IsNext, IsNoRecord}
 use Rattle.mcs_disk.proofs.Composing.{reads_as, reads_then, rests_bytes}

@@ -1,4 +1,4 @@
-use Rattle.std.proofs.Common.{subst, arith}
+use Rattle.std.proofs.Common.{subst}
 use Rattle.mcs_rom4001.specs.Roms.{IsValidRom}
 use Rattle.mcs_rom4001.proofs.Rom.show_state_is_valid.Goals as goal
 
@@ -7,6 +7,5 @@ returns c =
     subst IsValidRom c.self.view_is (record {
       length_is = c.are_bytes.ensures.count;
       bytes = c.are_bytes.ensures.range;
-      latch = omega (arith, c.get-latch.ensures.value, c.get-latch.ensures.in_range);
-      inputs = c.self.invariant;
+      port = c.show_state_is_valid.ensures;
     })

@@ -1,7 +1,7 @@
 use Rattle.std.proofs.Common.{inl, inr, ap, ◌∙◌}
 use Rattle.mcs_host.specs.Ending.{as_disk}
 use Rattle.mcs_shell.specs.Headline.{AnswersAndSurvives}
-use Rattle.mcs_shell.specs.RefusalNumbers.{open_fault_number}
+use Rattle.mcs_shell.specs.RefusalNumbers.{store_fault_number}
 use Rattle.mcs_shell.proofs.FoundAgain.{left_by_cut}
 use Rattle.mcs_shell.proofs.Surviving.{honest_of_run, survives}
 use Rattle.mcs_shell.proofs.headline.a_file_survives_power_cuts.Goals as goal
@@ -16,7 +16,7 @@ returns c = λ run given.
           ran.survives.reopened time again session.disk session.state late (left_by_cut time run.after.disk again honest found) (begun.opens found.honest);
       not_refused = λ time again number late found refused.
           elim (ran.survives.not_refused time again refused.1.fault late (left_by_cut time run.after.disk again honest found) (refused.1.refuses found.honest).0) [
-            | inl is ↦ inl (refused.1.told ∙ ap open_fault_number is)
-            | inr is ↦ inr (refused.1.told ∙ ap open_fault_number is)
+            | inl is ↦ inl (refused.1.told ∙ ap store_fault_number is)
+            | inr is ↦ inr (refused.1.told ∙ ap store_fault_number is)
           ];
     }

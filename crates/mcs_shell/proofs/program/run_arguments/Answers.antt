@@ -1,6 +1,5 @@
 use Rattle.std.proofs.Common.{◌≡◌, ◌⊎◌, ℕ, List, Option, Some, None, Result, Ok, Err, IfOk, IfSome, IfNone, IsSomeAnd, OnErr, inr, sym, ◌∙◌}
 use Rattle.std.specs.Process.{exit_status}
-use Rattle.std.specs.declared.process.ExitCode.{ExitCode}
 use Rattle.mcs_host.specs.CommandLine.{arguments_of_choice}
 use Rattle.mcs_host.specs.Ending.{as_disk}
 use Rattle.mcs_host.specs.FileDisk.{IsUncalled}
@@ -15,7 +14,7 @@ use Rattle.mcs_shell.specs.declared.ends.ShellEnd.TheVariants.{End}
 use Rattle.mcs_shell.proofs.program.run_arguments.Goals as goal
 
 -- what a choice began was served to what is handed back
-abbrev pub Serves : {E F : Type 0} → Result (SessionView FileDisk) F → Option (SessionView FileDisk) → Result ExitCode E
+abbrev pub Serves : {F : Type 0} → Result (SessionView FileDisk) F → Option (SessionView FileDisk) → ℕ
     → StreamsView → StreamsView → Type 0
 Serves begun session status streams streams' = IfOk begun (λ before. IsSomeAnd session (λ after.
     ServedSession as_disk status streams streams' before after))
@@ -24,19 +23,17 @@ not_two : (end : ShellEnd) → exit_status_of end ≡ 2 → ⊥
 not_two End e = cc e
 not_two end e = cc e
 
-usage_of : {E F : Type 0} (begun : Result (SessionView FileDisk) F) (session : Option (SessionView FileDisk)) (status : Result ExitCode E)
+usage_of : {F : Type 0} (begun : Result (SessionView FileDisk) F) (session : Option (SessionView FileDisk)) (status : ℕ)
     (streams streams' : StreamsView) (P : Type 0) → Serves begun session status streams streams'
-    → OnErr begun (IfOk status (λ code. exit_status code ≡ 3))
-    → IfOk status (λ code. exit_status code ≡ 2 → P)
-usage_of begun session (Err e) streams streams' P served refused = tt
-usage_of (Ok before) (Some after) (Ok code) streams streams' P served refused =
-    λ two. absurd (not_two served.end (sym served.status_is ∙ two))
-usage_of (Ok before) None (Ok code) streams streams' P served refused = absurd served
-usage_of (Err refusal) session (Ok code) streams streams' P served refused =
-    λ two. let e : 3 ≡ 2 = sym refused ∙ two in absurd (cc e)
+    → OnErr begun (status ≡ 3) → status ≡ 2 → P
+usage_of (Ok before) (Some after) status streams streams' P served refused two =
+    absurd (not_two served.end (sym served.status_is ∙ two))
+usage_of (Ok before) None status streams streams' P served refused two = absurd served
+usage_of (Err refusal) session status streams streams' P served refused two =
+    let e : 3 ≡ 2 = sym refused ∙ two in absurd (cc e)
 
-served_as_chosen : {E F : Type 0} (entered : Option (List ℕ × List ℕ)) (choice : Choice) (begun : Result (SessionView FileDisk) F)
-    (session : Option (SessionView FileDisk)) (status : Result ExitCode E) (streams streams' : StreamsView)
+served_as_chosen : {F : Type 0} (entered : Option (List ℕ × List ℕ)) (choice : Choice) (begun : Result (SessionView FileDisk) F)
+    (session : Option (SessionView FileDisk)) (status : ℕ) (streams streams' : StreamsView)
     → entered ≡ Some (arguments_of_choice choice)
     → IfOk begun (λ before. (disk : FileDisk) × IsUncalled (as_disk disk) × IsBegunOn as_disk choice disk before)
     → Serves begun session status streams streams' → OnErr begun (session ≡ None)
@@ -55,16 +52,14 @@ served_as_chosen entered choice (Ok before) None status streams streams' is foun
 served_as_chosen entered choice (Err refusal) (Some after) status streams streams' is found served none = absurd (cc none)
 served_as_chosen entered choice (Err refusal) None status streams streams' is found served none = tt
 
-unserved_of : {E F : Type 0} (begun : Result (SessionView FileDisk) F) (session : Option (SessionView FileDisk)) (status : Result ExitCode E)
-    (streams streams' : StreamsView) → Serves begun session status streams streams'
-    → OnErr begun (IfOk status (λ code. exit_status code ≡ 3))
-    → IfNone session (IfOk status (λ code. (exit_status code ≡ 2) ⊎ (exit_status code ≡ 3)))
+unserved_of : {F : Type 0} (begun : Result (SessionView FileDisk) F) (session : Option (SessionView FileDisk)) (status : ℕ)
+    (streams streams' : StreamsView) → Serves begun session status streams streams' → OnErr begun (status ≡ 3)
+    → IfNone session ((status ≡ 2) ⊎ (status ≡ 3))
 unserved_of begun (Some after) status streams streams' served refused = tt
-unserved_of begun None (Err e) streams streams' served refused = tt
-unserved_of (Ok before) None (Ok code) streams streams' served refused = absurd served
-unserved_of (Err refusal) None (Ok code) streams streams' served refused = inr refused
+unserved_of (Ok before) None status streams streams' served refused = absurd served
+unserved_of (Err refusal) None status streams streams' served refused = inr refused
 
-untouched_of : {E F : Type 0} (begun : Result (SessionView FileDisk) F) (session : Option (SessionView FileDisk)) (status : Result ExitCode E)
+untouched_of : {F : Type 0} (begun : Result (SessionView FileDisk) F) (session : Option (SessionView FileDisk)) (status : ℕ)
     (streams streams' : StreamsView) (P : Type 0) → Serves begun session status streams streams' → OnErr begun P → IfNone session P
 untouched_of begun (Some after) status streams streams' P served same = tt
 untouched_of (Ok before) None status streams streams' P served same = absurd served
@@ -72,21 +67,21 @@ untouched_of (Err refusal) None status streams streams' P served same = same
 
 pub returns-clause-usage : goal.returns-clause-usage
 returns-clause-usage g c =
-    usage_of c.session_in-begun.result c.serve_begun.result.session c.serve_begun.result.status _ _ _ c.serve_begun.ensures.served c.serve_begun.ensures.refused
+    usage_of c.session_in-begun.result c.serve_begun-ended.result.session (exit_status c.serve_begun-ended.result.status) _ _ _ c.serve_begun-ended.ensures.served c.serve_begun-ended.ensures.refused
 
 pub returns-clause-served : goal.returns-clause-served
 returns-clause-served g c =
-    served_as_chosen _ c.in-Ok.choice c.session_in-begun.result c.serve_begun.result.session c.serve_begun.result.status _ _
-    c.in-Ok.ensures.given c.session_in-begun.ensures.begun c.serve_begun.ensures.served c.serve_begun.ensures.unserved
+    served_as_chosen _ c.in-Ok.choice c.session_in-begun.result c.serve_begun-ended.result.session (exit_status c.serve_begun-ended.result.status) _ _
+    c.in-Ok.ensures.given c.session_in-begun.ensures.begun c.serve_begun-ended.ensures.served c.serve_begun-ended.ensures.unserved
 
 pub returns-clause-unserved : goal.returns-clause-unserved
 returns-clause-unserved g c =
-    unserved_of c.session_in-begun.result c.serve_begun.result.session c.serve_begun.result.status _ _ c.serve_begun.ensures.served c.serve_begun.ensures.refused
+    unserved_of c.session_in-begun.result c.serve_begun-ended.result.session (exit_status c.serve_begun-ended.result.status) _ _ c.serve_begun-ended.ensures.served c.serve_begun-ended.ensures.refused
 
 pub returns-clause-unread : goal.returns-clause-unread
 returns-clause-unread g c =
-    untouched_of c.session_in-begun.result c.serve_begun.result.session c.serve_begun.result.status _ _ _ c.serve_begun.ensures.served c.serve_begun.ensures.unread
+    untouched_of c.session_in-begun.result c.serve_begun-ended.result.session (exit_status c.serve_begun-ended.result.status) _ _ _ c.serve_begun-ended.ensures.served c.serve_begun-ended.ensures.unread
 
 pub returns-clause-unwritten : goal.returns-clause-unwritten
 returns-clause-unwritten g c =
-    untouched_of c.session_in-begun.result c.serve_begun.result.session c.serve_begun.result.status _ _ _ c.serve_begun.ensures.served c.serve_begun.ensures.unwritten
+    untouched_of c.session_in-begun.result c.serve_begun-ended.result.session (exit_status c.serve_begun-ended.result.status) _ _ _ c.serve_begun-ended.ensures.served c.serve_begun-ended.ensures.unwritten

@@ -2,7 +2,7 @@ use Rattle.std.proofs.Common.{arith, sym, ap, refl, ◌∙◌, ◌≡◌, ℕ, L
 use Rattle.std.proofs.lemmas.List.{set-get_or}
 use Rattle.mcs_nibble.specs.declared.lines.LineMask.{LineMask}
 use Rattle.mcs_nibble.specs.Ports.{latch_value}
-use Rattle.mcs_rom4001.specs.Roms.{RomState}
+use Rattle.mcs_rom4001.specs.Roms.{PortState}
 use Rattle.mcs_model.specs.Bus.{BusState}
 use Rattle.mcs_model.specs.Boards.{masks_on}
 use Rattle.mcs_model.specs.Levels.{with_rom_ports_at}
@@ -10,7 +10,7 @@ use Rattle.mcs_model.specs.ChipWrites.{with_rom_latch}
 use Rattle.mcs_board.specs.RigFields.{rig_parts}
 use Rattle.mcs_board.specs.RigState.{masks_of_rom, rig_of}
 use Rattle.mcs_board.proofs.FittedLemmas.{fitted-rom}
-use Rattle.mcs_board.proofs.RigLemmas.{rom_here, rom_absent, rom_latch-flat, rom_latch-write}
+use Rattle.mcs_board.proofs.RigLemmas.{rom_here, rom_absent, rom_latch-write}
 use Rattle.mcs_board.proofs.rig.Rig.set_rom_latch.Goals as goal
 
 written : (s : BusState) (chip n : ℕ) (mask : List LineMask) → masks_on s.board chip ≡ Some mask → with_rom_ports_at s chip (latch_value mask n) ≡ with_rom_latch s chip n
@@ -27,7 +27,7 @@ returns-in-Some g c =
     let s = c.args.self.now in
     let here = rom_here i.roms.items c.args.chip c.from-at.result c.index_mut.result.now c.from-at.ensures (omega arith) c.index_mut.ensures.value in
     let mask = ap (λ (t : BusState). masks_on t.board c.args.chip) (sym c.self.view_is) ∙ sym (c.self.invariant.masks c.args.chip) ∙ ap masks_of_rom (here ∙ c.in-Some.is) in
-    rom_latch-write (rig_parts i) c.args.chip c.from-at.result (latch_value c.in-Some.rom.mask c.args.n) c.in-Some.rom c.set_port.new.self c.requires c.from-at.ensures (omega arith) (here ∙ c.in-Some.is) c.set_port.ensures
+    rom_latch-write (rig_parts i) c.args.chip c.from-at.result (latch_value c.in-Some.rom.mask c.args.n) c.in-Some.rom c.write_port.new.self c.requires c.from-at.ensures (omega arith) (here ∙ c.in-Some.is) c.write_port.ensures
     ∙ ap (λ t. with_rom_ports_at t c.args.chip (latch_value c.in-Some.rom.mask c.args.n)) c.self.view_is
     ∙ written s c.args.chip c.args.n c.in-Some.rom.mask mask
 
@@ -55,5 +55,4 @@ invariant_of-self g c =
     let v = c.self.invariant in
     let at = c.from-at.result in
     let here = rom_here i.roms.items at at c.index_mut.result.now refl (omega arith) c.index_mut.ensures.value ∙ c.in-Some.is in
-    fitted-rom v at c.in-Some.rom c.set_port.new.self (omega arith) here (ap (λ (x : RomState). x.mask) c.set_port.ensures) i.program.items
-    (v.program ∙ sym (rom_latch-flat i.roms.items at (latch_value c.in-Some.rom.mask c.args.n) c.in-Some.rom c.set_port.new.self (omega arith) here c.set_port.ensures))
+    fitted-rom v at c.in-Some.rom c.write_port.new.self (omega arith) here (ap (λ (x : PortState). x.mask) c.write_port.ensures)

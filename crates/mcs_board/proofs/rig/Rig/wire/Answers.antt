@@ -1,12 +1,17 @@
-use Rattle.std.proofs.Common.{◌≡◌, ◌∙◌, sym, ap, arith, refl, length}
+use Rattle.std.proofs.Common.{◌≡◌, ◌∙◌, sym, ap, arith, refl, length, replicate}
 use Rattle.std.proofs.lemmas.Bool.{eqb-true}
-use Rattle.mcs_nibble.proofs.FlatRowsLemmas.{length-flat}
 use Rattle.mcs_model.specs.declared.board.BoardParts.{BoardParts}
+use Rattle.mcs_model.specs.Boards.{key_count}
 use Rattle.mcs_model.specs.ChipWrites.{after_wire}
+use Rattle.mcs_keypad.specs.Keys.{KeyState}
 use Rattle.mcs_board.specs.RigState.{RigParts, rig_of}
 use Rattle.mcs_board.specs.RigFields.{rig_parts}
 use Rattle.mcs_board.proofs.MakingLemmas.{IsRewired, rewired-every, wire-state, wire-fitted}
 use Rattle.mcs_board.proofs.rig.Rig.wire.Goals as goal
+
+-- a board with all its keys up
+made : (b copy : BoardParts) (k : KeyState) → k ≡ record { board = copy; down = replicate (key_count copy) 0 } → copy ≡ b → k ≡ record { board = b; down = replicate (key_count b) 0 }
+made b copy k new same = new ∙ ap (λ (x : BoardParts). let made : KeyState = record { board = x; down = replicate (key_count x) 0 } in made) same
 
 pub returns-then-is_empty : goal.returns-then-is_empty
 returns-then-is_empty g c =
@@ -15,18 +20,18 @@ returns-then-is_empty g c =
     let b = c.args.board.now in
     let fits = c.requires in
     let none : length i.chains.items ≡ 0 = ap length (sym c.as_slice.ensures.value) ∙ eqb-true (length c.as_slice.result.now) 0 (sym c.is_empty.ensures ∙ c.if-is_empty.true) in
-    let new : RigParts = record (rig_parts i) { board = b; roms = c.rewire_roms.new.roms.items; program = c.clear_absent.new.program.items; banks = c.rewire_banks.new.banks.items; keys = c.keys_of-self-inside.result; rom_src = 0 } in
+    let new : RigParts = record (rig_parts i) { board = b; roms = c.rewire_roms.new.roms.items; program = c.clear_absent.new.program.items; banks = c.rewire_banks.new.banks.items; keys = replicate (key_count b) 0; rom_src = 0 } in
     let is : IsRewired (rig_parts i) new = record {
       roms = rewired-every b i.roms.items c.rewire_roms.new.roms.items c.rewire_roms.ensures.count c.rewire_roms.ensures.roms (λ k h. fits.roms k (let l = v.roms_len in omega arith));
       program = c.clear_absent.ensures;
       banks = record { at = λ k h. c.rewire_banks.ensures.banks k (let n = c.rewire_banks.ensures.count in omega arith) };
       fit = omega (arith, fits.chains, v.chains_len);
       chains = λ k h. absurd (omega (arith, fits.chains, v.chains_len));
-      keys = c.keys_of-self-inside.ensures;
+      up = refl;
       src = refl;
       test = refl;
     } in
-    ap (λ (x : BoardParts). rig_of (record new { board = x })) c.copy-self-inside.ensures
+    ap (λ (k : KeyState). rig_of (record new { board = k.board; keys = k.down })) (made b c.copy.result c.of-self-inside.result c.of-self-inside.ensures c.copy.ensures)
     ∙ wire-state (rig_parts i) new is
     ∙ ap (λ s. after_wire s b) c.self.view_is
 
@@ -37,19 +42,19 @@ invariant_of-self g c =
     let b = c.args.board.now in
     let fits = c.requires in
     let none : length i.chains.items ≡ 0 = ap length (sym c.as_slice.ensures.value) ∙ eqb-true (length c.as_slice.result.now) 0 (sym c.is_empty.ensures ∙ c.if-is_empty.true) in
-    let new : RigParts = record (rig_parts i) { board = b; roms = c.rewire_roms.new.roms.items; program = c.clear_absent.new.program.items; banks = c.rewire_banks.new.banks.items; keys = c.keys_of-self-inside.result; rom_src = 0 } in
+    let new : RigParts = record (rig_parts i) { board = b; roms = c.rewire_roms.new.roms.items; program = c.clear_absent.new.program.items; banks = c.rewire_banks.new.banks.items; keys = replicate (key_count b) 0; rom_src = 0 } in
     let is : IsRewired (rig_parts i) new = record {
       roms = rewired-every b i.roms.items c.rewire_roms.new.roms.items c.rewire_roms.ensures.count c.rewire_roms.ensures.roms (λ k h. fits.roms k (let l = v.roms_len in omega arith));
       program = c.clear_absent.ensures;
       banks = record { at = λ k h. c.rewire_banks.ensures.banks k (let n = c.rewire_banks.ensures.count in omega arith) };
       fit = omega (arith, fits.chains, v.chains_len);
       chains = λ k h. absurd (omega (arith, fits.chains, v.chains_len));
-      keys = c.keys_of-self-inside.ensures;
+      up = refl;
       src = refl;
       test = refl;
     } in
-    rw c.copy-self-inside.ensures
-    (wire-fitted (rig_parts i) new g.row.ROMS g.row.BANKS g.row.CHAINS g.row.MAX fits (c.rewire_roms.ensures.count ∙ v.roms_len) (c.rewire_banks.ensures.count ∙ v.banks_len) v.chains_len v.program is)
+    rw (made b c.copy.result c.of-self-inside.result c.of-self-inside.ensures c.copy.ensures)
+    (wire-fitted (rig_parts i) new g.row.ROMS g.row.BANKS g.row.CHAINS g.row.MAX fits (c.rewire_roms.ensures.count ∙ v.roms_len) (c.rewire_banks.ensures.count ∙ v.banks_len) v.chains_len is)
 
 pub invariant_of-self-2 : goal.invariant_of-self-2
 invariant_of-self-2 g c =
@@ -57,19 +62,19 @@ invariant_of-self-2 g c =
     let v = c.self.invariant in
     let b = c.args.board.now in
     let fits = c.requires in
-    let new : RigParts = record { board = b; roms = c.rewire_roms.new.roms.items; program = c.clear_absent.new.program.items; banks = c.rewire_banks.new.banks.items; chains = c.rewire_chains.new.chains.items; keys = c.keys_of-self-inside.result; rom_src = 0; test = i.test } in
+    let new : RigParts = record { board = b; roms = c.rewire_roms.new.roms.items; program = c.clear_absent.new.program.items; banks = c.rewire_banks.new.banks.items; chains = c.rewire_chains.new.chains.items; keys = replicate (key_count b) 0; rom_src = 0; test = i.test } in
     let is : IsRewired (rig_parts i) new = record {
       roms = rewired-every b i.roms.items c.rewire_roms.new.roms.items c.rewire_roms.ensures.count c.rewire_roms.ensures.roms (λ k h. fits.roms k (let l = v.roms_len in omega arith));
       program = c.clear_absent.ensures;
       banks = record { at = λ k h. c.rewire_banks.ensures.banks k (let n = c.rewire_banks.ensures.count in omega arith) };
       fit = omega (arith, fits.chains, v.chains_len, c.rewire_chains.ensures.count);
       chains = λ k h. c.rewire_chains.ensures.rows k (omega (arith, fits.chains, v.chains_len));
-      keys = c.keys_of-self-inside.ensures;
+      up = refl;
       src = refl;
       test = refl;
     } in
-    rw c.copy-self-inside.ensures
-    (wire-fitted (rig_parts i) new g.row.ROMS g.row.BANKS g.row.CHAINS g.row.MAX fits (c.rewire_roms.ensures.count ∙ v.roms_len) (c.rewire_banks.ensures.count ∙ v.banks_len) (c.rewire_chains.ensures.count ∙ v.chains_len) v.program is)
+    rw (made b c.copy.result c.of-self-inside.result c.of-self-inside.ensures c.copy.ensures)
+    (wire-fitted (rig_parts i) new g.row.ROMS g.row.BANKS g.row.CHAINS g.row.MAX fits (c.rewire_roms.ensures.count ∙ v.roms_len) (c.rewire_banks.ensures.count ∙ v.banks_len) (c.rewire_chains.ensures.count ∙ v.chains_len) is)
 
 pub returns : goal.returns
 returns g c =
@@ -77,20 +82,20 @@ returns g c =
     let v = c.self.invariant in
     let b = c.args.board.now in
     let fits = c.requires in
-    let new : RigParts = record { board = b; roms = c.rewire_roms.new.roms.items; program = c.clear_absent.new.program.items; banks = c.rewire_banks.new.banks.items; chains = c.rewire_chains.new.chains.items; keys = c.keys_of-self-inside.result; rom_src = 0; test = i.test } in
+    let new : RigParts = record { board = b; roms = c.rewire_roms.new.roms.items; program = c.clear_absent.new.program.items; banks = c.rewire_banks.new.banks.items; chains = c.rewire_chains.new.chains.items; keys = replicate (key_count b) 0; rom_src = 0; test = i.test } in
     let is : IsRewired (rig_parts i) new = record {
       roms = rewired-every b i.roms.items c.rewire_roms.new.roms.items c.rewire_roms.ensures.count c.rewire_roms.ensures.roms (λ k h. fits.roms k (let l = v.roms_len in omega arith));
       program = c.clear_absent.ensures;
       banks = record { at = λ k h. c.rewire_banks.ensures.banks k (let n = c.rewire_banks.ensures.count in omega arith) };
       fit = omega (arith, fits.chains, v.chains_len, c.rewire_chains.ensures.count);
       chains = λ k h. c.rewire_chains.ensures.rows k (omega (arith, fits.chains, v.chains_len));
-      keys = c.keys_of-self-inside.ensures;
+      up = refl;
       src = refl;
       test = refl;
     } in
-    ap (λ (x : BoardParts). rig_of (record new { board = x })) c.copy-self-inside.ensures
+    ap (λ (k : KeyState). rig_of (record new { board = k.board; keys = k.down })) (made b c.copy.result c.of-self-inside.result c.of-self-inside.ensures c.copy.ensures)
     ∙ wire-state (rig_parts i) new is
     ∙ ap (λ s. after_wire s b) c.self.view_is
 
 pub clear_absent-requires : goal.clear_absent-requires
-clear_absent-requires g c = ap length c.self.invariant.program ∙ length-flat 16 256 _ _ _
+clear_absent-requires g c = c.self.invariant.program_len

@@ -3,8 +3,8 @@ use Rattle.mcs_disk.proofs.Calling.{none_added}
 use Rattle.mcs_journal.proofs.Asking.{area_ok, area_err, create_one, header_read, refused_by_header, refused_create_one}
 use Rattle.std.proofs.Common.{inr, [], length, refl, sym, ◌∙◌, ap, arith, Err, length-take, length-append, length-drop}
 use Rattle.mcs_disk.proofs.Composing.{counts_as, counts_then, rests_still, later_then}
-use Rattle.mcs_journal.specs.declared.fault.CreateFault.TheVariants.{Device}
-use Rattle.mcs_journal.proofs.Refusing.{counts_err, refuses_create}
+use Rattle.mcs_journal.specs.declared.fault.StoreFault.TheVariants.{Device}
+use Rattle.mcs_journal.proofs.Refusing.{counts_err, header_fault, header_has_memory, refuses_create}
 use Rattle.mcs_journal.proofs.store.Store.create.Goals as goal
 
 pub returns-then-size-ne-FILE_SIZE-clause-refused : goal.returns-then-size-ne-FILE_SIZE-clause-refused
@@ -14,7 +14,13 @@ pub returns-in-Err-check_blank-clause-refusal_counts : goal.returns-in-Err-check
 returns-in-Err-check_blank-clause-refusal_counts g c = counts_err _ _ _ Device _ c.in-Err-check_blank.is c.check_blank.ensures.reads.counts
 
 pub returns-in-Err-check_blank-clause-refused : goal.returns-in-Err-check_blank-clause-refused
-returns-in-Err-check_blank-clause-refused g c = λ h. refuses_create _ _ _ c.check_blank.ensures.reads.rests (λ fault. c.check_blank.ensures.not_blank h (c.in-Err-check_blank.is ∙ ap Err fault))
+returns-in-Err-check_blank-clause-refused g c = λ h. refuses_create _ _ _ c.in-Err-check_blank.ensures.cases c.check_blank.ensures.reads.rests (λ fault. c.check_blank.ensures.not_blank h (c.in-Err-check_blank.is ∙ ap Err fault))
+
+pub returns-in-Err-check_blank-clause-cases : goal.returns-in-Err-check_blank-clause-cases
+returns-in-Err-check_blank-clause-cases g c = header_fault _ c.in-Err-check_blank.ensures.cases
+
+pub returns-in-Err-check_blank-clause-no_memory : goal.returns-in-Err-check_blank-clause-no_memory
+returns-in-Err-check_blank-clause-no_memory g c = λ none. absurd (header_has_memory _ c.in-Err-check_blank.ensures.cases none)
 
 pub returns-in-Ok-write_first-clause-counts : goal.returns-in-Ok-write_first-clause-counts
 returns-in-Ok-write_first-clause-counts g c =
@@ -65,11 +71,11 @@ pub returns-in-Err-clause-refused_one_unsynced : goal.returns-in-Err-clause-refu
 returns-in-Err-clause-refused_one_unsynced g c = λ synced. none_added _
 
 pub returns-in-Err-check_blank-clause-refused_calls : goal.returns-in-Err-check_blank-clause-refused_calls
-returns-in-Err-check_blank-clause-refused_calls g c = refused_by_header _ _ _ _ _ _ c.in-Err-check_blank.is c.check_blank.ensures.no_memory c.check_blank.ensures.calls
+returns-in-Err-check_blank-clause-refused_calls g c = refused_by_header _ _ _ _ _ _ c.in-Err-check_blank.is c.in-Err-check_blank.ensures.cases c.check_blank.ensures.calls
 
 pub returns-in-Err-check_blank-clause-refused_one_unsynced : goal.returns-in-Err-check_blank-clause-refused_one_unsynced
 returns-in-Err-check_blank-clause-refused_one_unsynced g c = λ synced. refused_create_one _ synced _ c.args.snap.now _ c.check_blank.result
-    (refused_by_header _ _ _ _ _ _ c.in-Err-check_blank.is c.check_blank.ensures.no_memory c.check_blank.ensures.calls)
+    (refused_by_header _ _ _ _ _ _ c.in-Err-check_blank.is c.in-Err-check_blank.ensures.cases c.check_blank.ensures.calls)
 
 pub returns-in-Ok-write_first-clause-calls : goal.returns-in-Ok-write_first-clause-calls
 returns-in-Ok-write_first-clause-calls g c = area_ok _ _ _ _ _ _ _ (header_read _ _ _ _ c.in-Ok-check_blank.ensures.calls) c.in-Ok-write_first.ensures.calls

@@ -4,8 +4,8 @@ use Rattle.mcs_journal.proofs.Asking.{open_one, open_synced, refused_open_one}
 use Rattle.std.proofs.Common.{rules, length, List, ℕ, inl, sym, ◌∙◌, ap, subst, Err}
 use Rattle.mcs_disk.proofs.Composing.{rests_still, rests_bytes}
 use Rattle.mcs_journal.specs.File.{Holds, slot_of}
-use Rattle.mcs_journal.specs.declared.fault.OpenFault.TheVariants.{Device}
-use Rattle.mcs_journal.proofs.Refusing.{counts_ok, counts_err, refuses_open}
+use Rattle.mcs_journal.specs.declared.fault.StoreFault.TheVariants.{Device}
+use Rattle.mcs_journal.proofs.Refusing.{counts_ok, counts_err, open_fault, refuses_open}
 use Rattle.mcs_journal.proofs.store.Store.open.Goals as goal
 
 pub returns-then-size-ne-FILE_SIZE-clause-refused : goal.returns-then-size-ne-FILE_SIZE-clause-refused
@@ -16,12 +16,16 @@ returns-in-Err-read_contents-clause-refusal_counts g c = counts_err _ _ _ Device
 
 pub returns-in-Err-read_contents-clause-refused : goal.returns-in-Err-read_contents-clause-refused
 returns-in-Err-read_contents-clause-refused g c = λ h. (
-  refuses_open _ _ (sym c.size.ensures ∙ c.if-size-ne-FILE_SIZE.false)
+  refuses_open _ _ (λ fault. c.read_contents.ensures.not_blank (c.in-Err-read_contents.is ∙ ap Err fault))
+      (sym c.size.ensures ∙ c.if-size-ne-FILE_SIZE.false)
       (λ fault. c.read_contents.ensures.no_session h (c.in-Err-read_contents.is ∙ ap Err fault))
       (λ fault. c.read_contents.ensures.session h (c.in-Err-read_contents.is ∙ ap Err fault))
       (λ fault. c.read_contents.ensures.damaged h (c.in-Err-read_contents.is ∙ ap Err fault)),
   c.read_contents.ensures.reads.rests,
 )
+
+pub returns-in-Err-read_contents-clause-cases : goal.returns-in-Err-read_contents-clause-cases
+returns-in-Err-read_contents-clause-cases g c = open_fault _ (λ fault. c.read_contents.ensures.not_blank (c.in-Err-read_contents.is ∙ ap Err fault))
 
 pub returns-in-Ok-read_contents-clause-counts : goal.returns-in-Ok-read_contents-clause-counts
 returns-in-Ok-read_contents-clause-counts g c = counts_ok _ _ _ Device _ c.in-Ok-read_contents.is c.read_contents.ensures.reads.counts

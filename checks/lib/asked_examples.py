@@ -1,0 +1,144 @@
+"""Questions to mcs4-prove about the examples: the nevers of their properties as comparisons, what has to be answered, and mutants: an example
+with one instruction that is another one.
+"""
+
+from __future__ import annotations
+
+import pathlib
+import random
+from dataclasses import dataclass
+
+from assembler import assemble
+from board4004 import CODES, TWO_WORDS
+from second_search import Comparison, Question
+
+EXAMPLE_FILES = pathlib.Path(__file__).resolve().parent.parent.parent / "examples"
+MOST_OF_MUTANTS, PAUSE_OF_MUTANTS = 120, 1000
+
+
+def texts_of(props: str) -> tuple[list[str], list[str]]:
+    """The board and the program of a file of properties."""
+    path = EXAMPLE_FILES / props
+    if path.with_name("board.toml").exists():
+        texts = path.with_name("board.toml"), path.with_name(f"{path.parent.name}.asm")
+        return texts[0].read_text().splitlines(), texts[1].read_text().splitlines()
+    name = path.stem.removesuffix("_bounces")
+    lines = next(path.with_name(f"{name}.{kind}") for kind in ("txt", "mcsp") if path.with_name(f"{name}.{kind}").exists()).read_text().splitlines()
+
+    def text(word: str) -> list[str]:
+        begin = lines.index(word) + 1
+        return lines[begin:lines.index(".", begin)]
+
+    return text("wire"), text("asm")
+
+
+def comparisons_of(words: str, names: dict[str, int]) -> list[Comparison]:
+    """Comparisons that `&` joins; `@label` is the counter's, between two instructions."""
+    rows: list[Comparison] = []
+    for each in words.split(" & "):
+        if each.startswith("@"):
+            page, word = divmod(names[each[1:]], 256)
+            rows += [("in", "counter", index, "whole", number, number) for index, number in ((3, 0), (4, page), (5, word))]
+        else:
+            way, name, index, part, low, high = each.split()
+            rows.append((way, name, int(index), part, int(low), int(high)))
+    return rows
+
+
+def question_of(props: str, nevers: list[str], most: int, pause: int) -> Question:
+    """A question about an example."""
+    board, program = texts_of(props)
+    names = assemble(program)[2]
+    return Question(board, program, [comparisons_of(never, names) for never in nevers], most, pause)
+
+
+FACES = " & ".join(f"out ramport 0 whole {value} {value}" for value in (0, 1, 3, 7, 8, 9, 11))
+DIGITS = {f"ram.0.{at} > 9": f"in character {at} whole 10 15" for at in (0, 64, 128, 192)}
+GREEN, AMBER, WALK = "in ramport 0 line2 1 1", "in ramport 0 line1 1 1", "in ramport 1 line1 1 1"
+
+
+@dataclass
+class Example:
+    """The nevers of a file of properties, as they stand there, each with its comparisons; the answer to all of them together; where the search ends,
+    and where a stretch is cut."""
+
+    props: str
+    answer: str
+    nevers: dict[str, str]
+    most: int = 1000000
+    pause: int = 1000000
+
+
+EXAMPLES = [
+    Example("a_fault_to_find.props", "may fail after 1 values", {"lamp 8 on and lamp 2 on": "in ramport 0 line3 1 1 & in ramport 0 line1 1 1"}),
+    Example("counter.props", "too many", {never: DIGITS[never] for never in ("ram.0.0 > 9", "ram.0.64 > 9")}, most=20000),
+    # Nothing is said here of how long something is pressed at most.
+    Example("counter_bounces.props", "may fail after 113 values", {"@count": "@count"}),
+    Example("die.props", "holds 13", {
+        "not lamps ...*... and not lamps *.....* and not lamps *..*..* and not lamps **...** and not lamps **.*.** and not lamps ***.*** "
+        "and not lamps none": FACES}),
+    Example("lamps.props", "holds 2", {"lamp 2 on": "in ramport 0 line3 1 1"}),
+    Example("running_light.props", "holds 2", {
+        f"lamp {one} on and lamp {other} on": f"in chain0 {one} whole 1 1 & in chain0 {other} whole 1 1" for one, other in ((0, 1), (8, 9), (0, 9))}),
+    Example("stopwatch.props", "holds 10001", DIGITS),
+    Example("traffic_light.props", "holds 375558", {
+        "lamp green on and lamp walk on": f"{GREEN} & {WALK}", "lamp amber on and lamp walk on": f"{AMBER} & {WALK}",
+        "lamp green on and lamp amber on": f"{GREEN} & {AMBER}", "lamp stand on and lamp walk on": f"in ramport 1 line0 1 1 & {WALK}"}),
+    Example("calculator/calculator.props", "too many", {
+        "st.0.0.1 > 7": "in status 1 whole 8 15",
+        "lamp overflow on and lamp division_by_zero on": "in ramport 0 line1 1 1 & in ramport 0 line2 1 1"}, most=5000),
+    Example("calculator/short_press.props", "may fail after 26 values", {"@act": "@act"}),
+    Example("clock/clock.props", "too many", {
+        "r11 > 9": "in register 11 whole 10 15", **{f"ram0.0 out {value}": f"in ramport 0 whole {value} {value}" for value in (3, 5, 15)}}, most=500),
+    Example("lock/lock.props", "holds 297692", {
+        "lamp open on and lamp locked on": "in ramport 0 line1 1 1 & in ramport 0 line0 1 1",
+        "lamp open on and lamp alarm on": "in ramport 0 line1 1 1 & in ramport 0 line2 1 1"}),
+    Example("pictures/pictures.props", "holds 9", {"not ram0.2 out 0 and not ram0.3 out 0": "out ramport 2 whole 0 0 & out ramport 3 whole 0 0"}),
+    Example("printing_calculator/printing_calculator.props", "too many", {
+        "st.0.0.0 > 12": "in status 0 whole 13 15", "st.0.0.1 > 1": "in status 1 whole 2 15"}, most=5000),
+    Example("three_lamps/three_lamps.props", "holds 2", {
+        "lamp left on and lamp right on": "in ramport 0 line2 1 1 & in ramport 0 line0 1 1",
+        "lamp left on and lamp middle on": "in ramport 0 line2 1 1 & in ramport 0 line1 1 1",
+        "lamp middle on and lamp right on": "in ramport 0 line1 1 1 & in ramport 0 line0 1 1"}),
+]
+# The answer at the end of a longer search, which takes a gigabyte of memory. (That of the clock takes minutes of a processor.)
+LONGER = {"counter.props": "holds 2240113"}
+# What the ports of RAM chips show, by their index, in those whose mutants are searched. The lock, the traffic light and the three lamps show no more,
+# whatever is pressed.
+SHOWN = {
+    "die.props": {0: (0, 1, 3, 7, 8, 9, 11)},
+    "lock/lock.props": {0: (0, 1, 2, 5)},
+    "pictures/pictures.props": {2: (0, 1, 2, 4, 8), 3: (0, 1, 2, 4, 8)},
+    "three_lamps/three_lamps.props": {0: (0, 1, 2, 4)},
+    "traffic_light.props": {0: (0, 1, 2, 3, 4), 1: (0, 1, 2)},
+}
+
+
+def nevers_in(props: str) -> list[str]:
+    """The nevers of a file of properties, but for those of a time and those behind a guard."""
+    lines = (EXAMPLE_FILES / props).read_text().splitlines()
+    return [line.removeprefix("never ") for line in lines if line.startswith("never ") and " for " not in line]
+
+
+def program_of(image: dict[int, int]) -> list[str]:
+    """A program's text that gives these bytes."""
+    lines: list[str] = []
+    for at in sorted(image):
+        if at - 1 not in image or at % 16 == 0:
+            lines.append(f" ORG {at}")
+        lines.append(f" DB {image[at]}")
+    return lines
+
+
+def mutant(seed: int) -> tuple[str, Question]:
+    """An example in which one instruction is another one of the same size."""
+    chance = random.Random(seed)
+    props, ports = chance.choice([*SHOWN.items()])
+    others = [" & ".join(f"out ramport {port} whole {value} {value}" for value in values) for port, values in ports.items()]
+    question = question_of(props, others, MOST_OF_MUTANTS, PAUSE_OF_MUTANTS)
+    image, spans, _names = assemble(question.program)
+    at = chance.choice([at for at, size in spans if size in (1, 2) and image[at] in CODES])
+    is_long = CODES[image[at]][0] in TWO_WORDS
+    code = chance.choice([code for code in CODES if (CODES[code][0] in TWO_WORDS) == is_long and code != image[at]])
+    question.program = program_of({**image, at: code})
+    return f"{props} with {CODES[code][0]}, {code:02X}, at {at:03X}", question

@@ -1,0 +1,51 @@
+"""Figures that PROOF states of the tree, as the tree has them: each with the words in which PROOF has to have it."""
+
+import collections
+import pathlib
+import re
+
+from side_by_side import CHECKS
+from wrong_readings import WRONG_BOARDS, WRONG_SEARCHES, WRONG_TOOLS
+
+TOP = pathlib.Path(__file__).resolve().parent.parent.parent
+
+
+def edits_by_crate():
+    """How many edits each crate has that the proofs have to refuse."""
+    return collections.Counter(path.parent.parent.name for path in TOP.glob("crates/*/must-fail/*.edit"))
+
+
+def edits():
+    """The edits, and the crates that have some, and none."""
+    by_crate = edits_by_crate()
+    crates = sorted(path.parent.name for path in TOP.glob("crates/*/src"))
+    without = [crate for crate in crates if crate not in by_crate and not re.match("test_|mcs_fixtures", crate)]
+    without.sort(key=lambda crate: (not crate.startswith("mcs_"), crate))
+    yield f"There are {by_crate.total()} edits, at most {max(by_crate.values())} in a crate"
+    yield f"nor in {', '.join(without)} and the test crates"
+
+
+def sweeps():
+    """How long the checks are, by ./test and by ./test long."""
+    words_of = {check.name: (check.words.split(), check.long.split()) for check in CHECKS if check.long}
+    for name, place, tried in (("locks", 0, "rounds"), ("assembler", 0, "seeded programs"), ("time", 0, "seeded boards and programs"),
+                               ("time", 1, "sessions of tools"), ("prove", 0, "seeded questions"), ("calculator", 0, "seeded chains"),
+                               ("explore", 0, "seconds"), ("page", 1, "seeded scripts")):
+        short, long = (f"{int(each[place]):,}" for each in words_of[name])
+        yield f"| `{name}` | {tried} | {short} | {long} |"
+
+
+def checks():
+    """What the checks are, and what they compare."""
+    yield f"{len(WRONG_BOARDS) + len(WRONG_TOOLS)} wrong readings"
+    yield f"{len(WRONG_SEARCHES)} wrong searches"
+    boards = re.search(r"^BOARDS = (\d+)$", (TOP / "checks/runs").read_text(), re.M)
+    yield f"of {boards[1]} seeded boards in any spelling"
+    for path in sorted((TOP / "checks").iterdir()):
+        if path.is_file():
+            yield rf"`{path.name}`"
+
+
+def stated():
+    """All words that PROOF has to have."""
+    return [*edits(), *sweeps(), *checks()]

@@ -1,0 +1,209 @@
+"""What checks/page looks at of the workbench: borders are moved by mouse, finger and keyboard; panels are closed, opened and made full size; all
+of it is remembered, and reset."""
+
+import re
+
+from page_in_browser import ESCAPE, STATUS, choose_example, open_anew, show_text, stop_time, until_ready
+from verdicts import comes, verdict
+
+HOME, UP, RIGHT, LEFT = "\ue011", "\ue013", "\ue014", "\ue012"
+SIZE = """
+const { width, height } = document.getElementById(arguments[0]).getBoundingClientRect();
+return Math.round(arguments[1] === "vertical" ? width : height)"""
+MIDDLE = """
+const box = document.getElementById(arguments[0]).getBoundingClientRect();
+return [Math.round(box.x + box.width / 2), Math.round(box.y + box.height / 2)]"""
+SHOWN = "return arguments[0].filter((id) => isShown(document.getElementById(id)))"
+PANELS = ["front", "texts", "dock", "processor", "calls", "watched", "breakpoints", "memory", "ports", "history"]
+# Each border with the panel whose size it changes, how it stands, and how far the pointer goes to make that larger.
+BORDERS = (("front-splitter", "front", "vertical", (40, 0)), ("side-splitter", "side", "vertical", (-40, 0)),
+           ("dock-splitter", "dock", "horizontal", (0, -40)), ("calls-splitter", "calls", "horizontal", (0, 40)))
+
+
+def drag_by(browser, border, move, kind):
+    x, y = browser.script(MIDDLE, border)
+    steps = [{"type": "pointerMove", "duration": 20, "x": x + move[0] * part // 4, "y": y + move[1] * part // 4} for part in range(1, 5)]
+    browser.actions({"type": "pointer", "id": f"drag-{kind}", "parameters": {"pointerType": kind}, "actions": [
+        {"type": "pointerMove", "duration": 0, "x": x, "y": y}, {"type": "pointerDown", "button": 0}, *steps, {"type": "pointerUp", "button": 0}]})
+
+
+def check_borders(browser):
+    for border, panel, way, move in BORDERS:
+        before = browser.script(SIZE, panel, way)
+        for kind in ("mouse", "touch") if browser.has_fingers else ("mouse",):
+            drag_by(browser, border, move, kind)
+            verdict(f"{border}: a {kind} makes {panel} larger", browser.script(SIZE, panel, way), before + 40)
+            drag_by(browser, border, tuple(-each for each in move), kind)
+            verdict(f"{border}: and smaller", browser.script(SIZE, panel, way), before)
+        browser.script("document.getElementById(arguments[0]).focus()", border)
+        larger = {"front": RIGHT, "side": LEFT, "dock": UP, "calls": "\ue015"}[panel]
+        browser.keys([larger, larger])
+        verdict(f"{border}: an arrow makes it larger", browser.script(SIZE, panel, way), before + 40)
+        verdict(f"{border}: its value is the size", browser.script("return document.activeElement.getAttribute('aria-valuenow')"), str(before + 40))
+        browser.reload()
+        until_ready(browser)
+        verdict(f"{border}: which is remembered", browser.script(SIZE, panel, way), before + 40)
+        browser.script("document.getElementById(arguments[0]).focus()", border)
+        browser.keys([HOME])
+        verdict(f"{border}: Home gives the usual size", browser.script(SIZE, panel, way), before)
+
+
+def in_menu(browser, panel, what):
+    """A panel's box in the menu of panels, or its button that makes it full size."""
+    browser.click("#view-button")
+    browser.script("document.querySelectorAll(`#view-menu li`)[arguments[0]].querySelector(arguments[1]).click()", PANELS.index(panel), what)
+    browser.keys([ESCAPE])
+
+
+def check_panels(browser):
+    """Each panel can be closed, opened again and made full size; a new page is arranged as the last one was."""
+    verdict("all panels are there", browser.script(SHOWN, PANELS), PANELS)
+    for panel in PANELS:
+        in_menu(browser, panel, "input")
+        verdict(f"{panel} is closed", browser.script(SHOWN, PANELS), [each for each in PANELS if each != panel])
+        if panel in ("front", "memory"):
+            browser.reload()
+            until_ready(browser)
+            verdict(f"{panel} stays closed", browser.script(SHOWN, [panel]), [])
+        in_menu(browser, panel, "input")
+        verdict(f"{panel} is open again", browser.script(SHOWN, PANELS), PANELS)
+        in_menu(browser, panel, "button")
+        verdict(f"{panel} is full size", browser.script(SIZE, panel, "vertical"), browser.script("return innerWidth"))
+        verdict(f"and nothing else of the bench is seen beside {panel}", browser.script("""
+            return [...document.querySelectorAll("#front, #texts, #dock, #side > section")]
+              .filter((each) => each.id !== arguments[0] && getComputedStyle(each).visibility === "visible").length""", panel), 0)
+        browser.script("document.querySelector(`#${arguments[0]} .panel-tools button`).click()", panel)
+        verdict(f"its own button gives {panel} its place back", browser.script("return document.querySelectorAll('.full').length"), 0)
+
+
+def check_reset(browser):
+    drag_by(browser, "side-splitter", (-60, 0), "mouse")
+    before = browser.script(SIZE, "side", "vertical")
+    in_menu(browser, "ports", "input")
+    browser.click("#memory .fold")
+    browser.click("#view-button")
+    browser.click("#view-menu > button")
+    verdict("a reset opens what was closed", browser.script(SHOWN, PANELS), PANELS)
+    verdict("unfolds what was folded", browser.script("return document.querySelector('#memory .fold').getAttribute('aria-expanded')"), "true")
+    verdict("and gives borders their place", browser.script(SIZE, "side", "vertical") <= before - 60, True)
+    browser.reload()
+    until_ready(browser)
+    verdict("also after a reload", (browser.script(SHOWN, PANELS), browser.script(SIZE, "side", "vertical") <= before - 60), (PANELS, True))
+
+
+def check_arrangement(browser):
+    check_borders(browser)
+    check_panels(browser)
+    check_reset(browser)
+
+
+# --- what is seen at a first glance ---
+
+# Whether anything of an element is seen: it is shown, and no box that scrolls has all of it out of sight.
+IN_VIEW = """
+const inView = (element) => {
+  if (!element.getClientRects().length || getComputedStyle(element).visibility !== "visible") return false;
+  let { left, top, right, bottom } = element.getBoundingClientRect();
+  for (let box = element.parentElement; box; box = box.parentElement) {
+    if (getComputedStyle(box).overflow === "visible") continue;
+    const room = box.getBoundingClientRect();
+    [left, top] = [Math.max(left, room.left), Math.max(top, room.top)];
+    [right, bottom] = [Math.min(right, room.right), Math.min(bottom, room.bottom)];
+  }
+  return right - left > 1 && bottom - top > 1;
+};
+const controls = [...document.querySelectorAll("button, input, select, textarea, summary, a[href]")].filter(inView);
+"""
+# A block that is one stop of the Tab key counts as one control: the board's keys, registers, a bank of RAM, the rows of the listing.
+BLOCKS = "#keys, .ram, .cells, .stack, #lines-of-program"
+CONTROLS = IN_VIEW + f"return new Set(controls.map((each) => each.closest('{BLOCKS}') || each)).size"
+# A box is as large as its label.
+SMALL = IN_VIEW + """
+const sizeOf = (each) => (each.type === "checkbox" && each.labels.length > 0 ? each.labels[0] : each).getBoundingClientRect();
+return controls.filter((each) => sizeOf(each).width < arguments[0] - 0.5 || sizeOf(each).height < arguments[0] - 0.5)
+  .map((each) => `${each.id || each.textContent || each.localName} in ${each.closest("[id]").id}`)"""
+# Words of two letters and more; those of the text in the editor count, too.
+WORDS = IN_VIEW + """
+let words = 0;
+const walker = document.createTreeWalker(document.body, NodeFilter.SHOW_TEXT);
+for (let node = walker.nextNode(); node; node = walker.nextNode()) {
+  if (!node.parentElement.closest("script, style") && inView(node.parentElement)) {
+    words += node.data.split(/\\s+/).filter((word) => /[A-Za-z]{2}/.test(word)).length;
+  }
+}
+return words"""
+LINES = """
+const room = document.querySelector("#program-editor .cm-scroller").getBoundingClientRect();
+return [...document.querySelectorAll("#program-editor .cm-line")].map((line) => line.getBoundingClientRect())
+  .filter(({ top, bottom }) => top >= room.top && bottom <= room.bottom).length"""
+WHOLE = """
+return arguments[0].filter((id) => {
+  const { top, bottom, left, right } = document.getElementById(id).getBoundingClientRect();
+  return bottom - top > 20 && top >= 0 && left >= 0 && bottom <= innerHeight && right <= innerWidth;
+})"""
+TRACE = """
+const { width, height } = document.getElementById("wave-canvas").getBoundingClientRect();
+return width > 400 && height > 100"""
+TOGETHER = ["processor", "calls", "watched", "breakpoints", "memory"]
+MOST_CONTROLS, MOST_WORDS, LEAST_LINES = 60, 350, 25
+
+
+def check_first_glance(browser, page, at_size):
+    """What a newcomer meets: the debugger's panels together with the source and a trace, few controls and words, and nothing too small."""
+    browser.script("localStorage.clear()")
+    at_size(browser, 1440, 900)
+    open_anew(browser, page)
+    choose_example(browser, "calculator")
+    verdict(f"at most {MOST_CONTROLS} controls are seen", browser.script(CONTROLS) <= MOST_CONTROLS, True)
+    # On a busy machine the status says at first that the tab was busy.
+    comes(browser, f"and at most {MOST_WORDS} words", WORDS.replace("return words", f"return words <= {MOST_WORDS}"), True)
+    verdict("no target is below 24 pixels", browser.script(SMALL, 24), [])
+    stop_time(browser)
+    show_text(browser, "waves")
+    browser.script("document.getElementById('record-where').value = 'before'")
+    browser.click("#record")
+    comes(browser, "a trace is seen", TRACE, True)
+    verdict(f"with {LEAST_LINES} lines of the source", browser.script(LINES) >= LEAST_LINES, True)
+    verdict("and these panels, whole", browser.script(WHOLE, TOGETHER), TOGETHER)
+    show_text(browser, "disassembly")
+    for text in ("board", "wiring", "tests", "properties", "program"):
+        show_text(browser, text)
+        verdict(f"no target is below 24 pixels with {text}", browser.script(SMALL, 24), [])
+
+
+# What moved though nobody had touched anything, if browsers measure more than 0.005 of it: 0 is nothing, 0.1 is much.
+SHIFTS = """
+return new Promise((done) => {
+  let sum = 0;
+  const moved = [];
+  new PerformanceObserver((list) => {
+    for (const { hadRecentInput, value, sources, startTime } of list.getEntries()) {
+      if (hadRecentInput) continue;
+      sum += value;
+      moved.push(`${value.toFixed(4)} at ${Math.round(startTime)} ms: ${sources.map(({ node }) => node && (node.id || node.nodeName)).join(" ")}`);
+    }
+  }).observe({ type: "layout-shift", buffered: true });
+  setTimeout(() => done(sum < 0.005 ? [] : moved), 300);
+})"""
+
+
+def check_shifts(browser, page, at_size):
+    """Nothing moves once it was painted."""
+    for width, height in ((1440, 900), (390, 844)):
+        at_size(browser, width, height, width < 700)
+        browser.go("about:blank")
+        browser.go(f"{page.as_uri()}#example=calculator")
+        until_ready(browser)
+        comes(browser, "the example runs", STATUS, re.compile("^Running"))
+        verdict(f"at {width} nothing moves after the first paint", browser.script(SHIFTS), [])
+    browser.command("Emulation.clearDeviceMetricsOverride")
+
+
+def check_by_finger(browser, at_size):
+    """On a phone and on a tablet what a finger meets has 44 pixels, but cells of values."""
+    browser.command("Emulation.setTouchEmulationEnabled", enabled=True)
+    for width, height in ((390, 844), (820, 1180)):
+        at_size(browser, width, height, True)
+        verdict(f"at {width} a finger meets nothing below 44 pixels", browser.script(SMALL, 44), [])
+    browser.command("Emulation.setTouchEmulationEnabled", enabled=False)
+    browser.command("Emulation.clearDeviceMetricsOverride")

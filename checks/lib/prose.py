@@ -1,0 +1,84 @@
+"""The sentences of a document as a reader meets them, and what is wrong with them: too many words, or a word that has a better one."""
+
+import re
+
+WORDS = 30
+# Words at which a native reader stops, and what to write instead.
+AVOIDED = {
+    r"tells?|told|telling": "report, print, say or show",
+    r"(?:comes?|came) (?:to|about)": "reach or happen",
+    r"beg[ia]ns? to hold": "become true",
+    r"so many": "N, or what is counted",
+    r"go(?:es)? on|went on|going on": "continue or resume",
+    r"(?:of|by) which": "two sentences",
+    r"faults?": "error; of a device, I/O error",
+    r"refus(?:e|es|ed|ing)": "reject",
+    r"(?:is|are|was|were|be|been) taken": "is accepted or is read",
+    r"st(?:and|ands|ood|anding)(?! for\b|-)": "is",
+    r"time (?:runs|is stopped)": "running, paused",
+    r"lamps? (?:is|are) lit": "is on",
+    r"by hand": "manual or manually",
+    r"anew": "again",
+    r"a find|finds of|made short": "counterexample, minimised",
+    r"owed|owes": "a second cycle is pending",
+    r"pinned by sums|(?:a|the) sums? of": "checksum",
+    r"torn? off|tears? off|strips?|(?<!pencil and )paper": "printout, printer tape",
+    r"(?:a|the|each|one) looks?(?!-)": "snapshot",
+    r"as an eye sees": "perceived",
+    r"faces?": "front panel",
+    r"heat(?! map)": "heat map",
+    r"accounts?": "result",
+    r"ways of jumps": "branch directions",
+    r"(?:exactly|only|except) where": "if",
+    r"ha(?:s|ve) to": "must or need not",
+    r"simply|just|of course|note that|please": "nothing",
+    r"\w+n't|(?:it|that|let|here|there)'s|you're": "no contraction",
+}
+BETTER = list(AVOIDED.values())
+ANY_AVOIDED = re.compile("|".join(rf"\b(?P<word{n}>{words})\b" for n, words in enumerate(AVOIDED)), re.I)
+# Sentences that stay as they are, by their beginnings, with the reason.
+EXCEPTIONS = {
+    "*Whatever bytes the shell reads, and wherever the machine stops,": "the headline of PROOF stays word for word",
+}
+# Code, and a list of it, counts as one word.
+CODE = r"`[^`]*`(?:(?:,| and|, and)? \(?`[^`]*`\)?)*"
+# What begins a block of its own: a row, a point, a title.
+BEGINS = r"\s*(?:\||- |\d+\. )|#"
+
+
+def blocks_of(text):
+    """Yields paragraphs, points, cells and titles, each with the number of its first line; not what is shown as it is typed."""
+    block, first, fenced = [], 1, False
+    for number, line in enumerate([*text.splitlines(), ""], 1):
+        is_fence = line.startswith("```")
+        if block and (not line.strip() or is_fence or re.match(BEGINS, line)):
+            yield first, " ".join(block)
+            block = []
+        fenced ^= is_fence
+        if fenced or is_fence or (line.startswith("    ") and not block and not re.match(BEGINS, line)):
+            continue
+        if line.startswith("|"):
+            yield from ((number, cell.strip()) for cell in line.strip("|").split("|"))
+        elif line.strip():
+            first = first if block else number
+            block.append(line.strip() if block else re.sub(r"^(?:- |\d+\. |#+ )", "", line.strip()))
+
+
+def sentences_of(text):
+    """Yields each sentence with the number of its block's first line, without targets of links and what stands behind the dash of a promise."""
+    for number, block in blocks_of(text):
+        plain = re.sub(CODE, "CODE", re.sub(r"\]\([^)]*\)", "]", block)).partition(" \u2014 ")[0]
+        yield from ((number, sentence) for sentence in re.split(r"(?<=[.?!])[*)\"]*\s+", plain))
+
+
+def errors_of(text):
+    """Yields what is wrong with the sentences of a text, with the numbers of their lines."""
+    for number, sentence in sentences_of(text):
+        if sentence.startswith(tuple(EXCEPTIONS)):
+            continue
+        words = len(re.findall(r"\w[\w'/-]*", sentence))
+        if words > WORDS:
+            yield number, f"a sentence of {words} words, with a limit of {WORDS}: {sentence[:60]}.."
+        for found in ANY_AVOIDED.finditer(sentence):
+            near = sentence[max(0, found.start() - 20):found.end() + 20]
+            yield number, f"\"{found[0]}\" in \"{near}\": write {BETTER[int(found.lastgroup.removeprefix('word'))]}"

@@ -1,0 +1,148 @@
+#!/usr/bin/env python3
+"""What the crates give to others: types with their public fields and variants, constants, and calls with the types of their parameters.
+`checks/lib/public_calls.py CRATE..` prints those of some crates, in the form of public_calls.txt, which has those that stay: checks/documents
+compares that list with the sources.
+"""
+
+import functools
+import pathlib
+import re
+import sys
+
+TOP = pathlib.Path(__file__).resolve().parent.parent.parent
+LIST = TOP / "checks/lib/public_calls.txt"
+# Where the head of an item ends: at a clause, at its body, or at a semicolon.
+END = re.compile(r"^\s*(?:requires|ensures|ghost|decreases)\b|[{;]\s*$")
+
+
+def without_comments(text):
+    """A source without comments, attributes and tests."""
+    text = re.sub(r"#\[cfg\(test\)\]\nmod \w+;\n", "", text)
+    return re.sub(r"^\s*(?://.*|#!?\[.*\])\n", "", text, flags=re.M)
+
+
+def parts_of(text):
+    """The parts of a list, cut at the commas outside of brackets."""
+    depth, parts, part = 0, [], ""
+    for before, char in zip(" " + text, text):
+        # the head of an arrow closes no bracket
+        depth += (char in "([{<") - (char in ")]}" or (char == ">" and before != "-"))
+        if char == "," and depth == 0:
+            parts, part = [*parts, part], ""
+        else:
+            part += char
+    return [each.strip() for each in [*parts, part] if each.strip()]
+
+
+def type_of(parameter):
+    """The type of a parameter: without its name."""
+    return parameter if re.match(r"(?:&(?:'\w+ )?)?(?:mut )?self$", parameter) else parameter.split(": ", 1)[1]
+
+
+def call_of(head):
+    """A call, from the head of its function: its name, the types of its parameters, and that of its result."""
+    head = re.sub(r"\s+", " ", head).strip()
+    name, _, rest = re.sub(r"^(?:pub )?(?:const )?fn ", "", head).partition("(")
+    end = next(at for at in range(len(rest)) if rest[:at + 1].count(")") > rest[:at + 1].count("("))
+    return f"{name}({', '.join(type_of(each) for each in parts_of(rest[:end]))}){rest[end + 1:]}"
+
+
+def head_at(lines, at):
+    """The head of the function that begins at a line."""
+    head = []
+    for line in lines[at:]:
+        end = END.search(line)
+        if end and not re.match(r"^\s*(?:requires|ensures|ghost|decreases)\b", line):
+            head.append(line[:end.start()])
+        if end:
+            break
+        head.append(line)
+    return " ".join(head)
+
+
+def block_at(lines, at):
+    """The lines of the block that begins at a line of no indentation."""
+    return lines[at + 1:next(end for end in range(at, len(lines)) if lines[end].startswith("}"))]
+
+
+def calls_in(lines, at, form):
+    """The calls of a block."""
+    block = block_at(lines, at)
+    return [call_of(head_at(block, number)) for number, line in enumerate(block) if re.match(rf"    {form}fn ", line)]
+
+
+def fields_of(lines, at):
+    """The variants of an enum, or the public fields of a struct."""
+    if lines[at].endswith(";"):
+        # a struct without names for its fields
+        return [lines[at][lines[at].index("("):-1]] if "(" in lines[at] else []
+    body = re.sub(r"\s+", " ", " ".join(block_at(lines, at)))
+    return [part.removeprefix("pub ") for part in parts_of(body) if " enum " in f" {lines[at]} " or part.startswith("pub ")]
+
+
+@functools.cache
+def items_of_file(path):
+    """What a file declares as public: pairs of a name, and what others see of it."""
+    lines = without_comments(path.read_text()).splitlines()
+    items = []
+    for at, line in enumerate(lines):
+        if found := re.match(r"pub (?:enum|struct) (\w+)", line):
+            fields = fields_of(lines, at)
+            head = re.sub(r"\s+", " ", head_at(lines, at)).partition("(")[0].partition(" where ")[0].strip().removeprefix("pub ")
+            items.append((found[1], head + (": " + ", ".join(fields) if fields else "")))
+        elif found := re.match(r"pub (?:const|type) (\w+)", line):
+            items.append((found[1], re.sub(r"\s+", " ", head_at(lines, at)).removeprefix("pub ").strip()))
+        elif found := re.match(r"pub trait (\w+)", line):
+            items += [(found[1], f"{found[1]}::{call}") for call in calls_in(lines, at, "")]
+        elif found := re.match(r"impl(?:<.*?>)? (?:(\w+)(?:<.*>)? for )?(\w+)", line):
+            if found[1]:
+                items.append((found[2], f"impl {found[1]} for {found[2]}"))
+            else:
+                items += [(found[2], f"{found[2]}::{call}") for call in calls_in(lines, at, "pub (?:const )?")]
+        elif found := re.match(r"pub (?:const )?fn (\w+)", line):
+            items.append((found[1], call_of(head_at(lines, at))))
+    return items
+
+
+def handed_on(text):
+    """What the `pub use` of a root file hand on: pairs of the first word of a path and a name."""
+    for path, names in re.findall(r"^pub use ((?:\w+::)*)(\{[^}]*\}|\w+);", text, re.M):
+        for name in re.findall(r"\w+", names):
+            yield path.partition("::")[0], name
+
+
+def calls_of(crate):
+    """What a crate gives to others, each as a line."""
+    source = TOP / "crates" / crate / "src"
+    text = without_comments((source / "lib.rt").read_text())
+    open_modules = set(re.findall(r"^pub mod (\w+);", text, re.M)) | {"lib"}
+    named = set(handed_on(text))
+    names = {name for _, name in named}
+    for path in sorted(source.rglob("*.rt")):
+        yield from (line for name, line in items_of_file(path) if path.stem in open_modules or name in names)
+    yield from (f"use {name}" for first, name in named if not (source / f"{first}.rt").exists())
+
+
+def kept():
+    """The list: for each crate its lines."""
+    crates = {}
+    for line in LIST.read_text().splitlines():
+        if line.startswith("    "):
+            lines.append(line.strip())
+        elif line and not line.startswith("#"):
+            lines = crates.setdefault(line, [])
+    return crates
+
+
+def missing():
+    """Lines of the list that no longer are what a crate gives: each with its crate."""
+    for crate, lines in kept().items():
+        given = set(calls_of(crate))
+        yield from ((crate, line) for line in lines if line not in given)
+
+
+if __name__ == "__main__":
+    for each in sys.argv[1:]:
+        print(each)
+        for said in calls_of(each):
+            print(f"    {said}")

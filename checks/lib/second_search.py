@@ -1,0 +1,255 @@
+"""A second reading of mcs4-prove over the board of board4004.py: breadth-first through all that a machine can do, whatever its keys and its TEST pin
+do, and what is met on the way. It shares no line with the program.
+
+A state is all that a machine holds but its inputs. It stands at power-on, then where the next cycle reads an input, RDR or JCN with TEST, or where
+a stretch without such a read is cut after so many cycles. From a state it goes on once for each value that its next cycle can read, at keys and
+TEST that give this value, to the next state, or to where it holds again what it held there; conditions are looked at after each cycle.
+"""
+
+from __future__ import annotations
+
+import random
+from collections.abc import Callable, Iterable
+from dataclasses import dataclass, field
+
+import bench4004
+from board4004 import CODES, Board
+
+# A comparison, in the words of a question: `in` or `out`, the list, the index, the part, the lowest and the highest number.
+Comparison = tuple[str, str, int, str, int, int]
+# The keys that are down, by row and column, and the level of TEST.
+Levels = tuple[frozenset[tuple[int, int]], int]
+Condition = Callable[[Board], bool]
+NO_LEVELS: Levels = (frozenset(), 1)
+
+
+@dataclass
+class Question:
+    """A board and a program, what is never to be met, all comparisons of a row at once, at most how many states, and where a stretch is cut."""
+
+    board: list[str]
+    program: list[str]
+    nevers: list[list[Comparison]] = field(default_factory=list)
+    most: int = 1000000
+    pause: int = 1000000
+
+    def lines(self) -> list[str]:
+        """The question as the program reads it."""
+        nevers = [line for row in self.nevers for line in ("never", *(" ".join(map(str, words)) for words in row))]
+        return [f"most {self.most}", f"pause {self.pause}", *self.begun(), *nevers, "prove"]
+
+    def begun(self) -> list[str]:
+        """The lines that make a session of it."""
+        return ["wire", *self.board, ".", "asm", *self.program, "."]
+
+
+@dataclass
+class Found:
+    """A verdict: `holds`, `may fail` or `too many`; how many states were found; the values on the way to where it fails."""
+
+    verdict: str
+    states: int
+    way: list[int] = field(default_factory=list)
+
+    def answer(self) -> str:
+        """The line that the program answers."""
+        return {"holds": f"holds {self.states}", "may fail": " ".join(["may fail", *map(str, self.way)])}.get(self.verdict, self.verdict)
+
+
+# ---- what is looked at
+
+def addresses(board: Board) -> list[int]:
+    """The counter and the return addresses, each in two bytes."""
+    return [half for address in (board.pc, *board.ret) for half in divmod(address, 256)]
+
+
+def cell(board: Board, name: str, index: int) -> int:
+    """The number that a cell of a list holds; 0 where the board lacks it."""
+    chips = board.chips
+    if name.startswith("chain"):
+        chain = chips.chains[int(name[5:])] if int(name[5:]) < len(chips.chains) else []
+        return chain[index] if index < len(chain) else 0
+    return {
+        "character": lambda: chips.ram[index // 256][index % 256],
+        "status": lambda: chips.status[index // 64][index // 4 % 16][index % 4],
+        "ramport": lambda: chips.ram_latch.get((index // 4, index % 4), 0),
+        "romport": lambda: chips.rom_latch.get(index, 0),
+        "banksrc": lambda: chips.bank_src[index],
+        "register": lambda: board.r[index],
+        "counter": lambda: [board.acc, board.cy, board.dcl, board.owed, *addresses(board), chips.rom_src][index],
+    }[name]()
+
+
+def is_met(board: Board, comparison: Comparison) -> bool:
+    """Whether a comparison is met."""
+    way, name, index, part, low, high = comparison
+    number = cell(board, name, index)
+    if part != "whole":
+        number = number >> int(part[4:]) & 1
+    return (low <= number <= high) == (way == "in")
+
+
+def condition_of(nevers: list[list[Comparison]]) -> Condition:
+    """Whether a row of comparisons is met all at once."""
+    return lambda board: any(all(is_met(board, each) for each in row) for row in nevers)
+
+
+# ---- what a machine reads
+
+def begins(board: Board) -> tuple[str, int]:
+    """The instruction whose work the next cycle does, and its lower half; no name where it does none."""
+    return ("", 0) if board.owed or board.is_outside() else CODES[board.rom[board.pc]]
+
+
+def is_reading(board: Board) -> bool:
+    """Whether the next cycle reads an input."""
+    name, low = begins(board)
+    return name == "RDR" or (name == "JCN" and low % 2 == 1)
+
+
+def port_values(board: Board) -> dict[int, Levels]:
+    """The values that RDR can read, each with keys that give it. Keys add up: what two of them pull is pulled by both together."""
+    chips = board.chips
+    port = chips.rom_src >> 4
+
+    def value_at(down: Iterable[tuple[int, int]]) -> int:
+        chips.down = set(down)
+        return chips.read_port(port)
+
+    keys = [(row, column) for row in range(chips.keys["rows"]) for column in range(len(chips.columns))]
+    alone = {value_at([key]): key for key in keys}
+    values = {value_at([]): NO_LEVELS}
+    for key in alone.values():
+        for down, _test in list(values.values()):
+            together = down | {key}
+            values.setdefault(value_at(together), (together, 1))
+    return values
+
+
+def values_read(board: Board) -> dict[int, Levels]:
+    """The values that the next cycle can read, each with levels that give it; 0 alone where it reads none."""
+    name, low = begins(board)
+    if name == "RDR":
+        return port_values(board)
+    return {0: (frozenset(), 0), 1: (frozenset(), 1)} if name == "JCN" and low % 2 == 1 else {0: NO_LEVELS}
+
+
+# ---- from state to state
+
+def saved(board: Board) -> tuple:
+    """All that a machine holds but its inputs."""
+    chips = board.chips
+    return (board.acc, board.cy, board.pc, board.dcl, board.owed, tuple(board.r), tuple(board.ret), chips.rom_src, tuple(chips.bank_src),
+            tuple(chips.rom_latch.values()), tuple(chips.ram_latch.values()), tuple(map(tuple, chips.chains)),
+            tuple((bytes(chips.ram[bank]), *map(bytes, chips.status[bank])) for bank in sorted(chips.chips)))
+
+
+def load(board: Board, state: tuple) -> None:
+    """Makes a machine hold this."""
+    chips = board.chips
+    board.acc, board.cy, board.pc, board.dcl, board.owed, r, ret, chips.rom_src, srcs, roms, rams, chains, banks = state
+    board.r, board.ret, chips.bank_src, chips.chains = list(r), list(ret), list(srcs), [list(chain) for chain in chains]
+    chips.rom_latch, chips.ram_latch = dict(zip(chips.rom_latch, roms)), dict(zip(chips.ram_latch, rams))
+    for bank, (characters, *status) in zip(sorted(chips.chips), banks):
+        chips.ram[bank], chips.status[bank] = bytearray(characters), list(map(bytearray, status))
+
+
+def go_on(board: Board, levels: Levels, is_bad: Condition, pause: int) -> tuple[int, bool]:
+    """One cycle at these levels, then up to the next state: how many cycles, and whether what is never to be was met after the last."""
+    board.chips.down, board.test = set(levels[0]), levels[1]
+    at, state = board.pc, saved(board)
+    for cycles in range(1, pause + 2):
+        if not board.owed and board.is_outside():
+            # Nothing changes any more.
+            return cycles - 1, False
+        board.cycle()
+        if is_bad(board):
+            return cycles, True
+        if is_reading(board) or board.pc == at and saved(board) == state:
+            return cycles, False
+    return pause + 1, False
+
+
+def power_on(question: Question) -> Board:
+    """The machine of a question."""
+    board = Board()
+    board.wire("\n".join(question.board))
+    bench4004.load(board, question.program)
+    board.power_on()
+    return board
+
+
+def search(question: Question) -> Found:
+    """What comes of a question."""
+    board, is_bad = power_on(question), condition_of(question.nevers)
+    if is_bad(board):
+        return Found("may fail", 1)
+    if question.most < 1:
+        return Found("too many", 1)
+    states, came, known = [saved(board)], [(0, 0)], {saved(board)}
+    for at, state in enumerate(states):
+        load(board, state)
+        for value, levels in sorted(values_read(board).items()):
+            load(board, state)
+            if go_on(board, levels, is_bad, question.pause)[1]:
+                return Found("may fail", len(states), [*way_to(came, at), value])
+            there = saved(board)
+            if there not in known:
+                if len(states) == question.most:
+                    return Found("too many", len(states) + 1)
+                known.add(there)
+                states.append(there)
+                came.append((at, value))
+    return Found("holds", len(states))
+
+
+def way_to(came: list[tuple[int, int]], at: int) -> list[int]:
+    """The values that led to a state."""
+    way = []
+    while at:
+        at, value = came[at]
+        way.append(value)
+    return way[::-1]
+
+
+def is_met_when_driven(question: Question, chance: random.Random, cycles: int) -> bool:
+    """Whether what is never to be is met within so many cycles, before each of which keys and TEST are put at any levels."""
+    board, is_bad = power_on(question), condition_of(question.nevers)
+    chips = board.chips
+    for _cycle in range(cycles):
+        if is_bad(board):
+            return True
+        chips.down = {(row, column) for row in range(chips.keys["rows"]) for column in range(len(chips.columns)) if chance.random() < 0.1}
+        board.test = chance.randrange(2)
+        if board.owed or not board.is_outside():
+            board.cycle()
+    return is_bad(board)
+
+
+# ---- a way, replayed
+
+def commands(levels: Levels, before: Levels) -> list[str]:
+    """The lines of a session that bring keys and TEST to these levels."""
+    lines = [f"release {row} {column}" for row, column in sorted(before[0] - levels[0])]
+    lines += [f"press {row} {column}" for row, column in sorted(levels[0] - before[0])]
+    return lines + ([f"test {levels[1]}"] if levels[1] != before[1] else [])
+
+
+def replayed(question: Question, way: list[int]) -> tuple[list[str], str]:
+    """A way as lines of a session, up to the cycle after which it meets what is never to be; or what is wrong with it."""
+    board, is_bad, before = power_on(question), condition_of(question.nevers), NO_LEVELS
+    lines, bad = [*question.begun(), "reset"], is_bad(board)
+    for n, value in enumerate(way):
+        values = values_read(board)
+        if bad or value not in values:
+            return lines, f"value {n + 1} of the way {way}: " + ("it is met before" if bad else f"only {sorted(values)} can be read at {board.pc:03X}")
+        levels = values[value]
+        cycles, bad = go_on(board, levels, is_bad, question.pause)
+        lines += commands(levels, before) + [f"run {part}" for part in parts_of(cycles)]
+        before = levels
+    return lines, "" if bad else f"nothing is met on the way {way}"
+
+
+def parts_of(cycles: int, most: int = 100000) -> list[int]:
+    """Cycles as runs that a session takes."""
+    return [min(most, cycles - done) for done in range(0, cycles, most)]

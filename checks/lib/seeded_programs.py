@@ -1,0 +1,73 @@
+"""Programs that checks try: those of the examples, and seeded ones, of which most have no fault and some have one or more.
+
+Called as a program, it writes seeded ones into a folder, each as `NUMBER.asm`: so many that the assembler of the checks accepts, and among
+them so many that it refuses: `seeded_programs.py FOLDER ACCEPTED REFUSED`.
+"""
+
+import itertools
+import pathlib
+import random
+import sys
+
+from assembler import map_of
+
+TOP = pathlib.Path(__file__).resolve().parent.parent.parent
+
+
+def examples():
+    """The examples' programs: files of their own, and texts after `asm` in scripts."""
+    for path in sorted(TOP.glob("examples/**/*.asm")):
+        yield path.name, path.read_text().splitlines()
+    for path in sorted(TOP.glob("examples/**/*.txt")):
+        lines = path.read_text().splitlines()
+        for begin in [i + 1 for i, line in enumerate(lines) if line.strip() == "asm"]:
+            yield path.name, lines[begin:lines.index(".", begin)]
+
+
+def seeded(number):
+    """A program by a generator: most have no fault, some have one or more."""
+    chance = random.Random(number)
+    names = [f"n{i}" for i in range(8)]
+    # A name is defined where it is used alone, so that most programs are taken.
+    free = list(names)
+    chance.shuffle(free)
+
+    def value(most):
+        return chance.choice([str(chance.randrange(most + 1)), f"0x{chance.randrange(most + 1):x}"])
+
+    def target():
+        return chance.choice([*names, value(300)]) if chance.random() < 0.7 else value(300)
+
+    def line():
+        told = chance.choice(["NOP", "wrr", "ADD R3", "Src p1", "", f"LDM {value(15)}", f"FIM P2, {value(255)}", f"JUN {target()}",
+                              f"JMS {target()}", f"ISZ r4, {value(255)}", f"JCN 4, {value(255)}",
+                              "DB " + ", ".join(value(255) for _ in range(chance.randrange(1, 9)))])
+        if chance.random() < 0.02:
+            told = chance.choice(["ORG 4096", "LDM 16", "DB 256", "DB", "NOP NOP", "ORG 4095", "JUN nowhere", "ORG 0", "n0 = 4096", "R1: NOP"])
+        if chance.random() < 0.06:
+            told = f"ORG {chance.randrange(0, 4000)}"
+        if free and chance.random() < 0.15:
+            name = free.pop()
+            told = f"{name}: {told}" if chance.random() < 0.8 else f"{name} = {value(4095)}"
+        return chance.choice(["", " ", "\t"]) + told + chance.choice(["", "", " ; a comment", "\t;"])
+
+    lines = [line() for _ in range(chance.randrange(1, 60))]
+    return lines + [f"{name}:" for name in free if chance.random() < 0.98]
+
+
+def main():
+    folder, left = pathlib.Path(sys.argv[1]), {True: int(sys.argv[2]), False: int(sys.argv[3])}
+    number = 0
+    for seed in itertools.count():
+        if max(left.values()) == 0:
+            break
+        lines = seeded(seed)
+        is_accepted = not map_of(lines)[0].startswith("no ")
+        if left[is_accepted] > 0:
+            left[is_accepted] -= 1
+            (folder / f"{number}.asm").write_text("".join(f"{line}\n" for line in lines))
+            number += 1
+
+
+if __name__ == "__main__":
+    main()

@@ -1,0 +1,140 @@
+"""Questions to mcs4-prove by a generator, the same from the same number: a seeded board (seeded_boards.py), a short program that reads keys and TEST in
+loops, and comparisons of what such a program changes; some of them are met, some never.
+"""
+
+from __future__ import annotations
+
+import random
+from collections.abc import Iterator
+
+from assembler import ALONE
+from board4004 import Board
+from second_search import Comparison, Question, cell, go_on, power_on, values_read
+from seeded_boards import OUTSIDE, Program, Seeded, Wiring
+
+# Most of what is not done with a chip.
+HANDY = ["CLB", "CLC", "IAC", "CMC", "CMA", "RAL", "RAR", "TCC", "DAC", "TCS", "STC", "DAA", "KBP"]
+LENGTHS = {"character": 2048, "status": 512, "ramport": 32, "romport": 16, "banksrc": 8, "register": 16, "counter": 13,
+           "chain0": 256, "chain1": 256, "chain2": 256, "chain3": 256}
+# How many states a walk that looks for numbers passes at most.
+WALK = 12
+
+
+class Asking(Program):
+    """A short program that asks for keys and TEST again and again."""
+
+    def __init__(self, chance: random.Random, wiring: Wiring) -> None:
+        self.chance, self.wiring = chance, wiring
+        self.statements, self.loops, self.names = {}, {}, {}
+        self.free = set(range(0x1000))
+        self.registers = chance.sample(range(16), 2)
+        told = [word for _n in range(chance.randrange(0, 3)) for word in self.prepared()]
+        told += [word for _n in range(chance.randrange(2, 7)) for word in self.asked()]
+        ends = [["JUN"]] * 8 + [["BBL 3"], [f"DB 0x{chance.choice(OUTSIDE):02X}"], []]
+        self.put(0, told + chance.choice(ends))
+        self.begins = [at for at, statement in self.statements.items() if not statement.startswith("DB")]
+
+    def prepared(self) -> list[str]:
+        """Phrases before the loop: a chain takes in bits, or a port gets a value."""
+        if self.wiring.chains and self.chance.random() < 0.8:
+            clock, data, _chips = self.chance.choice([self.wiring.chains[self.wiring.driver], self.chance.choice(self.wiring.chains)])
+            return self.pulses(clock, data)
+        return self.selected_by(self.chance.randrange(8)) + [f"LDM {self.chance.randrange(16)}", self.chance.choice(["WRR", "WMP", "WRM", "WR1"])]
+
+    def pulses(self, clock: str, data: str) -> list[str]:
+        """A chain is clocked, mostly with its data line at 1."""
+        numbers = [int(word) for word in clock[3:].split(".")]
+        pair = self.chance.randrange(8)
+        begin = [f"FIM P{pair}, 0x{16 * numbers[0] if clock.startswith('rom') else 64 * numbers[1]:02X}", f"SRC P{pair}"]
+        if clock.startswith("ram"):
+            begin = [f"LDM {numbers[0]}", "DCL", *begin]
+        write = "WRR" if clock.startswith("rom") else "WMP"
+        one = 1 << int(data[-1]) if self.chance.random() < 0.7 else 0
+        return begin + self.chance.randrange(1, 4) * [f"LDM {one}", write, f"LDM {one | 1 << numbers[-1]}", write]
+
+    def selected_by(self, pair: int) -> list[str]:
+        """A chip is selected, mostly one with inputs."""
+        inputs = [16 * int(line[3:].split(".")[0]) for line in self.wiring.inputs]
+        return [f"FIM P{pair}, 0x{self.chance.choice(inputs) if inputs and self.chance.random() < 0.8 else self.selected():02X}", f"SRC P{pair}"]
+
+    def asked(self) -> list[str]:
+        """Phrases of the loop."""
+        chance = self.chance
+        register = chance.choice(self.registers)
+        kind = chance.random()
+        if kind < 0.30:
+            return self.selected_by(chance.randrange(8)) + ["RDR"] + self.used(register)
+        if kind < 0.55:
+            return [f"JCN {chance.choice([1, 1, 9, 9, 3, 5, 7, 11, 13, 15])}", *self.used(register)]
+        if kind < 0.65:
+            return [f"INC R{register}"] if chance.random() < 0.5 else [f"ISZ R{register}"]
+        if kind < 0.75:
+            return self.prepared()
+        if kind < 0.80:
+            return [chance.choice(["JMS", "BBL 1", f"LDM {chance.randrange(16)}", "JUN"])]
+        if kind < 0.88:
+            return [chance.choice(["RDM", "ADM", "SBM", "RD0", "RD1"]), *self.used(register)]
+        return [self.any_instruction(register, register // 2)] if chance.random() < 0.3 else [chance.choice(HANDY)]
+
+    def used(self, register: int) -> list[str]:
+        """What is done with a value that was read."""
+        chance = self.chance
+        written = [name for name in ALONE if name.startswith("W") and name != "WPM"]
+        return chance.choice([
+            [], ["KBP"], [f"XCH R{register}"], [chance.choice(written)], [chance.choice(written)], [f"JCN {chance.choice([4, 12])}"],
+            ["RAR", f"JCN {chance.choice([2, 10])}"], [f"ADD R{register}"], [chance.choice(HANDY)], [f"INC R{register}"], ["RAR", "TCC", "WMP"]])
+
+
+def walked(question: Question, chance: random.Random) -> Iterator[Board]:
+    """The machine at some states of one way, by any values."""
+    board = power_on(question)
+    yield board
+    for _n in range(chance.randrange(WALK)):
+        values = values_read(board)
+        go_on(board, values[chance.choice(sorted(values))], lambda _board: False, min(question.pause, 50))
+        yield board
+
+
+def cells_of(wiring: Wiring) -> list[tuple[str, int]]:
+    """Cells that are worth a look: registers, ports, a few of RAM and chains; some of chips that are not there."""
+    cells = [("register", k) for k in range(16)] + [("counter", k) for k in range(13)]
+    cells += [("romport", chip) for chip in wiring.ports] + [("banksrc", bank) for bank in wiring.banks]
+    cells += [("ramport", 4 * bank + chip) for bank, chips in wiring.banks.items() for chip in range(chips)]
+    cells += [("character", 256 * bank + src) for bank in wiring.banks for src in (0, 16, 64, 17)]
+    cells += [("status", 64 * bank + 4 * high + k) for bank in wiring.banks for high in (0, 1) for k in range(4)]
+    return cells + [(f"chain{n}", bit) for n in range(len(wiring.chains)) for bit in range(4)]
+
+
+def comparison(chance: random.Random, wiring: Wiring, boards: list[dict[tuple[str, int], int]]) -> Comparison:
+    """A comparison, mostly of a cell that changes on the way, with a number that it has there or another one."""
+    name, index = chance.choice(cells_of(wiring))
+    changing = [each for each in boards[0] if len({seen[each] for seen in boards}) > 1]
+    if changing and chance.random() < 0.8:
+        name, index = chance.choice(changing)
+    elif chance.random() < 0.1:
+        name = chance.choice([*LENGTHS])
+        index = chance.randrange(LENGTHS[name])
+    numbers = [seen.get((name, index), 0) for seen in boards]
+    others = [number for number in numbers if number != numbers[0]] or numbers
+    number = chance.choice(others) if chance.random() < 0.5 else chance.randrange(256 if name == "counter" else 16)
+    if chance.random() < 0.3:
+        k = chance.randrange(4)
+        return chance.choice(["in", "out"]), name, index, f"line{k}", *[chance.choice([1 - (numbers[0] >> k & 1), chance.randrange(2)])] * 2
+    width = chance.choice([0, 0, 0, 1, 5])
+    return ("in", name, index, "whole", number, min(number + width, 255)) if chance.random() < 0.85 else ("out", name, index, "whole", 0, number)
+
+
+def seeded_question(seed: int, most: int) -> Question:
+    """A question; of each eight one has a long program of any instructions."""
+    chance = random.Random(seed)
+    if seed % 8 == 7:
+        seeded = Seeded(seed)
+        wiring, question = seeded.wiring, Question(seeded.board_text, seeded.program_text)
+    else:
+        wiring = Wiring(chance)
+        question = Question(wiring.text(), Asking(chance, wiring).text())
+    question.most, question.pause = most, chance.choice([1, 2, 7, 30, 100, 300])
+    cells = cells_of(wiring)
+    boards = [{each: cell(board, *each) for each in cells} for board in walked(question, chance)]
+    question.nevers = [[comparison(chance, wiring, boards) for _each in range(chance.choice([1, 2, 2, 3]))] for _row in range(chance.choice([0, 1, 1, 1, 2]))]
+    return question

@@ -1,0 +1,317 @@
+#!/usr/bin/env python3
+"""Runs the checks side by side: `checks/lib/side_by_side.py checks|long|quick FOLDER`, for ./test, which sets MCS4, the program that is checked.
+
+As many checks run at a time as there are processors, the longest first. Checks that measure, that type at a terminal, or that need the machine, run at the
+end, one after another. The output of a check comes in one piece when the check has ended. At a terminal a line says what is running and how long the
+rest takes, from the times of the last run (in the cache folder) or from the table below. Root gets missing packages by apt-get; otherwise the
+check counts as not run. A process that a check leaves is ended. FOLDER/summed gets the numbers of verdicts that passed and failed, and
+FOLDER/left_out the lines 'not run: ..'.
+
+Status 0: all checks have ended, whatever they found. 130: interrupted; what had passed is printed.
+"""
+
+import argparse
+import json
+import os
+import pathlib
+import re
+import shlex
+import shutil
+import signal
+import subprocess
+import sys
+import time
+from dataclasses import dataclass, field
+
+sys.dont_write_bytecode = True
+TOP = pathlib.Path(__file__).resolve().parent.parent.parent
+CACHE = pathlib.Path(os.environ.get("XDG_CACHE_HOME") or pathlib.Path.home() / ".cache") / "fethsaim/check_seconds.json"
+# The least time that a check gets, and how many times its usual one.
+LEAST, TIMES = 900, 5
+PATIENCE = 5
+SUMMED = re.compile(r"^(\d+) passed, (\d+) failed", re.M)
+
+# Debian's packages that have a command, or a file; a command that is not here is in the package of its name.
+PACKAGES = {
+    "aarch64-linux-gnu-gcc": "gcc-aarch64-linux-gnu",
+    "/usr/aarch64-linux-gnu/lib/libc.a": "libc6-dev-arm64-cross",
+    "cc": "gcc libc6-dev",
+    "node": "nodejs",
+    "nvim": "neovim",
+    "tsc": "node-typescript",
+    "prove": "perl",
+    "flock": "util-linux",
+    "vcd2fst": "gtkwave",
+}
+
+
+@dataclass(frozen=True)
+class Check:
+    """A script of checks/: the commands and files that it needs, and those that parts of it need; its usual seconds; its words, by mode if they
+    differ; if it runs alone."""
+
+    name: str
+    needs: str = ""
+    seconds: int = 10
+    words: str = ""
+    long: str | None = None
+    quick: str | None = None
+    alone: bool = False
+    parts_need: str = ""
+
+    def command(self, mode):
+        words = self.long if mode == "long" and self.long is not None else self.quick if mode == "quick" else self.words
+        # The page's module is compiled again where the kit is.
+        return [f"checks/{self.name}", *(word for word in shlex.split(words or "") if word != "--anew" or shutil.which("rt"))]
+
+    def title(self, mode):
+        return " ".join(self.command(mode))
+
+    def limit(self):
+        """The seconds after which it is ended."""
+        return int(os.environ.get("CHECK_SECONDS", LEAST + TIMES * self.seconds))
+
+
+CHECKS = [
+    Check("page", "python3 node esbuild", 700, "--scripts 100", long="--scripts 400 --anew", quick="--only layout use --browser Chromium"),
+    Check("explore", "node parallel", 230, "3", long="60"),
+    Check("power", "python3 cc", 240, "--seconds 240", long="--long", alone=True),
+    Check("installed", "prove flock lintian zsh fish", 300),
+    Check("page_source", "python3 node", 120, parts_need="tsc eslint esbuild", quick=""),
+    Check("tools", "flock", 120),
+    Check("allocations", "cc", 60),
+    Check("assembler", "python3", 60, "300", long="2000", quick="30"),
+    Check("time", "python3", 60, "300 30", long="2000 200", quick="30 5"),
+    Check("prove", "python3", 40, "200", long="2000", quick="30"),
+    Check("calculator", "", 60, "300", long="2000", quick="30"),
+    Check("hostile", "python3", 60, quick=""),
+    Check("host", "cc", 50),
+    Check("runs", "python3", 50, quick=""),
+    Check("locks", "", 45, "100", long="1000", alone=True),
+    Check("testing", "prove", 40, quick=""),
+    Check("aarch64", "aarch64-linux-gnu-gcc /usr/aarch64-linux-gnu/lib/libc.a", 40),
+    Check("project", "node", 30, quick=""),
+    Check("scripts", "python3", 30, quick=""),
+    Check("panel", "tmux node", 30, alone=True),
+    Check("session_prompt", "python3 node", 60, quick="", alone=True),
+    Check("prompt", "python3 node", 30, quick="", alone=True),
+    Check("waves", "vcd2fst sigrok-cli sox", 25),
+    Check("shipped", "", 25, quick=""),
+    Check("stopped", "python3", 25),
+    Check("editors", "node nvim", 20, quick=""),
+    Check("debugging", "node", 20, quick=""),
+    Check("grammars", "python3 node nvim esbuild", 20, quick=""),
+    Check("back", "flock", 20, quick=""),
+    Check("documents", "python3", 15, quick=""),
+    Check("sizes", "python3", 10, quick=""),
+    Check("memory", "", 5, quick=""),
+]
+
+
+@dataclass
+class Running:
+    """A check that runs: its process, the file of its output, and when it began. Its mark is in the environment of all that it starts."""
+
+    check: Check
+    process: subprocess.Popen
+    output: pathlib.Path
+    mark: str
+    begun: float = field(default_factory=time.monotonic)
+
+    def seconds(self):
+        return time.monotonic() - self.begun
+
+
+def is_there(need):
+    """Whether a command, or a file that is named by its path, is there."""
+    return pathlib.Path(need).exists() if need.startswith("/") else shutil.which(need) is not None
+
+
+def install(checks):
+    """Root gets the packages that these checks lack, by one apt-get."""
+    lacking = sorted({PACKAGES.get(need, need) for check in checks for need in f"{check.needs} {check.parts_need}".split() if not is_there(need)})
+    if not lacking or os.geteuid() != 0 or not shutil.which("apt-get"):
+        return
+    print(f"test: apt-get installs {' '.join(lacking)}", flush=True)
+    quiet = {"stdin": subprocess.DEVNULL, "stdout": subprocess.DEVNULL, "stderr": subprocess.DEVNULL, "check": False}
+    subprocess.run(["apt-get", "update"], **quiet)
+    for packages in lacking:
+        subprocess.run(["apt-get", "install", "-y", "--no-install-recommends", *packages.split()], **quiet)
+
+
+def processes_with(mark):
+    """The processes that have this mark in their environment."""
+    found = []
+    for folder in pathlib.Path("/proc").glob("[0-9]*"):
+        try:
+            if f"CHECK_MARK={mark}".encode() in (folder / "environ").read_bytes().split(b"\0"):
+                found.append(int(folder.name))
+        except OSError:
+            continue
+    return found
+
+
+def command_of(process):
+    """What a process was started with."""
+    try:
+        return pathlib.Path(f"/proc/{process}/cmdline").read_bytes().replace(b"\0", b" ").decode(errors="replace")
+    except OSError:
+        return "(ended)"
+
+
+def end_processes(mark):
+    """Ends what a check has left: asks twice, so that it can clean up, then forces it."""
+    for number in (signal.SIGINT, signal.SIGTERM, signal.SIGKILL):
+        end = time.monotonic() + PATIENCE
+        found = processes_with(mark)
+        for process in found:
+            try:
+                os.kill(process, number)
+            except OSError:
+                continue
+        while found and time.monotonic() < end:
+            found = processes_with(mark)
+            time.sleep(0.05)
+        if not found:
+            return
+
+
+class Run:
+    """All checks of a mode, on their way."""
+
+    def __init__(self, mode, folder):
+        self.mode = mode
+        self.folder = folder
+        self.checks = [check for check in CHECKS if mode != "quick" or check.quick is not None]
+        self.usual = {**{check.name: check.seconds for check in CHECKS}, **times_before(mode)}
+        self.running, self.ended, self.times = [], [], {}
+        self.passed = self.failed = 0
+        self.left_out = []
+
+    def start(self, check):
+        """Starts a check, or notes that it is not run."""
+        lacking = [PACKAGES.get(need, need) for need in check.needs.split() if not is_there(need)]
+        if lacking:
+            self.left_out.append(f"not run: checks/{check.name} (Debian's packages: {' '.join(lacking)})")
+            self.ended.append(check)
+            self.show(f"== {check.title(self.mode)}\n{self.left_out[-1]}")
+            return
+        output = self.folder / f"output.{check.name}"
+        mark = f"{os.getpid()}.{check.name}"
+        with output.open("wb") as file:
+            # Signals that this process ignores, as in the background, are served by a check: env gives them back.
+            process = subprocess.Popen(["env", "--default-signal=INT,QUIT", *check.command(self.mode)], cwd=TOP, env={**os.environ, "CHECK_MARK": mark},
+                                       stdin=subprocess.DEVNULL, stdout=file, stderr=subprocess.STDOUT)
+        self.running.append(Running(check, process, output, mark))
+
+    def end(self, each):
+        """Counts what a check has found, and shows its output."""
+        self.running.remove(each)
+        end_processes(each.mark)
+        self.ended.append(each.check)
+        status, seconds = each.process.returncode, each.seconds()
+        text = each.output.read_text(errors="replace")
+        sums = SUMMED.findall(text)
+        passed, failed = map(int, sums[-1]) if sums else (0, 1)
+        self.passed += passed
+        self.failed += failed if status == 0 or failed else 1
+        self.left_out += re.findall(r"^not run: .*$", text, re.M)
+        if sums:
+            self.times[each.check.name] = seconds
+        self.show(f"== {each.check.title(self.mode)}\n{text}checks/{each.check.name} took {seconds:.0f} s")
+
+    def turn(self, waiting, most):
+        """Ends the checks that are over, and starts others in their places."""
+        for each in list(self.running):
+            if each.process.poll() is None and each.seconds() > each.check.limit():
+                with each.output.open("a") as file:
+                    file.write(f"checks/{each.check.name}: not done after {each.check.limit()} s. It was running:\n")
+                    file.writelines(f"  {command_of(process)}\n" for process in processes_with(each.mark))
+                end_processes(each.mark)
+                each.process.wait()
+            if each.process.poll() is not None:
+                self.end(each)
+        while waiting and len(self.running) < most:
+            self.start(waiting.pop(0))
+
+    def serve(self, waiting, most):
+        """Runs these checks, so many at a time."""
+        while waiting or self.running:
+            self.turn(waiting, most)
+            self.progress()
+            time.sleep(0.2)
+
+    def all(self):
+        """Runs all checks; those that run alone come last."""
+        install(self.checks)
+        by_length = sorted(self.checks, key=lambda check: -self.usual[check.name])
+        self.serve([check for check in by_length if not check.alone], len(os.sched_getaffinity(0)))
+        self.serve([check for check in by_length if check.alone], 1)
+
+    def show(self, text):
+        """Prints a text, over the line of progress."""
+        print(f"\r\033[K{text}" if sys.stdout.isatty() else text, flush=True)
+
+    def progress(self):
+        """At a terminal, what is done, what is running, and about how long the rest takes."""
+        if not sys.stdout.isatty():
+            return
+        done = {each.check.name: each.seconds() for each in self.running}
+        left = sum(max(self.usual[check.name] - done.get(check.name, 0), 5) for check in self.checks if check not in self.ended)
+        minutes = left / min(len(os.sched_getaffinity(0)), max(len(self.checks) - len(self.ended), 1)) / 60
+        line = f"checks {len(self.ended)} of {len(self.checks)} done, {len(done)} running ({', '.join(done)}), about {minutes:.0f} min left"
+        print(f"\r\033[K{line[: shutil.get_terminal_size().columns - 1]}", end="", flush=True)
+
+    def sum_up(self):
+        """Notes the numbers for ./test and the times for the next run, and shows the longest."""
+        (self.folder / "summed").write_text(f"{self.passed} {self.failed}\n")
+        (self.folder / "left_out").write_text("".join(f"{line}\n" for line in self.left_out))
+        longest = sorted(self.times.items(), key=lambda pair: -pair[1])[:10]
+        self.show("longest checks: " + ", ".join(f"{name} {seconds:.0f} s" for name, seconds in longest))
+
+
+def times_before(mode):
+    """How long the checks took the last time, by their names."""
+    try:
+        times = json.loads(CACHE.read_text())[mode]
+        return {name: float(seconds) for name, seconds in times.items()}
+    except (OSError, ValueError, KeyError, TypeError, AttributeError):
+        return {}
+
+
+def keep_times(mode, times):
+    """Keeps the times for the next run; without a cache folder that can be written, they are not kept."""
+    try:
+        kept = json.loads(CACHE.read_text()) if CACHE.exists() else {}
+        CACHE.parent.mkdir(parents=True, exist_ok=True)
+        other = CACHE.with_name(f"{CACHE.name}.{os.getpid()}")
+        other.write_text(json.dumps({**kept, mode: {**kept.get(mode, {}), **times}}))
+        other.replace(CACHE)
+    except (OSError, ValueError, TypeError, AttributeError):
+        return
+
+
+def main():
+    parser = argparse.ArgumentParser()
+    parser.add_argument("mode", choices=("checks", "long", "quick"))
+    parser.add_argument("folder", type=pathlib.Path)
+    words = parser.parse_args()
+    signal.signal(signal.SIGTERM, signal.default_int_handler)
+    signal.signal(signal.SIGINT, signal.default_int_handler)
+    run = Run(words.mode, words.folder)
+    try:
+        run.all()
+    except KeyboardInterrupt:
+        for number in (signal.SIGINT, signal.SIGTERM):
+            signal.signal(number, signal.SIG_IGN)
+        for each in run.running:
+            end_processes(each.mark)
+        print(f"test: stopped. {len(run.ended)} of {len(run.checks)} checks had ended: {run.passed} passed, {run.failed} failed so far", flush=True)
+        return 130
+    run.sum_up()
+    keep_times(words.mode, run.times)
+    return 0
+
+
+if __name__ == "__main__":
+    sys.exit(main())

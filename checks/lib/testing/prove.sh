@@ -1,0 +1,80 @@
+# mcs4 prove: verdicts, counterexamples that mcs4 test has to see fail, answers of provers that are wrong, and what ends it.
+# shellcheck shell=sh disable=SC2034
+
+export MCS4_PROVE="${MCS4_PROVE:-$(. tools/lib/start.sh && find_prover && echo "$program")}"
+if [ -z "$MCS4_PROVE" ]; then
+    unset MCS4_PROVE
+    echo "not run: mcs4 prove, in checks/testing (its program: tools/build mcs4_prove)"
+else
+    # The die shows its six faces alone; two of three lines are proved.
+    verdict "$(outcome ./mcs4 prove examples/die.txt examples/die.txt examples/die.props | results)" "$(
+        sed -n 's/^never \(not .*\)/ok 1 - never \1 # proved for all inputs (13 states)/p' examples/die.props)
+not ok 2 - never lamps none for 1 ms # TODO not decided: a property of the form \"never for\" cannot be proved yet
+ok 3 - reach lamps ***.*** # reached, 1 step
+  message: \"reached by 1 step, 91 cycles\"
+  at: \"examples/die.props:10\"
+status 3" "the die"
+    grep '^never not' examples/die.props > "$folder/faces.props"
+    verdict "$(outcome ./mcs4 prove examples/die.txt examples/die.txt "$folder/faces.props" | sed -n 's/.*# //p; /^status/p')" \
+        "proved for all inputs (13 states)
+status 0" "all is proved"
+    verdict "$(outcome ./mcs4 prove examples/die.txt examples/die.txt "$folder/faces.props" --most 12 | sed -n 's/.*# //p; /^status/p')" \
+        "TODO not decided: more than 12 states; --most allows more
+status 3" "one state too few"
+    # A face is wrong: the test that is printed fails, and only there.
+    sed 's/DB 8, 1, 9, 3, 11, 7/DB 8, 1, 9, 2, 11, 7/' examples/die.txt > "$folder/wrong.txt"
+    verdict "$(cmp -s examples/die.txt "$folder/wrong.txt" && echo the same)" "" "a program with a wrong face"
+    verdict "$(outcome ./mcs4 prove "$folder/wrong.txt" "$folder/wrong.txt" "$folder/faces.props" > "$folder/out"; sed -n 's/.*# //p; /^status/p' "$folder/out")" \
+        "broken, 1 step
+status 1" "a wrong face"
+    sed -n 's/^    //p' "$folder/out" > "$folder/found.test"
+    verdict "$(outcome ./mcs4 test "$folder/wrong.txt" "$folder/wrong.txt" "$folder/found.test" | sed -n 's/^\(not ok 1\).*/\1/p; /^status/p')
+$(outcome ./mcs4 test examples/die.txt examples/die.txt "$folder/found.test" | sed -n 's/^\(ok 1\).*/\1/p; /^status/p')" "not ok 1
+status 1
+ok 1
+status 0" "its test"
+    # Keys that the text excludes.
+    printf 'press THROW\nheld at most 1\nnever lamps ***.***\n' > "$folder/held.props"
+    verdict "$(outcome ./mcs4 prove examples/die.txt examples/die.txt "$folder/held.props" | sed -n 's/.*# //p; /^status/p')" \
+        "TODO not decided: only inputs that the text excludes break it so far (1 step)
+status 3" "a key that is held for too long"
+    # A program without a read, and a board without inputs.
+    printf '[[rom]]\nchip = 0\nport = "0000"\n' > "$folder/board.toml"
+    printf '; nothing\n' > "$folder/empty.asm"
+    printf 'never acc > 0\nalways pc < 0x800\nat @no r1 = 0\n' > "$folder/empty.props"
+    refuses 1 "prove: $folder/empty.props:3: the program has no label no" \
+        ./mcs4 prove "$folder/board.toml" "$folder/empty.asm" "$folder/empty.props"
+    sed -i 3d "$folder/empty.props"
+    verdict "$(outcome ./mcs4 prove "$folder/board.toml" "$folder/empty.asm" "$folder/empty.props" | sed -n 's/.*# //p; /^status/p')" \
+        "proved for all inputs (1 state)
+broken, 0 steps
+status 1" "an empty program"
+    # Provers that are wrong: a way that is none, words that are none, and one that does not end.
+    prover_that() {
+        printf '#!/bin/sh\ncat > /dev/null\n%s\n' "$1" > "$folder/prover"
+        chmod +x "$folder/prover"
+    }
+    prover_that 'echo may fail 0 0'
+    verdict "$(outcome env MCS4_PROVE="$folder/prover" ./mcs4 prove examples/die.txt examples/die.txt "$folder/faces.props" | sed -n 's/.*# //p; /^status/p')" \
+        "TODO not decided: the bench does not confirm the counterexample that was found
+status 3" "a way that is none"
+    prover_that 'echo no 90; exit 3'
+    verdict "$(outcome env MCS4_PROVE="$folder/prover" ./mcs4 prove examples/die.txt examples/die.txt "$folder/faces.props" | sed -n 's/.*# //p; /^status/p')" \
+        "TODO not decided: there is no memory for more states
+status 3" "no memory"
+    prover_that 'echo no 25; exit 3'
+    refuses 1 "prove: the prover ended without an answer: no 25" \
+        env MCS4_PROVE="$folder/prover" ./mcs4 prove examples/die.txt examples/die.txt "$folder/faces.props"
+    refuses 1 "prove: MCS4_PROVE names $folder/none, which is not there; unset it, or name another program" \
+        env MCS4_PROVE="$folder/none" ./mcs4 prove examples/die.txt examples/die.txt "$folder/faces.props"
+    prover_that "exec sleep 61.$$"
+    MCS4_PROVE="$folder/prover" timeout -s INT 30 node js/node/mcs4.cjs prove examples/die.txt examples/die.txt "$folder/faces.props" &
+    proving=$!
+    while ! pgrep -f "^sleep 61.$$\$" > /dev/null && kill -0 "$proving" 2> /dev/null; do sleep 0.1; done
+    kill -INT "$(pgrep -P "$proving" node)"
+    status=0
+    wait "$proving" || status=$?
+    sleep 0.2
+    verdict "$status $(pgrep -f "^sleep 61.$$\$" || echo ended)" "130 ended" "Ctrl-C"
+fi
+misuses "N is a decimal number, 1 to 999999999" ./mcs4 prove a b c --most 0

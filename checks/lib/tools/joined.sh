@@ -1,0 +1,47 @@
+# Joined files of commands: they are taken if they are of the sources that are there, else the modules.
+# shellcheck shell=sh
+
+if [ ! -e tools/join_commands.mjs ]; then
+    # What is installed has the joined files, and not what makes them.
+    :
+elif ! command -v esbuild > /dev/null; then
+    echo "not run: joined files, in checks/tools (Debian's package: esbuild)"
+else
+    tree=$folder/tree
+    mkdir -p "$tree/shipped/commands" "$tree/tools"
+    cp -R mcs4 js examples "$tree"
+    cp -R tools/lib tools/join_commands.mjs "$tree/tools"
+    node "$tree/tools/join_commands.mjs" "$tree/shipped/commands" listing keys
+    joined() {
+        node --input-type=module -e "import { joinedFile } from '$tree/js/node/joined.cjs'; console.log(joinedFile('$1') ? 'joined' : 'modules')"
+    }
+    verdict "$(joined listing) $(joined keys) $(joined test) $(joined ../keys)" "joined joined modules modules" "which commands are joined"
+    for words in "listing $lock/lock.asm" "listing -h" "listing --none" "keys $lock/board.toml 1" "keys $lock/board.toml x" "listing none"; do
+        # shellcheck disable=SC2086
+        verdict "$(outcome "$tree/mcs4" $words)" "$(outcome ./mcs4 $words)" "joined: $words"
+    done
+    # What was compared is remembered, once the files are no longer young, in a folder that is the user's alone.
+    export XDG_CACHE_HOME="$folder/cache"
+    sleep 4
+    verdict "$(joined listing); $(ls "$XDG_CACHE_HOME/fethsaim" | grep -c '\.listing\.joined$'); $(ls -ld "$XDG_CACHE_HOME/fethsaim" | cut -c 1-10)" "joined; 1; drwx------" \
+        "what is remembered of a joined file"
+    verdict "$(joined listing)" joined "a joined file that is remembered"
+    chmod 755 "$XDG_CACHE_HOME/fethsaim"
+    : > "$XDG_CACHE_HOME/fethsaim/$(ls "$XDG_CACHE_HOME/fethsaim" | grep '\.listing\.joined$')"
+    verdict "$(joined listing); $(cat "$XDG_CACHE_HOME/fethsaim"/*.joined | wc -c | tr -d ' ')" "joined; 0" "a folder that others can read"
+    chmod 700 "$XDG_CACHE_HOME/fethsaim"
+    verdict "$(joined listing); $(joined listing)" "joined; joined" "a joined file that is remembered again"
+    echo "// damaged" >> "$tree/js/core/text/escaped.js"
+    verdict "$(joined listing)" modules "a joined file that is remembered, of other sources"
+    cp -p js/core/text/escaped.js "$tree/js/core/text"
+    verdict "$(joined listing)" joined "a joined file that is remembered, of the same sources again"
+    # The main itself is not joined: what it takes shows which one was started.
+    sed 's/Prints this help/Shows this help/' js/words/commands.js > "$tree/js/words/commands.js"
+    verdict "$(joined listing); $("$tree/mcs4" listing -h | grep -c 'Shows this help')" "modules; 1" "a joined file of other sources"
+    cp js/words/commands.js "$tree/js/words"
+    verdict "$(joined listing)" joined "a joined file of the same sources again"
+    echo "// damaged" >> "$tree/shipped/commands/listing.cjs"
+    verdict "$(joined listing)" modules "a joined file that is damaged"
+    rm -r "$tree/js/core"
+    verdict "$(outcome "$tree/mcs4" keys $lock/board.toml 1)" "$(outcome ./mcs4 keys $lock/board.toml 1)" "a joined file where no sources are"
+fi

@@ -1,0 +1,128 @@
+# Files that tools write: they keep mode and owner, links are followed, what is read-only is refused, and a signal leaves nothing behind.
+# shellcheck shell=sh
+
+# Commands that write a file, whose name is the last word, and that file as it is when it is whole: a project, a sound, a record of lines.
+make_board_with_buzzer() {
+    printf '[[rom]]\nchip = 0\nport = "0000"\n' > "$folder/buzzer.toml"
+    echo ' FIM P0, 0
+ SRC P0
+again: IAC
+ WRR
+ JUN again' > "$folder/buzzer.asm"
+    ./mcs4 script "$folder/buzzer.toml" "$folder/buzzer.asm" | begins buzzer
+}
+make_board_with_buzzer
+./mcs4 project split examples/a_fault_to_find.mcsp "$folder/taken_apart"
+writes_project() { ./mcs4 project join "$folder/taken_apart" "$1"; }
+writes_sound() { ./mcs4 wave --wav "$1" "$folder/buzzer.mcs" 100000 rom0.0; }
+writes_record() { ./mcs4 cover --lcov "$1" $lock/board.toml $lock/lock.asm $lock/lock.test > "$folder/covered"; }
+
+for what in project sound record; do
+    mkdir "$folder/$what" "$folder/$what/real"
+    good=$folder/$what/whole
+    "writes_$what" "$good"
+    verdict "$(stat -c %a "$good")" "$(touch "$folder/usual" && stat -c %a "$folder/usual")" "the mode of a new file: $what"
+    file=$folder/$what/file
+    for mode in 600 640 664; do
+        head -c 100 "$good" > "$file"
+        chmod "$mode" "$file"
+        "writes_$what" "$file"
+        verdict "$(stat -c %a "$file"); $(cmp "$file" "$good" 2>&1)" "$mode; " "the mode of a file that is replaced: $what"
+    done
+    if [ "$(id -u)" -eq 0 ]; then
+        head -c 100 "$good" > "$file"
+        chown 4321:1234 "$file"
+        chmod 620 "$file"
+        "writes_$what" "$file"
+        verdict "$(stat -c '%u:%g %a' "$file"); $(cmp "$file" "$good" 2>&1)" "4321:1234 620; " "the owner of a file that is replaced: $what"
+    fi
+    # A link, one to a link, one to a file that is not there, one that leads nowhere.
+    head -c 100 "$good" > "$folder/$what/real/file"
+    ln -s real/file "$folder/$what/link"
+    ln -s link "$folder/$what/second"
+    ln -s real/new "$folder/$what/dangling"
+    ln -s nowhere "$folder/$what/nowhere"
+    for pair in link:file second:file dangling:new; do
+        "writes_$what" "$folder/$what/${pair%:*}"
+        verdict "$(test -h "$folder/$what/${pair%:*}" && cmp "$folder/$what/real/${pair#*:}" "$good" 2>&1 && echo followed)" followed "the ${pair%:*}: $what"
+        head -c 100 "$good" > "$folder/$what/real/${pair#*:}"
+    done
+    verdict "$(outcome "writes_$what" "$folder/$what/nowhere" | sed 's/^[a-z]*: //; s/it is a link that leads nowhere$/too many symbolic links/')" \
+        "cannot write $folder/$what/nowhere: too many symbolic links
+status 1" "a link that leads nowhere: $what"
+    head -c 100 "$good" > "$file"
+    chmod 444 "$file"
+    cp -f "$file" "$folder/before"
+    verdict "$(outcome "writes_$what" "$file" | sed 's/^[a-z]*: //'); $(stat -c %a "$file"); $(cmp "$file" "$folder/before" 2>&1)" "cannot write $file: it is read-only
+status 1; 444; " "a file that is read-only: $what"
+    verdict "$(find "$folder/$what" -mindepth 1 | LC_ALL=C sort | sed "s|$folder/$what/||" | tr '\n' ' ')" "dangling file link nowhere real real/file real/new second whole " "nothing is left behind: $what"
+done
+ln -s nothing "$folder/taken_apart.link"
+mkdir "$folder/has_link"
+ln -s "$folder/victim" "$folder/has_link/board.toml"
+refuses 1 "project: $folder/has_link/board.toml is there already; name another folder, or move it away" ./mcs4 project split examples/a_fault_to_find.mcsp "$folder/has_link"
+
+# A file that belongs to another, which a new one cannot have, stays as it is.
+if [ "$(id -u)" -eq 0 ] && command -v setpriv > /dev/null; then
+    mkdir "$folder/shared"
+    chmod 777 "$folder/shared"
+    chmod -R a+rX "$folder/taken_apart"
+    head -c 100 "$folder/project/whole" > "$folder/shared/theirs"
+    chmod 666 "$folder/shared/theirs"
+    chmod a+x "$folder" "${folder%/*}"
+    as_another() { setpriv --reuid 65534 --regid 65534 --clear-groups env TMPDIR="$folder/shared" "$@"; }
+    if as_another test -r ./mcs4 && as_another test -x "$mcs4" && as_another test -r "$folder/taken_apart/mcs4.toml"; then
+        verdict "$(outcome as_another ./mcs4 project join "$folder/taken_apart" "$folder/shared/theirs"); $(wc -c < "$folder/shared/theirs" | tr -d ' '); $(ls -A "$folder/shared")" \
+            "project: cannot write $folder/shared/theirs: it belongs to another user or group, which a new file cannot have
+status 1; 100; theirs" "a file of another user"
+        chmod 644 "$folder/shared/theirs"
+        refuses 1 "project: cannot write $folder/shared/theirs: no permission" as_another ./mcs4 project join "$folder/taken_apart" "$folder/shared/theirs"
+    else
+        echo "not run: files of another user in checks/tools (the folder $top cannot be read by others)"
+    fi
+fi
+
+# A name that is there cannot be guessed: no file but the one that is written is touched by any process number.
+mkdir "$folder/guessed"
+sh -c 'echo precious > "$1/out.mcsp.$$"; exec ./mcs4 project join "$2" "$1/out.mcsp"' sh "$folder/guessed" "$folder/taken_apart"
+verdict "$(cmp "$folder/guessed/out.mcsp" "$folder/project/whole" 2>&1); $(cat "$folder/guessed"/out.mcsp.*)" "; precious" "a file at NAME.PID"
+mkdir "$folder/split_guessed"
+sh -c 'echo precious > "$1/board.toml.$$"; exec ./mcs4 project split examples/a_fault_to_find.mcsp "$1"' sh "$folder/split_guessed"
+verdict "$(cat "$folder/split_guessed"/board.toml.*); $(cmp "$folder/split_guessed/board.toml" "$folder/taken_apart/board.toml" 2>&1)" "precious; " "a file at PART.PID"
+
+# Signals at any moment: the file is the old or the new one, a folder is made whole or not at all, and nothing else is left.
+mkdir "$folder/stopped" "$folder/temporary"
+outcome_of_stop() {
+    TMPDIR=$folder/temporary setsid env --default-signal=INT,TERM,HUP timeout --foreground -s KILL 60 "$@" > "$folder/told" 2>&1 &
+    child=$!
+    sleep "0.$(printf '%03d' "$wait")"
+    if [ "$whom" = group ]; then kill -s "$signal" -- "-$child" 2> /dev/null || :; else kill -s "$signal" "$child" 2> /dev/null || :; fi
+    status=0
+    wait "$child" 2> /dev/null || status=$?
+    if [ "$status" -eq 137 ]; then wrong="$wrong hangs:$signal:$whom:$wait"; fi
+}
+head -c 100 "$folder/project/whole" > "$folder/old"
+stops=0
+wrong=
+for signal in INT TERM HUP; do
+    for whom in group tool; do
+        for wait in 5 20 40 60 80 100 120 150 200 300; do
+            cp "$folder/old" "$folder/stopped/out.mcsp"
+            outcome_of_stop ./mcs4 project join "$folder/taken_apart" "$folder/stopped/out.mcsp"
+            if ! cmp -s "$folder/old" "$folder/stopped/out.mcsp" && ! cmp -s "$folder/project/whole" "$folder/stopped/out.mcsp"; then wrong="$wrong join:$signal:$wait"; fi
+            rm "$folder/stopped/out.mcsp"
+            outcome_of_stop ./mcs4 project split examples/a_fault_to_find.mcsp "$folder/stopped/new/inner"
+            if [ -e "$folder/stopped/new" ] && ! diff -r "$folder/taken_apart" "$folder/stopped/new/inner" > /dev/null; then wrong="$wrong split:$signal:$wait"; fi
+            rm -rf "$folder/stopped/new"
+            outcome_of_stop ./mcs4 wave --wav "$folder/stopped/out.wav" "$folder/buzzer.mcs" 100000 rom0.0
+            if [ -e "$folder/stopped/out.wav" ] && ! cmp -s "$folder/sound/whole" "$folder/stopped/out.wav"; then wrong="$wrong wav:$signal:$wait"; fi
+            rm -f "$folder/stopped/out.wav"
+            left=$(ls -A "$folder/stopped" "$folder/temporary" | grep -v ':$' | tr -d '\n')
+            if [ -n "$left" ]; then wrong="$wrong left:$signal:$whom:$wait:$left"; fi
+            rm -rf "$folder/stopped" "$folder/temporary"
+            mkdir "$folder/stopped" "$folder/temporary"
+            stops=$((stops + 3))
+        done
+    done
+done
+verdict "$stops stops:$wrong" "180 stops:" "tools that are stopped while they write"

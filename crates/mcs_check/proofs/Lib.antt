@@ -1,0 +1,14 @@
+pub mod Simulating
+pub mod Agreeing
+pub mod Packed
+pub mod ValuesRead
+pub mod Keeping
+pub mod Laying
+pub mod Saving
+pub mod Pulling
+pub mod Going
+pub mod Steps
+pub mod Ignoring
+pub mod Always
+pub mod Pressing
+pub mod Beginning

@@ -1,0 +1,149 @@
+-- Two machines for which one key stands are the same.
+use Rattle.std.proofs.Common.{◌≡◌, ◌<◌, ◌*◌, ◌/◌, ◌%◌, ℕ, zero, suc, inl, inr, true, not, List, [], Option, Some, None, is_some, length, get_or, slice_index, slice_index_or, nat_lt, nat_le, refl, sym, ap, ◌∙◌, subst, arith}
+use Rattle.std.specs.List.{Contains}
+use Rattle.std.proofs.Math.Nat.{mod-eq_of_lt}
+use Rattle.std.proofs.lemmas.Bool.{lt-ltb, cases_lt, leb-true, and_parts, not-false}
+use Rattle.std.proofs.lemmas.List.{ext_get_or, get_or-map, get_or_past}
+use Rattle.mcs_nibble.specs.declared.lines.LineMask.{LineMask}
+use Rattle.mcs_model.specs.declared.board.BoardParts.{BoardParts}
+use Rattle.mcs_model.specs.declared.regs.Regs.{Regs}
+use Rattle.mcs_model.specs.declared.board.ChainPart.{ChainPart}
+use Rattle.mcs_model.specs.Boards.{board_fault_of, chain_bits, chain_count, chain_part, is_chain_size, masks_on, no_chain}
+use Rattle.mcs_model.proofs.ListLemmas.{none_at}
+use Rattle.mcs_model.proofs.SoundBoards.{sound}
+use Rattle.mcs_model.specs.Bus.{BusState, chips_of, ram_index, ram_port_index, status_index}
+use Rattle.mcs_model.specs.Running.{Machine}
+use Rattle.mcs_check.specs.declared.cells.Cell.{Cell}
+use Rattle.mcs_check.specs.declared.cells.CellList.{CellList}
+use Rattle.mcs_check.specs.declared.cells.CellList.TheVariants.{Characters, StatusCharacters, RamPorts, RomPorts, BankSrcs, Registers, Counters, Chain}
+use Rattle.mcs_check.specs.Cells.{counters_of, list_of, count_of, is_there, value_at, key_of, IsComplete}
+use Rattle.mcs_check.specs.Keys.{IsOn}
+use Rattle.mcs_check.specs.Agreed.{AgreesInChips}
+use Rattle.mcs_check.proofs.Agreeing.{agreeing-same}
+
+cell-same : (s t : Machine) (layout : List Cell) (c : Cell) → Contains layout c → key_of layout s ≡ key_of layout t → value_at s c ≡ value_at t c
+cell-same s t layout c h e =
+    ap (value_at s) (sym h.2) ∙ sym (get_or-map (value_at s) layout h.0 c 0 h.1) ∙ ap (λ (xs : List ℕ). get_or xs h.0 0) e ∙ get_or-map (value_at t) layout h.0 c 0 h.1 ∙ ap (value_at t) h.2
+
+-- each number of a list that is there
+number-same : (s t : Machine) (layout : List Cell) → IsComplete s.1.board layout → key_of layout s ≡ key_of layout t → (list : CellList) (i : ℕ) → i < count_of list → is_there s.1.board list i ≡ true → slice_index (list_of s list) i ≡ slice_index (list_of t list) i
+number-same s t layout whole e list i few there =
+    let at : i % count_of list ≡ i = mod-eq_of_lt few in
+    ap (slice_index (list_of s list)) (sym at) ∙ cell-same s t layout (record { list = list; index = i }) (whole list i few there) e ∙ ap (slice_index (list_of t list)) at
+
+same-numbers : (xs ys : List ℕ) (n : ℕ) → length xs ≡ n → length ys ≡ n → ((i : ℕ) → i < n → slice_index xs i ≡ slice_index ys i) → xs ≡ ys
+same-numbers xs ys n lx ly h = ext_get_or 0 xs ys (lx ∙ sym ly) (λ i l. h i (omega arith))
+
+-- a number of a list above 0 is in it
+in-list : (xs : List ℕ) (i n : ℕ) → n < slice_index xs i → i < length xs
+in-list xs i n h =
+    elim (cases_lt i (length xs)) [
+      | inl within ↦ within
+      | inr past ↦ (let zero = get_or_past xs i 0 past in absurd (omega arith))
+    ]
+
+some-is : {X : Type 0} (o : Option X) (x : X) → o ≡ Some x → is_some o ≡ true
+some-is o x e = ap is_some e
+
+-- ---- the registers
+
+same-halves : (a b : ℕ) → a / 256 ≡ b / 256 → a % 256 ≡ b % 256 → a ≡ b
+same-halves a b high low = omega arith
+
+three : (P : ℕ → Type 0) → P 0 → P 1 → P 2 → (k : ℕ) → k < 3 → P k
+three P a b c zero h = a
+three P a b c (suc zero) h = b
+three P a b c (suc (suc zero)) h = c
+three P a b c (suc (suc (suc k))) h = absurd (omega arith)
+
+same-three : (xs ys : List ℕ) → length xs ≡ 3 → length ys ≡ 3 → slice_index xs 0 ≡ slice_index ys 0 → slice_index xs 1 ≡ slice_index ys 1 → slice_index xs 2 ≡ slice_index ys 2 → xs ≡ ys
+same-three xs ys lx ly a b c = same-numbers xs ys 3 lx ly (three (λ k. slice_index xs k ≡ slice_index ys k) a b c)
+
+same-registers : (s t : Regs) → s.acc ≡ t.acc → s.cy ≡ t.cy → s.r ≡ t.r → s.pc ≡ t.pc → s.ret ≡ t.ret → s.dcl ≡ t.dcl → s.owed ≡ t.owed → s ≡ t
+same-registers s t a b c d e f g =
+    ap (λ x. record s { acc = x }) a
+    ∙ ap (λ x. record s { acc = t.acc; cy = x }) b
+    ∙ ap (λ x. record s { acc = t.acc; cy = t.cy; r = x }) c
+    ∙ ap (λ x. record s { acc = t.acc; cy = t.cy; r = t.r; pc = x }) d
+    ∙ ap (λ x. record t { ret = x; dcl = s.dcl; owed = s.owed }) e
+    ∙ ap (λ x. record t { dcl = x; owed = s.owed }) f
+    ∙ ap (λ x. record t { owed = x }) g
+
+-- ---- the chips
+
+few-bits : (b : BoardParts) (n i : ℕ) → board_fault_of b ≡ None → i < chain_bits b n → i < 256
+few-bits b n i v h =
+    elim (cases_lt n (chain_count b)) [
+      | inl there ↦
+          let size = not-false _ (none_at (λ (c : ChainPart). not (is_chain_size c)) b.chains.items n no_chain (sound b v).values.chains there) in
+          let few = leb-true _ _ (and_parts (nat_lt 0 (chain_part b n).chips) (nat_le (chain_part b n).chips 8) size).1 in
+          omega arith
+      | inr past ↦
+          let none : chain_part b n ≡ no_chain = get_or_past b.chains.items n no_chain past in
+          let bits : chain_bits b n ≡ 0 = ap (λ (c : ChainPart). 10 * c.chips) none in
+          omega arith
+    ]
+
+has-rom : (b : BoardParts) (chip : ℕ) (mask : List LineMask) → length b.roms ≡ 16 → masks_on b chip ≡ Some mask → chip < 16
+has-rom b chip mask len is =
+    elim (cases_lt chip 16) [
+      | inl few ↦ few
+      | inr past ↦ (let none : masks_on b chip ≡ None = get_or_past b.roms chip None (omega arith) in absurd (cc))
+    ]
+
+ram-there : (b : BoardParts) (bank src : ℕ) → src < 256 → src / 64 < slice_index b.banks bank → is_there b Characters (ram_index bank src) ≡ true
+ram-there b bank src small there =
+    let high : ram_index bank src / 256 ≡ bank = omega arith in
+    let low : ram_index bank src % 256 / 64 ≡ src / 64 = omega arith in
+    rw (high, low) (lt-ltb _ _ there)
+
+status-there : (b : BoardParts) (bank high k : ℕ) → high < 16 → k < 4 → high / 4 < slice_index b.banks bank → is_there b StatusCharacters (status_index bank high k) ≡ true
+status-there b bank high k small few there =
+    let at : status_index bank high k / 64 ≡ bank = omega arith in
+    let chip : status_index bank high k % 64 / 16 ≡ high / 4 = omega arith in
+    rw (at, chip) (lt-ltb _ _ there)
+
+port-there : (b : BoardParts) (bank chip : ℕ) → chip < 4 → chip < slice_index b.banks bank → is_there b RamPorts (ram_port_index bank chip) ≡ true
+port-there b bank chip small there =
+    let at : ram_port_index bank chip / 4 ≡ bank = omega arith in
+    let low : ram_port_index bank chip % 4 ≡ chip = omega arith in
+    rw (at, low) (lt-ltb _ _ there)
+
+-- ---- the machine
+
+pub same-machine : (b : BoardParts) (rom : List ℕ) (layout : List Cell) (s t : Machine) → IsComplete b layout → IsOn b rom s → IsOn b rom t → key_of layout s ≡ key_of layout t → s ≡ t
+same-machine b rom layout s t complete on-s on-t e =
+    let whole : IsComplete s.1.board layout = subst (λ (d : BoardParts). IsComplete d layout) (sym on-s.board) complete in
+    let n : (list : CellList) (i : ℕ) → i < count_of list → is_there s.1.board list i ≡ true → slice_index (list_of s list) i ≡ slice_index (list_of t list) i = number-same s t layout whole e in
+    let k : (i : ℕ) → i < 13 → slice_index (counters_of s.0 s.1.rom_src) i ≡ slice_index (counters_of t.0 t.1.rom_src) i = λ i h. n Counters i h refl in
+    let board : s.1.board ≡ t.1.board = on-s.board ∙ sym on-t.board in
+    let banks : length s.1.board.banks ≡ 8 = on-s.bus.board.sized.banks in
+    let v = on-s.bus.in_range in
+    let w = on-t.bus.in_range in
+    let pc : s.0.pc ≡ t.0.pc = same-halves s.0.pc t.0.pc (k 4 (omega arith)) (k 5 (omega arith)) in
+    let ret : s.0.ret ≡ t.0.ret = same-three s.0.ret t.0.ret on-s.registers.ret.count_is on-t.registers.ret.count_is
+    (same-halves _ _ (k 6 (omega arith)) (k 7 (omega arith))) (same-halves _ _ (k 8 (omega arith)) (k 9 (omega arith))) (same-halves _ _ (k 10 (omega arith)) (k 11 (omega arith))) in
+    let r : s.0.r ≡ t.0.r = same-numbers s.0.r t.0.r 16 on-s.registers.r.count_is on-t.registers.r.count_is (λ i h. n Registers i h refl) in
+    let registers : s.0 ≡ t.0 = same-registers s.0 t.0 (k 0 (omega arith)) (k 1 (omega arith)) r pc ret (k 2 (omega arith)) (k 3 (omega arith)) in
+    let bank-few : (bank m : ℕ) → m < chips_of s.1 bank → bank < 8 = λ bank m h. (let l = in-list s.1.board.banks bank m h in omega arith) in
+    let chain : (c i : ℕ) → i < chain_bits s.1.board c → slice_index (slice_index_or s.1.chains c []) i ≡ slice_index (slice_index_or t.1.chains c []) i = λ c i h. n (Chain c) i (few-bits s.1.board c i on-s.bus.board.valid h) (lt-ltb _ _ h) in
+    let chains : s.1.chains ≡ t.1.chains =
+    ext_get_or [] s.1.chains t.1.chains (v.chains ∙ ap chain_count board ∙ sym w.chains) (λ c h.
+    let there : c < chain_count s.1.board = (let len = v.chains in omega arith) in
+    let there-t : c < chain_count t.1.board = subst (λ (d : BoardParts). c < chain_count d) board there in
+    same-numbers (get_or s.1.chains c []) (get_or t.1.chains c []) (chain_bits s.1.board c) (v.chain_bits c there).count_is
+    ((w.chain_bits c there-t).count_is ∙ ap (λ (d : BoardParts). chain_bits d c) (sym board)) (λ i l. chain c i l)) in
+    let agrees : AgreesInChips s.1 t.1 = record {
+      board = board;
+      rom = on-s.rom ∙ sym on-t.rom;
+      ram = λ bank src small there. n Characters (ram_index bank src) (let few = bank-few bank (src / 64) there in omega arith) (ram-there s.1.board bank src small there);
+      status = λ bank high c small few there. n StatusCharacters (status_index bank high c) (let l = bank-few bank (high / 4) there in omega arith) (status-there s.1.board bank high c small few there);
+      ram_ports = λ bank chip small there. n RamPorts (ram_port_index bank chip) (let l = bank-few bank chip there in omega arith) (port-there s.1.board bank chip small there);
+      rom_ports = λ chip mask is. n RomPorts chip (has-rom s.1.board chip mask on-s.bus.board.sized.roms is) (some-is (masks_on s.1.board chip) mask is);
+      rom_src = k 12 (omega arith);
+      ram_src = λ bank there. n BankSrcs bank (bank-few bank 0 there) (lt-ltb _ _ there);
+      chains = chains;
+      keys = on-s.keys ∙ sym on-t.keys;
+      test = on-s.test ∙ sym on-t.test;
+    } in
+    ap (λ (x : Regs). (x, s.1)) registers ∙ ap (λ (m : BusState). (t.0, m)) (agreeing-same s.1 t.1 on-s.bus on-t.bus agrees)

@@ -1,0 +1,143 @@
+-- With all keys down, each line is at 1 that can be: no keys give a port more.
+use Rattle.std.proofs.Common.{◌≡◌, ◌<◌, ◌≤◌, ◌+◌, ◌*◌, ◌/◌, ℕ, inl, inr, Bool, true, false, ◌&&◌, ◌||◌, List, [], ◌∷◌, Option, Some, None, length, replicate, slice_index, slice_index_or, eqb, refl, ap, ◌∙◌, arith}
+use Rattle.std.specs.List.{list_any, range_with_len}
+use Rattle.std.proofs.lemmas.Bool.{cases_lt, le-leb, eqb-true, eq-eqb}
+use Rattle.std.proofs.lemmas.List.{get_or_past, get_or-replicate}
+use Rattle.mcs_nibble.specs.declared.lines.LineMask.{LineMask}
+use Rattle.mcs_nibble.specs.declared.lines.LineMask.TheVariants.{Input, Zero, One}
+use Rattle.mcs_nibble.specs.Bits.{bit_of}
+use Rattle.mcs_nibble.specs.Ports.{mask_at, read_bit, read_lines}
+use Rattle.mcs_model.specs.declared.board.KeyMatrix.{KeyMatrix}
+use Rattle.mcs_model.specs.declared.board.Line.TheVariants.{Rom}
+use Rattle.mcs_model.specs.Boards.{key_count, masks_on}
+use Rattle.mcs_model.specs.Bus.{BusState}
+use Rattle.mcs_model.specs.Levels.{bit_when, drives, is_pulled, is_rom_line, port_at, port_of}
+use Rattle.mcs_drive.specs.Driven.{Levels, FitBoard}
+use Rattle.mcs_drive.proofs.Commuting.{at_levels}
+use Rattle.mcs_check.specs.Stations.{has_no_more, port_unpressed}
+
+or-weaker : (a b x y : Bool) → (a ≡ true → x ≡ true) → (b ≡ true → y ≡ true) → (a || b) ≡ true → (x || y) ≡ true
+or-weaker true b x y h k e = ap (λ z. z || y) (h refl)
+or-weaker false true true y h k e = refl
+or-weaker false true false y h k e = k refl
+or-weaker false false x y h k e = absurd (cc)
+
+and-weaker : (a b x y : Bool) → (a ≡ true → x ≡ true) → (b ≡ true → y ≡ true) → (a && b) ≡ true → (x && y) ≡ true
+and-weaker true true x y h k e = ap (λ z. z && y) (h refl) ∙ k refl
+and-weaker true false x y h k e = absurd (cc)
+and-weaker false b x y h k e = absurd (cc)
+
+any-weaker : {X : Type 0} (p q : X → Bool) → ((x : X) → p x ≡ true → q x ≡ true) → (xs : List X) → list_any p xs ≡ true → list_any q xs ≡ true
+any-weaker p q h [] e = e
+any-weaker p q h (x ∷ xs) e = or-weaker (p x) (list_any p xs) (q x) (list_any q xs) (h x) (any-weaker p q h xs) e
+
+down : (keys : List ℕ) (n i : ℕ) → length keys ≡ n → eqb (slice_index keys i) 1 ≡ true → eqb (slice_index (replicate n 1) i) 1 ≡ true
+down keys n i len e =
+    elim (cases_lt i (length keys)) [
+      | inl within ↦ eq-eqb _ _ (get_or-replicate n i 1 0 (omega arith))
+      | inr past ↦ (let one = eqb-true _ _ e in let zero = get_or_past keys i 0 past in absurd (omega arith))
+    ]
+
+pulled-on : (l : Levels) (s : BusState) (o : Option KeyMatrix) (n chip k : ℕ) → length l.keys ≡ n →
+    elim o as (λ _. Bool) [ None ↦ false | Some m ↦ list_any (λ j. is_rom_line chip k (slice_index_or m.columns.items j (Rom 0 0)) && list_any (drives (slice_index_or s.chains m.chain []) l.keys m j) (range_with_len 0 m.rows)) (range_with_len 0 (length m.columns.items)) ] ≡ true →
+    elim o as (λ _. Bool) [ None ↦ false | Some m ↦ list_any (λ j. is_rom_line chip k (slice_index_or m.columns.items j (Rom 0 0)) && list_any (drives (slice_index_or s.chains m.chain []) (replicate n 1) m j) (range_with_len 0 m.rows)) (range_with_len 0 (length m.columns.items)) ] ≡ true
+pulled-on l s None n chip k len e = e
+pulled-on l s (Some m) n chip k len e =
+    any-weaker _ _
+    (λ j h. and-weaker (is_rom_line chip k (slice_index_or m.columns.items j (Rom 0 0))) _ _ _ (λ a. a)
+    (any-weaker (drives (slice_index_or s.chains m.chain []) l.keys m j) (drives (slice_index_or s.chains m.chain []) (replicate n 1) m j)
+    (λ r g. and-weaker (eqb (slice_index (slice_index_or s.chains m.chain []) (m.first + r)) 1) _ _ _ (λ a. a) (down l.keys n (r * length m.columns.items + j) len) g)
+    (range_with_len 0 m.rows))
+    h)
+    (range_with_len 0 (length m.columns.items)) e
+
+pulled-more : (l : Levels) (s : BusState) (chip k : ℕ) → FitBoard s.board l → s.keys ≡ replicate (key_count s.board) 1 → is_pulled (at_levels l s) chip k ≡ true → is_pulled s chip k ≡ true
+unfolding is_pulled
+pulled-more l s chip k fit all e =
+    rw all (pulled-on l s s.board.keys (key_count s.board) chip k fit.keys.count_is e)
+
+-- ---- lines of a port
+
+bit-lt : (b : Bool) → bit_when b < 2
+bit-lt true = omega arith
+bit-lt false = omega arith
+
+bit-more : (a b : Bool) → (a ≡ true → b ≡ true) → bit_when a ≤ bit_when b
+bit-more true b h = rw (h refl) (omega arith)
+bit-more false b h = omega arith
+
+read-more : (f g : ℕ → ℕ) (mask : List LineMask) (k : ℕ) → f k ≤ g k → read_bit f mask k ≤ read_bit g mask k
+read-more f g mask k e =
+    elim (mask_at mask k) as (λ m. elim m as (λ _. ℕ) [ Input ↦ f k | Zero ↦ 0 | One ↦ 1 ] ≤ elim m as (λ _. ℕ) [ Input ↦ g k | Zero ↦ 0 | One ↦ 1 ]) [ Input ↦ e | Zero ↦ omega arith | One ↦ omega arith ]
+
+read-lt : (f : ℕ → ℕ) (mask : List LineMask) (k : ℕ) → f k < 2 → read_bit f mask k < 2
+read-lt f mask k e =
+    elim (mask_at mask k) as (λ m. elim m as (λ _. ℕ) [ Input ↦ f k | Zero ↦ 0 | One ↦ 1 ] < 2) [ Input ↦ e | Zero ↦ omega arith | One ↦ omega arith ]
+
+record Bits (n a b c d : ℕ) : Type 0 where
+  at_0 : bit_of n 0 ≡ a
+  at_1 : bit_of n 1 ≡ b
+  at_2 : bit_of n 2 ≡ c
+  at_3 : bit_of n 3 ≡ d
+
+bits : (a b c d : ℕ) → a < 2 → b < 2 → c < 2 → d < 2 → Bits (a + 2 * b + 4 * c + 8 * d) a b c d
+bits a b c d ha hb hc hd = record { at_0 = omega arith; at_1 = omega arith; at_2 = omega arith; at_3 = omega arith }
+
+no-more : (n m a b c d x y z w : ℕ) → Bits n a b c d → Bits m x y z w → a ≤ x → b ≤ y → c ≤ z → d ≤ w → has_no_more n m ≡ true
+no-more n m a b c d x y z w p q ha hb hc hd =
+    rw (p.at_0, p.at_1, p.at_2, p.at_3, q.at_0, q.at_1, q.at_2, q.at_3, le-leb a x ha, le-leb b y hb, le-leb c z hc, le-leb d w hd) refl
+
+lines-more : (f g : ℕ → Bool) (mask : List LineMask) → ((k : ℕ) → f k ≡ true → g k ≡ true) → has_no_more (read_lines (λ k. bit_when (f k)) mask) (read_lines (λ k. bit_when (g k)) mask) ≡ true
+unfolding read_lines
+lines-more f g mask h =
+    let a : ℕ → ℕ = λ k. bit_when (f k) in
+    let b : ℕ → ℕ = λ k. bit_when (g k) in
+    let la : (k : ℕ) → read_bit a mask k < 2 = λ k. read-lt a mask k (bit-lt (f k)) in
+    let lb : (k : ℕ) → read_bit b mask k < 2 = λ k. read-lt b mask k (bit-lt (g k)) in
+    let more : (k : ℕ) → read_bit a mask k ≤ read_bit b mask k = λ k. read-more a b mask k (bit-more (f k) (g k) (h k)) in
+    no-more _ _ _ _ _ _ _ _ _ _
+    (bits (read_bit a mask 0) (read_bit a mask 1) (read_bit a mask 2) (read_bit a mask 3) (la 0) (la 1) (la 2) (la 3))
+    (bits (read_bit b mask 0) (read_bit b mask 1) (read_bit b mask 2) (read_bit b mask 3) (lb 0) (lb 1) (lb 2) (lb 3))
+    (more 0) (more 1) (more 2) (more 3)
+
+port-when : (f g : ℕ → Bool) (o : Option (List LineMask)) → ((k : ℕ) → f k ≡ true → g k ≡ true) →
+    has_no_more (elim o as (λ _. ℕ) [ Some mask ↦ read_lines (λ k. bit_when (f k)) mask | None ↦ 0 ]) (elim o as (λ _. ℕ) [ Some mask ↦ read_lines (λ k. bit_when (g k)) mask | None ↦ 0 ]) ≡ true
+port-when f g (Some mask) h = lines-more f g mask h
+port-when f g None h = refl
+
+-- whatever keys are down, the port of the selected ROM reads no more than with all keys down
+pub port-no-more : (l : Levels) (s : BusState) → FitBoard s.board l → s.keys ≡ replicate (key_count s.board) 1 → has_no_more (port_of (at_levels l s)) (port_of s) ≡ true
+unfolding port_at
+port-no-more l s fit all =
+    let chip = s.rom_src / 16 in
+    port-when (λ k. is_pulled (at_levels l s) chip k) (λ k. is_pulled s chip k) (masks_on s.board chip) (λ k h. pulled-more l s chip k fit all h)
+
+-- nor less than with none down
+pub port-no-less : (l : Levels) (s : BusState) → has_no_more (port_unpressed s) (port_of (at_levels l s)) ≡ true
+unfolding port_at
+port-no-less l s =
+    let chip = s.rom_src / 16 in
+    port-when (λ k. false) (λ k. is_pulled (at_levels l s) chip k) (masks_on s.board chip) (λ k e. absurd (cc))
+
+-- the port by its masks
+pub unpressed-read : (mask : List LineMask) → read_lines (bit_of 0) mask ≡ read_lines (λ k. 0) mask
+unfolding read_lines
+unpressed-read mask = refl
+
+lines-lt : (f : ℕ → Bool) (mask : List LineMask) → read_lines (λ k. bit_when (f k)) mask < 16
+unfolding read_lines
+lines-lt f mask =
+    let a : ℕ → ℕ = λ k. bit_when (f k) in
+    let b0 = read-lt a mask 0 (bit-lt (f 0)) in
+    let b1 = read-lt a mask 1 (bit-lt (f 1)) in
+    let b2 = read-lt a mask 2 (bit-lt (f 2)) in
+    let b3 = read-lt a mask 3 (bit-lt (f 3)) in
+    omega arith
+
+port-lt-when : (f : ℕ → Bool) (o : Option (List LineMask)) → elim o as (λ _. ℕ) [ Some mask ↦ read_lines (λ k. bit_when (f k)) mask | None ↦ 0 ] < 16
+port-lt-when f (Some mask) = lines-lt f mask
+port-lt-when f None = omega arith
+
+pub port-lt : (s : BusState) → port_of s < 16
+unfolding port_at
+port-lt s = port-lt-when (λ k. is_pulled s (s.rom_src / 16) k) (masks_on s.board (s.rom_src / 16))

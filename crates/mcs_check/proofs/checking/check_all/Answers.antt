@@ -1,0 +1,32 @@
+use Rattle.std.proofs.Common.{◌≡◌, ◌∙◌, ◌++◌, ℕ, List, length, true, take, drop, sym, ap, subst, arith}
+use Rattle.std.proofs.Math.Seq.{take-append_seam}
+use Rattle.std.proofs.lemmas.List.{length-map}
+use Rattle.mcs_search.specs.Verdicts.{IsProved}
+use Rattle.mcs_check.specs.declared.cells.Cell.{Cell}
+use Rattle.mcs_check.specs.Cells.{key_of, value_at}
+use Rattle.mcs_check.specs.Conditions.{keeps_to}
+use Rattle.mcs_check.specs.declared.conditions.Comparison.{Comparison}
+use Rattle.mcs_check.specs.Keys.{setting_of}
+use Rattle.mcs_check.specs.Searched.{rules_of}
+use Rattle.mcs_check.proofs.Beginning.{held-holds, held-key}
+use Rattle.mcs_check.proofs.checking.check_all.Goals as goal
+
+pub returns-in-Holds : goal.returns-in-Holds
+returns-in-Holds c =
+    let m = c.hold.new.self in
+    let layout = c.in_ok-layout.layout.items in
+    let nevers = c.args.nevers.items in
+    let key = c.deref-3.result.now in
+    let saved : c.save.new.key ≡ key_of layout m = c.save.ensures ∙ ap (λ (l : List Cell). key_of l m) c.deref.ensures.value in
+    let mapped = ap length c.save.ensures ∙ length-map c.deref.result.now (value_at m) in
+    let few = c.deref.ensures.len in
+    let many = c.len.ensures in
+    let made = c.in_ok-key.ensures.len in
+    let len : length c.save.new.key ≡ c.in_ok-key.key.len = omega arith in
+    let rest = drop (length c.save.new.key) c.in_ok-key.key.items in
+    let whole = subst (λ (n : ℕ). take n (c.save.new.key ++ rest) ≡ c.save.new.key) len (take-append_seam c.save.new.key rest) in
+    let cells : key ≡ key_of layout m = c.deref-3.ensures.value ∙ (whole ∙ saved) in
+    let well : keeps_to nevers m ≡ true = ap (λ (n : List (List Comparison)). keeps_to n m) (sym c.deref-2.ensures.value) ∙ sym c.keeps_to.ensures ∙ c.if-not-keeps_to.false in
+    let is = held-key layout nevers key c.args.replica m c.hold.ensures c.show_state_is_valid.ensures.registers c.show_state_is_valid.ensures.bus well cells in
+    held-holds layout nevers key c.in-Holds.states c.args.replica m c.hold.ensures is
+    (subst (IsProved (rules_of (setting_of m layout nevers)) key) c.in-Holds.is c.in_ok-states.ensures.proved)

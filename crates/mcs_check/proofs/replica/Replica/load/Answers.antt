@@ -1,0 +1,8 @@
+use Rattle.mcs_check.proofs.Keeping.{keeps-itself, keeps-on}
+use Rattle.mcs_check.proofs.replica.Replica.load.Goals as goal
+
+pub loop-i-init : goal.loop-i-init
+loop-i-init c = keeps-itself c.args.self.now.1
+
+pub loop-i-preserved : goal.loop-i-preserved
+loop-i-preserved c = keeps-on c.args.self.now.1 c.loop-i.self.1 c.set.new.self.1 c.loop-i.invariant c.set.ensures

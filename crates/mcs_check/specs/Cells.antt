@@ -1,0 +1,75 @@
+-- The cells of a machine: what can differ between two machines with one board and one program, byte
+-- by byte. A key is what the cells of a layout hold. (Our own choice.)
+use Rattle.std.specs.Prelude.{◌≡◌, ◌<◌, ◌/◌, ◌%◌, ℕ, List, [], ◌∷◌, Bool, true, is_some, map, nat_lt, slice_index, slice_index_or}
+use Rattle.std.specs.List.{Contains}
+use Rattle.mcs_model.specs.declared.board.BoardParts.{BoardParts}
+use Rattle.mcs_model.specs.declared.regs.Regs.{Regs}
+use Rattle.mcs_model.specs.Boards.{chain_bits, masks_on}
+use Rattle.mcs_model.specs.Running.{Machine}
+use Rattle.mcs_check.specs.declared.cells.Cell.{Cell}
+use Rattle.mcs_check.specs.declared.cells.CellList.{CellList}
+use Rattle.mcs_check.specs.declared.cells.CellList.TheVariants.{Characters, StatusCharacters, RamPorts, RomPorts, BankSrcs, Registers, Counters, Chain}
+
+-- the registers but for the index registers, and the SRC byte that the ROMs keep; an address in two
+-- bytes, the upper one first
+abbrev pub counters_of : Regs → ℕ → List ℕ
+counters_of s src =
+    s.acc ∷ s.cy ∷ s.dcl ∷ s.owed ∷ s.pc / 256 ∷ s.pc % 256
+    ∷ slice_index s.ret 0 / 256 ∷ slice_index s.ret 0 % 256
+    ∷ slice_index s.ret 1 / 256 ∷ slice_index s.ret 1 % 256
+    ∷ slice_index s.ret 2 / 256 ∷ slice_index s.ret 2 % 256 ∷ src ∷ []
+
+-- the numbers of a list of cells
+abbrev pub list_of : Machine → CellList → List ℕ
+list_of t Characters = t.1.ram
+list_of t StatusCharacters = t.1.status
+list_of t RamPorts = t.1.ram_ports
+list_of t RomPorts = t.1.rom_ports
+list_of t BankSrcs = t.1.ram_src
+list_of t Registers = t.0.r
+list_of t Counters = counters_of t.0 t.1.rom_src
+list_of t (Chain n) = slice_index_or t.1.chains n []
+
+-- how many cells a list has at most
+abbrev pub count_of : CellList → ℕ
+count_of Characters = 2048
+count_of StatusCharacters = 512
+count_of RamPorts = 32
+count_of RomPorts = 16
+count_of BankSrcs = 8
+count_of Registers = 16
+count_of Counters = 13
+count_of (Chain n) = 256
+
+-- whether a board has the chip of cell i of a list; every board has the processor
+abbrev pub is_there : BoardParts → CellList → ℕ → Bool
+is_there b Characters i = nat_lt (i % 256 / 64) (slice_index b.banks (i / 256))
+is_there b StatusCharacters i = nat_lt (i % 64 / 16) (slice_index b.banks (i / 64))
+is_there b RamPorts i = nat_lt (i % 4) (slice_index b.banks (i / 4))
+is_there b RomPorts i = is_some (masks_on b i)
+is_there b BankSrcs i = nat_lt 0 (slice_index b.banks i)
+is_there b Registers i = true
+is_there b Counters i = true
+is_there b (Chain n) i = nat_lt i (chain_bits b n)
+
+-- what a cell holds
+abbrev pub value_at : Machine → Cell → ℕ
+value_at t c = slice_index (list_of t c.list) (c.index % count_of c.list)
+
+-- the key of a machine: what the cells of a layout hold
+abbrev pub key_of : List Cell → Machine → List ℕ
+key_of layout t = map (value_at t) layout
+
+-- a layout has each cell of another one
+abbrev pub HasAll : List Cell → List Cell → Type 0
+HasAll others layout = (c : Cell) → Contains others c → Contains layout c
+
+-- a layout has each cell of a list that a board has
+abbrev pub HasList : BoardParts → List Cell → CellList → Type 0
+HasList b layout list =
+    (i : ℕ) → i < count_of list → is_there b list i ≡ true →
+    Contains layout (record { list = list; index = i })
+
+-- a layout has each cell of a board
+abbrev pub IsComplete : BoardParts → List Cell → Type 0
+IsComplete b layout = (list : CellList) → HasList b layout list

@@ -1,0 +1,10 @@
+pub mod Simulated
+pub mod Agreed
+pub mod Cells
+pub mod Conditions
+pub mod Keys
+pub mod Stations
+pub mod Walking
+pub mod Searched
+pub mod Promised
+pub mod Held

@@ -1,0 +1,60 @@
+//! Whether conditions are never met by a machine, whatever its keys and its TEST pin do.
+ghost use Rattle.std.specs.Prelude.{◌≤◌, IfOk};
+ghost use Rattle.mcs_search.specs.declared.searching.TheConstants.{MOST};
+ghost use Rattle.mcs_check.specs.Conditions.{keeps_to};
+ghost use Rattle.mcs_check.specs.Promised.{IsProved};
+
+use crate::cells::layout_of;
+use crate::conditions::{Never, keeps_to};
+use crate::replica::Replica;
+use crate::walker::Walker;
+use mcs_search::{MOST, Verdict, search_all};
+use std::alloc::{AllocError, Global};
+
+/// What a search through all inputs found.
+#[derive(Debug, Drop)]
+pub enum Outcome {
+    /// The conditions are never met, whatever the inputs: that many states.
+    Holds(usize),
+    /// They may be met after these values were read, one at each reading; without a value they are met at once. Of them
+    /// nothing is proved.
+    MayFail(Vec<u8>),
+    /// There are more states than were asked for.
+    TooMany,
+    /// The search gave up.
+    GaveUp,
+}
+
+/// Searches through all that a machine can do, whatever its keys and its TEST pin do, in at most `most` states, and looks
+/// whether conditions are met after each cycle. A pause without reads is cut every `pause` cycles.
+pub fn check_all(
+    alloc: Global,
+    mut replica: Replica,
+    nevers: Vec<Never>,
+    most: usize,
+    pause: u32,
+) -> Result<Outcome, AllocError>
+    requires { most ≤ MOST }
+    ensures { IfOk result (IsProved (keeps_to nevers.items) replica) }
+{
+    replica.hold();
+    let layout = layout_of(alloc, replica.board())?;
+    let mut key = vec![in alloc; 0u8; layout.len()]?;
+    replica.save(&layout, &mut key);
+    replica.show_state_is_valid();
+    if !keeps_to(&replica, &nevers) {
+        return Ok(Outcome::MayFail(Vec::new(alloc)));
+    }
+    let mut walker = Walker {
+        replica,
+        layout,
+        nevers,
+        most: pause,
+    };
+    match search_all(alloc, &mut walker, &key, most)? {
+        Verdict::Holds(states) => Ok(Outcome::Holds(states)),
+        Verdict::Broken(values) => Ok(Outcome::MayFail(values)),
+        Verdict::TooMany => Ok(Outcome::TooMany),
+        Verdict::GaveUp => Ok(Outcome::GaveUp),
+    }
+}

@@ -1,0 +1,124 @@
+//! What is never to be.
+ghost use Rattle.std.specs.Prelude.{◌≡◌};
+ghost use Rattle.mcs_check.specs.Conditions.{are_met, is_inside, is_met, keeps_to, part_of};
+
+use crate::cells::Cell;
+use crate::replica::Replica;
+use mcs_nibble::Nibble;
+use std::marker::Model;
+
+/// What is compared of what a cell holds.
+#[derive(Clone, Copy, Debug)]
+pub enum Part {
+    /// The number.
+    Whole,
+    /// One of its lower four bits, as the line of a port.
+    Line(u8),
+}
+
+/// A comparison: what a cell holds lies between two numbers, or does not.
+#[derive(Clone, Copy, Debug)]
+pub struct Comparison {
+    pub cell: Cell,
+    pub part: Part,
+    pub low: u8,
+    pub high: u8,
+    pub inside: bool,
+}
+
+impl Default for Comparison {
+    fn default() -> Comparison {
+        Comparison {
+            cell: Cell::default(),
+            part: Part::Whole,
+            low: 0,
+            high: 0,
+            inside: false,
+        }
+    }
+}
+
+/// Returns a number, or one of its bits.
+fn part_of(n: u8, part: Part) -> u8
+    ensures { result ≡ part_of n part }
+{
+    match part {
+        Part::Whole => n,
+        Part::Line(k) => Nibble::low_of(n).bit(k % 4).get(),
+    }
+}
+
+/// Returns whether what a cell holds lies between two numbers.
+fn is_inside(replica: &Replica, comparison: &Comparison) -> bool
+    ensures { result ≡ is_inside replica.now comparison.now }
+{
+    let n = part_of(replica.value(comparison.cell), comparison.part);
+    comparison.low <= n && n <= comparison.high
+}
+
+/// Returns whether a comparison is met.
+fn is_met(replica: &Replica, comparison: &Comparison) -> bool
+    ensures { result ≡ is_met replica.now comparison.now }
+{
+    let is_inside = is_inside(replica, comparison);
+    if comparison.inside {
+        is_inside
+    } else {
+        !is_inside
+    }
+}
+
+/// Returns whether all comparisons are met.
+fn are_met(replica: &Replica, comparisons: &[Comparison]) -> bool
+    ensures { result ≡ are_met replica.now comparisons.now }
+{
+    for i in 0..comparisons.len() {
+        if !is_met(replica, &comparisons[i]) {
+            return false;
+        }
+    }
+    true
+}
+
+/// Comparisons that are never to be met all at once. Contracts see their list.
+#[derive(Drop)]
+pub struct Never {
+    comparisons: Vec<Comparison>,
+}
+
+impl Model for Never {
+    ghost use Rattle.std.specs.Prelude.{List};
+    ghost use Rattle.mcs_check.specs.declared.conditions.Comparison.{Comparison};
+
+    ghost Value = { List Comparison };
+
+    ghost view = { λ n. n.comparisons.items };
+}
+
+impl Never {
+    /// Makes one of comparisons.
+    pub fn of(comparisons: Vec<Comparison>) -> Never
+        ensures { result ≡ comparisons.items }
+    {
+        Never { comparisons }
+    }
+
+    /// Returns whether all comparisons are met.
+    fn is_met(&self, replica: &Replica) -> bool
+        ensures { result ≡ are_met replica.now self.now }
+    {
+        are_met(replica, &self.comparisons)
+    }
+}
+
+/// Returns whether none of these is met as a whole.
+pub fn keeps_to(replica: &Replica, nevers: &[Never]) -> bool
+    ensures { result ≡ keeps_to nevers.now replica.now }
+{
+    for i in 0..nevers.len() {
+        if nevers[i].is_met(replica) {
+            return false;
+        }
+    }
+    true
+}

@@ -1,0 +1,41 @@
+//! A machine all of whose keys are put down, as a search needs it.
+ghost use Rattle.std.specs.Prelude.{◌≡◌, ◌<◌, ℕ, replicate};
+ghost use Rattle.mcs_model.specs.Boards.{key_count};
+ghost use Rattle.mcs_check.specs.Held.{IsKeyAt, held};
+
+use crate::replica::Replica;
+use mcs_board::BenchRig;
+use mcs_model::board::Board;
+use mcs_nibble::Bit;
+
+/// Returns how many columns the keys of a board have, by which the row and the column of each key are found.
+fn columns_of(board: &Board) -> usize
+    ensures { (i : ℕ) → i < key_count board.now → IsKeyAt board.now result i }
+{
+    match &board.parts().keys {
+        Some(matrix) => matrix.columns.len(),
+        None => 1,
+    }
+}
+
+/// Puts all keys of a rig down.
+fn press_all(rig: &mut BenchRig)
+    ensures { rig.new ≡ record rig.old { keys = replicate (key_count rig.old.board) 1 } }
+{
+    rig.show_state_is_valid();
+    let count = rig.board().key_count();
+    let columns = columns_of(rig.board());
+    for i in 0..count {
+        rig.press((i / columns) as u8, (i % columns) as u8);
+    }
+}
+
+impl Replica {
+    /// Puts all keys down, and TEST at 0.
+    pub(crate) fn hold(&mut self)
+        ensures { self.new ≡ held self.old }
+    {
+        press_all(&mut self.rig);
+        self.rig.set_test(Bit::ZERO);
+    }
+}

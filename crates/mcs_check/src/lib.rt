@@ -1,0 +1,25 @@
+//! From a search to what holds of a machine for all inputs.
+//!
+//! A key stands for one machine of a board: `Replica` loads it and saves it, and runs from where a cycle reads an input to
+//! where the next one does. Contracts see a replica as the machine of `mcs_model`.
+#![tactic(auto)]
+
+mod cells;
+mod checking;
+mod conditions;
+mod holding;
+mod laws;
+mod packing;
+mod reading;
+mod replica;
+mod station;
+mod walker;
+mod walking;
+
+pub use cells::{Cell, CellList, layout_of};
+pub use checking::{Outcome, check_all};
+pub use conditions::{Comparison, Never, Part, keeps_to};
+pub use laws::agreeing_same;
+pub use packing::keys_decide;
+pub use reading::Source;
+pub use replica::Replica;

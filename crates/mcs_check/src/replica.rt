@@ -1,0 +1,224 @@
+//! A processor on a rig, whose cells are loaded from a key and saved into one.
+ghost use Rattle.std.specs.Prelude.{◌≡◌, ◌<◌, All, length, IsTrue};
+ghost use Rattle.mcs_model.specs.Validity.{IsValidBus, IsValidRegs};
+ghost use Rattle.mcs_check.specs.declared.cells.CellList.TheVariants.{Counters};
+ghost use Rattle.mcs_check.specs.Cells.{list_of, value_at, key_of};
+ghost use Rattle.mcs_check.specs.Keys.{Keeps};
+
+use crate::cells::{Cell, CellList};
+use mcs_board::BenchRig;
+use mcs_cpu4004::Cpu;
+use mcs_model::board::Board;
+use mcs_nibble::{Addr, Bit, Nibble};
+use std::marker::Model;
+
+/// A processor on a rig. Contracts see it as a machine.
+#[derive(Drop)]
+pub struct Replica {
+    pub(crate) cpu: Cpu,
+    pub(crate) rig: BenchRig,
+}
+
+impl Model for Replica {
+    ghost use Rattle.mcs_model.specs.Running.{Machine};
+
+    ghost Value = { Machine };
+
+    ghost view = { λ r. (r.cpu, r.rig) };
+}
+
+/// Returns the registers of a processor but for the index registers, and the SRC byte that the ROMs of a rig keep.
+fn counters(cpu: &Cpu, rig: &BenchRig) -> [u8; 13]
+    ensures { result ≡ list_of (cpu.now, rig.now) Counters }
+{
+    let regs = cpu.regs();
+    let [first, second, third] = regs.ret;
+    [
+        regs.acc.get(),
+        regs.cy.get(),
+        regs.dcl,
+        regs.owed,
+        (regs.pc.get() / 256) as u8,
+        (regs.pc.get() % 256) as u8,
+        (first.get() / 256) as u8,
+        (first.get() % 256) as u8,
+        (second.get() / 256) as u8,
+        (second.get() % 256) as u8,
+        (third.get() / 256) as u8,
+        (third.get() % 256) as u8,
+        rig.rom_src(),
+    ]
+}
+
+/// Returns an address with another upper or lower byte.
+fn with_byte(at: Addr, is_upper: bool, byte: u8) -> Addr {
+    if is_upper {
+        Addr::on_page(Nibble::low_of(byte), at.low())
+    } else {
+        Addr::on_page(at.page(), byte)
+    }
+}
+
+/// Sets one of the registers that `counters` lists.
+fn set_counter(cpu: &mut Cpu, i: u16, n: u8) {
+    let regs = cpu.regs();
+    let mut ret = regs.ret;
+    match i {
+        0 => cpu.set_acc(Nibble::low_of(n)),
+        1 => cpu.set_cy(Bit::low_of(n)),
+        2 => cpu.set_dcl(n % 8),
+        3 => cpu.set_owed(n % 2),
+        4 => cpu.set_pc(with_byte(regs.pc, true, n)),
+        5 => cpu.set_pc(with_byte(regs.pc, false, n)),
+        _ => {
+            let k = usize::from(i) / 2 % 3;
+            ret[k] = with_byte(ret[k], i % 2 == 0, n);
+            cpu.set_ret(ret);
+        }
+    }
+}
+
+/// A law: each number of a list of nibbles is below 16.
+fn are_nibbles(list: &[Nibble])
+    ensures { All (λ n. n < 16) list.now }
+{
+    for i in 0..list.len() {
+        let _n = list[i].get();
+    }
+}
+
+/// A law: each number of a list of addresses is below 4096.
+fn are_addresses(list: &[Addr])
+    ensures { All (λ a. a < 4096) list.now }
+{
+    for i in 0..list.len() {
+        let _a = list[i].get();
+    }
+}
+
+/// A law: each register of a processor holds a number of its kind.
+fn registers_are_valid(cpu: &Cpu)
+    ensures { IsValidRegs cpu.now }
+{
+    let regs = cpu.regs();
+    let _flags = (regs.acc.get(), regs.cy.get(), regs.pc.get());
+    are_nibbles(&regs.r);
+    are_addresses(&regs.ret);
+}
+
+impl Replica {
+    /// Makes one of a processor and a rig.
+    pub fn of(cpu: Cpu, rig: BenchRig) -> Replica
+        ensures { result ≡ (cpu, rig) }
+    {
+        Replica { cpu, rig }
+    }
+
+    /// Returns the board.
+    pub fn board(&self) -> &Board
+        ensures { result.now ≡ self.now.1.board }
+    {
+        self.rig.board()
+    }
+
+    /// Returns what a cell holds.
+    pub fn value(&self, cell: Cell) -> u8
+        ensures { result ≡ value_at self.now cell }
+    {
+        let i = cell.index % cell.list.count();
+        match cell.list {
+            CellList::Characters => self.rig.ram((i / 256) as u8, (i % 256) as u8).get(),
+            CellList::StatusCharacters => {
+                let high = Nibble::low_of((i / 4 % 16) as u8);
+                self.rig.status((i / 64) as u8, high, (i % 4) as u8).get()
+            }
+            CellList::RamPorts => self.rig.ram_latch((i / 4) as u8, (i % 4) as u8).get(),
+            CellList::RomPorts => self.rig.rom_latch(i as u8).get(),
+            CellList::BankSrcs => self.rig.ram_src(i as u8),
+            CellList::Registers => self.cpu.regs().r[usize::from(i)].get(),
+            CellList::Counters => counters(&self.cpu, &self.rig)[usize::from(i)],
+            CellList::Chain(n) => self.rig.chain_bit(n, i as u8).get(),
+        }
+    }
+
+    /// Sets what a cell holds. That it does is looked at by `is_at`.
+    fn set(&mut self, cell: Cell, n: u8)
+        ensures { Keeps self.old.1 self.new.1 }
+    {
+        let i = cell.index % cell.list.count();
+        match cell.list {
+            CellList::Characters => {
+                self.rig
+                    .set_ram((i / 256) as u8, (i % 256) as u8, Nibble::low_of(n));
+            }
+            CellList::StatusCharacters => {
+                let high = Nibble::low_of((i / 4 % 16) as u8);
+                self.rig
+                    .set_status((i / 64) as u8, high, (i % 4) as u8, Nibble::low_of(n));
+            }
+            CellList::RamPorts => {
+                self.rig
+                    .set_ram_latch((i / 4) as u8, (i % 4) as u8, Nibble::low_of(n));
+            }
+            CellList::RomPorts => self.rig.set_rom_latch(i as u8, Nibble::low_of(n)),
+            CellList::BankSrcs => self.rig.set_ram_src(i as u8, n),
+            CellList::Registers => {
+                let mut r = self.cpu.regs().r;
+                r[usize::from(i)] = Nibble::low_of(n);
+                self.cpu.set_r(r);
+            }
+            CellList::Counters => {
+                if i == 12 {
+                    self.rig.set_rom_src(n);
+                } else {
+                    set_counter(&mut self.cpu, i, n);
+                }
+            }
+            CellList::Chain(chain) => self.rig.set_chain_bit(chain, i as u8, Bit::low_of(n)),
+        }
+    }
+
+    /// Writes what the cells of a layout hold into a key.
+    pub fn save(&self, layout: &[Cell], key: &mut [u8])
+        requires { length key.old ≡ length layout.now }
+        ensures { key.new ≡ key_of layout.now self.now }
+    {
+        for i in 0..layout.len() {
+            key[i] = self.value(layout[i]);
+        }
+    }
+
+    /// Returns whether the cells of a layout hold what a key has.
+    pub(crate) fn is_at(&self, layout: &[Cell], key: &[u8]) -> bool
+        requires { length key.now ≡ length layout.now }
+        ensures { IsTrue result → key.now ≡ key_of layout.now self.now }
+    {
+        for i in 0..layout.len() {
+            if key[i] != self.value(layout[i]) {
+                return false;
+            }
+        }
+        true
+    }
+
+    /// Sets the cells of a layout from a key, and returns whether they hold it then.
+    pub fn load(&mut self, layout: &[Cell], key: &[u8]) -> bool
+        requires { length key.now ≡ length layout.now }
+        ensures keeps { Keeps self.old.1 self.new.1 }
+        ensures loaded { IsTrue result → key.now ≡ key_of layout.now self.new }
+    {
+        for i in 0..layout.len() {
+            self.set(layout[i], key[i]);
+        }
+        self.is_at(layout, key)
+    }
+
+    /// A law: the machine is valid.
+    pub fn show_state_is_valid(&self)
+        ensures registers { IsValidRegs self.now.0 }
+        ensures bus { IsValidBus self.now.1 }
+    {
+        registers_are_valid(&self.cpu);
+        self.rig.show_state_is_valid();
+    }
+}

@@ -1,0 +1,105 @@
+//! A step of the search, from the machine of a key to the next one.
+ghost use Rattle.std.specs.Prelude.{◌≡◌, ◌<◌, ◌⊎◌, ℕ, List, length, true, replicate, IfSome, OnOk};
+ghost use Rattle.std.specs.List.{Contains};
+ghost use Rattle.mcs_model.specs.Boards.{key_count};
+ghost use Rattle.mcs_check.specs.Cells.{IsComplete};
+ghost use Rattle.mcs_check.specs.Keys.{Keeps, setting_of};
+ghost use Rattle.mcs_check.specs.declared.conditions.Comparison.{Comparison};
+ghost use Rattle.mcs_check.specs.Searched.{Covers};
+ghost use Rattle.mcs_check.specs.Stations.{CannotRead};
+ghost use Rattle.mcs_check.specs.Walking.{IsState, Leads};
+
+use crate::cells::Cell;
+use crate::conditions::Never;
+use crate::replica::Replica;
+use std::alloc::AllocError;
+
+/// The values of a nibble.
+const VALUES: u8 = 16;
+
+/// Adds all values of a nibble.
+fn list_all(into: &mut Vec<u8>) -> Result<(), AllocError>
+    ensures { OnOk result ((value : ℕ) → value < 16 → Contains into.new.items value) }
+{
+    for value in 0..VALUES {
+        into.push(value)?;
+    }
+    Ok(())
+}
+
+/// Adds the values that the next cycle of a machine can read. All of its keys are down.
+fn list_readable(replica: &Replica, into: &mut Vec<u8>) -> Result<(), AllocError>
+    requires keys { replica.now.1.keys ≡ replicate (key_count replica.now.1.board) 1 }
+    ensures { OnOk result ((value : ℕ) → value < 16 → CannotRead value replica.now ⊎ Contains into.new.items value) }
+{
+    let source = replica.source();
+    for value in 0..VALUES {
+        if replica.can_read(source, value) {
+            into.push(value)?;
+        }
+    }
+    Ok(())
+}
+
+/// Lists the values that the machine of a key can read; all values if the key was not loaded.
+pub(crate) fn list_values(
+    replica: &mut Replica,
+    layout: &[Cell],
+    key: &[u8],
+    into: &mut Vec<u8>,
+) -> Result<(), AllocError>
+    requires keys { replica.old.1.keys ≡ replicate (key_count replica.old.1.board) 1 }
+    requires test { replica.old.1.test ≡ 0 }
+    requires complete { IsComplete replica.old.1.board layout.now }
+    ensures keeps { Keeps replica.old.1 replica.new.1 }
+    ensures covers { OnOk result ((nevers : List (List Comparison)) →
+        Covers (setting_of replica.old layout.now nevers) key.now into.new.items) }
+{
+    into.clear();
+    if key.len() != layout.len() || !replica.load(layout, key) {
+        list_all(into)?;
+        return Ok(());
+    }
+    replica.show_state_is_valid();
+    list_readable(replica, into)?;
+    Ok(())
+}
+
+/// Goes from the machine of a key to where the next cycle reads of the outside, where the first one reads this value.
+/// Returns whether the property holds all the way, and nothing if the key was not loaded or such a value is never read.
+pub(crate) fn follow(
+    replica: &mut Replica,
+    layout: &[Cell],
+    nevers: &[Never],
+    most: u32,
+    key: &[u8],
+    value: u8,
+    into: &mut [u8],
+) -> Option<bool>
+    requires keys { replica.old.1.keys ≡ replicate (key_count replica.old.1.board) 1 }
+    requires test { replica.old.1.test ≡ 0 }
+    requires complete { IsComplete replica.old.1.board layout.now }
+    requires into { length into.old ≡ length key.now }
+    requires state { IsState (setting_of replica.old layout.now nevers.now) key.now }
+    ensures keeps { Keeps replica.old.1 replica.new.1 }
+    ensures leads { IfSome result (λ well. well ≡ true →
+        Leads (setting_of replica.old layout.now nevers.now) key.now value into.new) }
+    ensures state { IfSome result (λ well. well ≡ true →
+        IsState (setting_of replica.old layout.now nevers.now) into.new) }
+{
+    if key.len() != layout.len() || !replica.load(layout, key) {
+        return None;
+    }
+    replica.show_state_is_valid();
+    let at = replica.counter();
+    let source = replica.source();
+    if !replica.read(source, value) {
+        return None;
+    }
+    if !replica.go_to_station(nevers, most, layout, key, at) {
+        return Some(false);
+    }
+    replica.show_state_is_valid();
+    replica.save(layout, into);
+    Some(true)
+}

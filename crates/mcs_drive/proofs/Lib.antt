@@ -1,0 +1,6 @@
+pub mod Outputs
+pub mod Commuting
+pub mod Answering
+pub mod Choosing
+pub mod Stations
+pub mod Alike

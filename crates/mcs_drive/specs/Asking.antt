@@ -1,0 +1,87 @@
+-- When a machine reads its inputs, and what it can read.
+use Rattle.std.specs.Prelude.{◌≡◌, ◌<◌, ◌+◌, ◌%◌, ◌/◌, ℕ, [], Bool, true, false, not, ◌&&◌, ◌==◌, Option, Some, None, length, slice_index, slice_index_or, if◌then◌else◌}
+use Rattle.std.specs.List.{list_any, range_with_len}
+use Rattle.mcs_nibble.specs.Bits.{bit_of}
+use Rattle.mcs_nibble.specs.Ports.{read_lines}
+use Rattle.mcs_model.specs.declared.board.Line.TheVariants.{Rom}
+use Rattle.mcs_model.specs.declared.op.Op.{Op}
+use Rattle.mcs_model.specs.declared.op.Op.TheVariants.{Jcn, Rdr}
+use Rattle.mcs_model.specs.Boards.{board_fault_of, masks_on}
+use Rattle.mcs_model.specs.Bus.{BusState}
+use Rattle.mcs_model.specs.Effect.{instruction_at}
+use Rattle.mcs_model.specs.Levels.{bit_when, is_pulled, is_rom_line, port_of}
+use Rattle.mcs_model.specs.Running.{Machine}
+use Rattle.mcs_drive.specs.Driven.{Levels, under, cycled}
+
+-- ---- when a machine asks
+
+-- whether an instruction reads an input: RDR, and JCN with bit 0 of its condition, which tests TEST
+abbrev pub asks : Option Op → Bool
+asks (Some Rdr) = true
+asks (Some (Jcn c w)) = c % 2 == 1
+asks _ = false
+
+-- whether the next cycle of a machine does
+abbrev pub is_asking : Machine → Bool
+is_asking s = not (s.0.owed == 1) && asks (instruction_at s.0 s.1)
+
+-- a cycle that reads no input is the same at all levels, and leaves them
+abbrev pub LevelsRest : Type 0
+LevelsRest =
+    (l : Levels) (s : Machine) → board_fault_of s.1.board ≡ None → is_asking s ≡ false →
+    cycled (under l s) ≡ under l (cycled s)
+
+-- ---- what the levels answer
+
+-- what an instruction reads at these levels: the port, or TEST; 0 where it reads no input
+abbrev pub answer_to : Option Op → Levels → BusState → ℕ
+answer_to (Some Rdr) l m = port_of (record m { keys = l.keys; test = l.test })
+answer_to (Some (Jcn c w)) l m = if c % 2 == 1 then l.test else 0
+answer_to _ l m = 0
+
+-- what the next instruction of a machine does
+abbrev pub answer : Levels → Machine → ℕ
+answer l s = answer_to (instruction_at s.0 s.1) l s.1
+
+-- a machine with no levels at its inputs
+abbrev pub plain : Machine → Machine
+plain s = under (record { keys = []; test = 0 }) s
+
+-- of the levels, a cycle depends on what is read alone
+abbrev pub AnswersDecide : Type 0
+AnswersDecide =
+    (l l' : Levels) (s : Machine) → board_fault_of s.1.board ≡ None → answer l s ≡ answer l' s →
+    plain (cycled (under l s)) ≡ plain (cycled (under l' s))
+
+-- ---- which answers there are
+
+-- whether a driven row can pull line k of a ROM's port, with the right key down
+abbrev pub may_be_pulled : BusState → ℕ → ℕ → Bool
+may_be_pulled s chip k =
+    elim s.board.keys [
+      | None ↦ false
+      | Some m ↦ list_any
+          (λ j. is_rom_line chip k (slice_index_or m.columns.items j (Rom 0 0))
+          && list_any (λ r. slice_index (slice_index_or s.chains m.chain []) (m.first + r) == 1) (range_with_len 0 m.rows))
+          (range_with_len 0 (length m.columns.items))
+    ]
+
+-- no other line is pulled, at any levels
+abbrev pub PulledAtMost : Type 0
+PulledAtMost =
+    (l : Levels) (s : Machine) (chip k : ℕ) → is_pulled (under l s).1 chip k ≡ true →
+    may_be_pulled s.1 chip k ≡ true
+
+-- what is read at a ROM's port if, of the lines that can be pulled, the bits of c are
+abbrev pub port_choice : BusState → ℕ → ℕ → ℕ
+port_choice s chip c =
+    elim (masks_on s.board chip) [
+      | Some mask ↦ read_lines (λ k. bit_when (bit_of c k == 1 && may_be_pulled s chip k)) mask
+      | None ↦ 0
+    ]
+
+-- at any levels, one of these 16 values is read
+abbrev pub ChoicesCover : Type 0
+ChoicesCover =
+    (l : Levels) (s : Machine) →
+    (c : ℕ) × (c < 16) × (port_of (under l s).1 ≡ port_choice s.1 (s.1.rom_src / 16) c)

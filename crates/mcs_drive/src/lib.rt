@@ -1,0 +1,6 @@
+//! What all inputs can do to a machine: definitions and laws.
+#![tactic(auto)]
+
+mod laws;
+
+pub use laws::{answers_decide, answers_lead, choices_cover, levels_rest, pulled_at_most};

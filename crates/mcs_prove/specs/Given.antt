@@ -1,0 +1,35 @@
+-- The machine of two texts, and what an answer says of it. (Our own choice.)
+use Rattle.std.specs.Prelude.{◌≡◌, ℕ, List, Bool, Ok, None}
+use Rattle.mcs_model.specs.declared.board.BoardParts.{BoardParts}
+use Rattle.mcs_model.specs.declared.command.Command.TheVariants.{Wire, Load, Reset}
+use Rattle.mcs_model.specs.BenchState.{BenchState, new_bench_state}
+use Rattle.mcs_model.specs.Command.{after, machine_of, own_refusal}
+use Rattle.mcs_model.specs.Images.{by_address}
+use Rattle.mcs_model.specs.Running.{Machine}
+use Rattle.mcs_source.specs.Assembly.{assembly_of_text}
+use Rattle.mcs_wiring.specs.Wiring.{board_of_text}
+use Rattle.mcs_check.specs.declared.checking.Outcome.{Outcome}
+use Rattle.mcs_check.specs.Promised.{IsProved}
+
+-- a new bench after `wire` with this board
+abbrev pub wired : BoardParts → BenchState
+wired b = after new_bench_state (Wire b)
+
+-- the machine of a bench after `wire`, `asm` and `reset`, with this board and this image
+abbrev pub machine_given : BoardParts → List (ℕ × ℕ) → Machine
+machine_given b image = machine_of (after (after (wired b) (Load image)) Reset)
+
+-- `wire` accepts the board of a text, and `asm` then the program of another one
+pub record AreAccepted (board program : List ℕ) (b : BoardParts) (image : List (ℕ × ℕ)) : Type 0 where
+  pub wires : board_of_text board ≡ Ok b
+  pub pairs : List (ℕ × ℕ)
+  pub spells : assembly_of_text program ≡ Ok pairs
+  pub loads : image ≡ by_address pairs
+  pub fits : own_refusal (wired b) (Load image) ≡ None
+
+-- what an outcome promises of the machine of two texts
+pub record IsProvedOf (board program : List ℕ) (p : Machine → Bool) (outcome : Outcome) : Type 0 where
+  pub parts : BoardParts
+  pub loaded : List (ℕ × ℕ)
+  pub accepted : AreAccepted board program parts loaded
+  pub proved : IsProved p (machine_given parts loaded) outcome

@@ -1,0 +1,32 @@
+//! Why a question has no outcome.
+use mcs_asm::SourceFault;
+use mcs_wiring::WiringFault;
+use std::alloc::AllocError;
+
+/// Why a question has no outcome.
+#[derive(Clone, Copy, Debug)]
+pub enum Refusal {
+    /// Memory was refused.
+    NoMemory,
+    /// `wire` refuses the board's text.
+    Wiring(WiringFault),
+    /// `asm` refuses the program's text: the number of its line, from 1, and what is wrong with it.
+    Program(usize, SourceFault),
+    /// `asm` refuses the program's text: the board lacks a ROM of it.
+    NoRom,
+    /// A line of the question is none: its number, from 1.
+    Line(usize),
+    /// The question lacks the board's text, the program's text or its end.
+    NotWhole,
+}
+
+impl From<AllocError> for Refusal {
+    ghost use Rattle.std.specs.Prelude.{◌≡◌};
+    ghost use Rattle.mcs_prove.specs.declared.fault.Refusal.TheVariants.{NoMemory};
+
+    ghost from_gives = { λ _ e. e ≡ NoMemory };
+
+    fn from(_e: AllocError) -> Refusal {
+        Refusal::NoMemory
+    }
+}

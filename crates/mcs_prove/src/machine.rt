@@ -1,0 +1,55 @@
+//! The machine of two texts.
+ghost use Rattle.std.specs.Prelude.{◌≡◌, None, IfOk, IfSome};
+ghost use Rattle.std.specs.List.{list_any};
+ghost use Rattle.mcs_model.specs.ChipWrites.{with_rom_bytes};
+ghost use Rattle.mcs_model.specs.Command.{lacks_rom, own_refusal};
+ghost use Rattle.mcs_model.specs.declared.command.Command.TheVariants.{Load};
+ghost use Rattle.mcs_prove.specs.Given.{machine_given, wired};
+
+use mcs_board::{BenchRig, every_board_fits_the_bench};
+use mcs_check::Replica;
+use mcs_cpu4004::Cpu;
+use mcs_model::board::Board;
+use mcs_model::image::Image;
+use std::alloc::{AllocError, Global};
+
+/// Returns whether a board lacks the ROM of some byte of an image.
+fn lacks_a_rom(board: &Board, image: &Image) -> bool
+    ensures { result ≡ list_any (λ p. lacks_rom board.now p.0) image.now }
+{
+    image
+        .pairs()
+        .iter()
+        .any(|pair| board.mask(pair.0.page().get()).is_none())
+}
+
+/// Puts the bytes of an image into ROM.
+fn load(rig: &mut BenchRig, image: &Image)
+    ensures { rig.new ≡ with_rom_bytes rig.old image.now }
+{
+    for pair in image.pairs() {
+        rig.set_rom_byte(pair.0, pair.1);
+    }
+}
+
+/// Returns the machine of a bench after `wire`, `asm` and `reset`; none if the board lacks a ROM of the image.
+pub(crate) fn machine_given(
+    alloc: Global,
+    board: &Board,
+    image: &Image,
+) -> Result<Option<Replica>, AllocError>
+    ensures accepted { IfOk result (λ made. IfSome made (λ machine.
+        own_refusal (wired board.now) (Load image.now) ≡ None)) }
+    ensures given { IfOk result (λ made. IfSome made (λ machine.
+        machine ≡ machine_given board.now image.now)) }
+{
+    if lacks_a_rom(board, image) {
+        return Ok(None);
+    }
+    let mut rig = BenchRig::new(alloc)?;
+    every_board_fits_the_bench(board);
+    rig.wire(board);
+    load(&mut rig, image);
+    rig.reset();
+    Ok(Some(Replica::of(Cpu::new(), rig)))
+}

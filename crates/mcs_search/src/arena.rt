@@ -1,0 +1,93 @@
+//! All keys that were found, in blocks.
+ghost use Rattle.std.specs.Prelude.{◌≡◌, ◌<◌, ◌*◌, ◌+◌, [], ◌∷◌, ◌++◌, length, OnOk, OnErr, slice_index_or};
+ghost use Rattle.mcs_search.specs.Keys.{Stored};
+
+use crate::block::{BLOCK, KeyBlock, Parent};
+use std::alloc::{AllocError, Global};
+use std::marker::Model;
+use std::mem;
+
+/// Keys of one width, each with its parent, in blocks. A growing arena never copies a full block, so
+/// that it needs no memory beyond that of its keys.
+#[derive(Drop)]
+pub(crate) struct Arena {
+    full: Vec<KeyBlock>,
+    last: KeyBlock,
+    width: usize,
+    len: usize,
+    alloc: Global,
+}
+
+impl Model for Arena {
+    ghost use Rattle.std.specs.Prelude.{◌++◌};
+    ghost use Rattle.mcs_search.specs.Keys.{Stored, FitsArena, keys_of};
+
+    ghost Value = { Stored };
+
+    ghost view = { λ a. record { width = a.width; keys = keys_of a.full.items ++ a.last.keys } };
+
+    ghost invariant = { λ a. FitsArena a.width a.len a.full.items a.last };
+}
+
+impl Arena {
+    /// Returns an arena without keys.
+    pub(crate) fn new(alloc: Global, width: usize) -> Arena
+        ensures { result ≡ record { width = width; keys = [] } }
+    {
+        Arena {
+            full: Vec::new(alloc),
+            last: KeyBlock::new(alloc, width),
+            width,
+            len: 0,
+            alloc,
+        }
+    }
+
+    /// Returns the number of keys.
+    pub(crate) fn len(&self) -> usize
+        ensures { result ≡ length self.now.keys }
+    {
+        self.len
+    }
+
+    /// Returns the key at an index.
+    pub(crate) fn key(&self, i: usize) -> &[u8]
+        requires { i < length self.now.keys }
+        ensures key { result.now ≡ slice_index_or self.now.keys i [] }
+        ensures width { length result.now ≡ self.now.width }
+    {
+        if i / BLOCK < self.full.len() {
+            self.full[i / BLOCK].key(i % BLOCK)
+        } else {
+            self.last.key(i % BLOCK)
+        }
+    }
+
+    /// Returns the parent of the key at an index.
+    pub(crate) fn parent(&self, i: usize) -> Option<Parent> {
+        match self.full.get(i / BLOCK) {
+            Some(block) => block.parent(i % BLOCK),
+            None => self.last.parent(i % BLOCK),
+        }
+    }
+
+    /// Adds a key behind the others. On an error the arena stays as it is.
+    pub(crate) fn push(&mut self, key: &[u8], parent: Parent) -> Result<(), AllocError>
+        requires width { length key.now ≡ self.old.width }
+        requires few { length self.old.keys < 4294967295 }
+        ensures keys { OnOk result (self.new.keys ≡ self.old.keys ++ key.now ∷ []) }
+        ensures width { self.new.width ≡ self.old.width }
+        ensures err { OnErr result (self.new ≡ self.old) }
+    {
+        // Room for the block that this key may fill.
+        self.full.reserve(1)?;
+        self.last.push(key, parent)?;
+        self.len += 1;
+        if self.last.len() < BLOCK {
+            return Ok(());
+        }
+        let block = mem::replace(&mut self.last, KeyBlock::new(self.alloc, self.width));
+        self.full.push_reserved(block);
+        Ok(())
+    }
+}

@@ -1,0 +1,88 @@
+//! A block of keys.
+ghost use Rattle.std.specs.Prelude.{◌≡◌, ◌<◌, ◌*◌, [], ◌∷◌, ◌++◌, length, OnOk, OnErr, slice_index_or};
+ghost use Rattle.mcs_search.specs.Keys.{Stored};
+
+use std::alloc::{AllocError, Global};
+use std::marker::Model;
+
+/// The number of keys in a full block.
+pub(crate) const BLOCK: usize = 65_536;
+
+/// The state from which a state was found first, by its index, and the choice that led to it.
+#[derive(Clone, Copy)]
+pub(crate) struct Parent {
+    pub(crate) state: u32,
+    pub(crate) choice: u8,
+}
+
+/// Keys of one width, one after the other in one list of bytes, each with its parent.
+#[derive(Drop)]
+pub(crate) struct KeyBlock {
+    width: usize,
+    len: usize,
+    bytes: Vec<u8>,
+    parents: Vec<Parent>,
+}
+
+impl Model for KeyBlock {
+    ghost use Rattle.std.specs.Prelude.{◌≡◌, ◌*◌, length};
+    ghost use Rattle.mcs_search.specs.Keys.{Stored, keys_in};
+
+    ghost Value = { Stored };
+
+    ghost view = { λ b. record { width = b.width; keys = keys_in b.width b.len b.bytes.items } };
+
+    ghost invariant = { λ b. length b.bytes.items ≡ b.len * b.width };
+}
+
+impl KeyBlock {
+    /// Returns a block without keys.
+    pub(crate) fn new(alloc: Global, width: usize) -> KeyBlock
+        ensures { result ≡ record { width = width; keys = [] } }
+    {
+        KeyBlock {
+            width,
+            len: 0,
+            bytes: Vec::new(alloc),
+            parents: Vec::new(alloc),
+        }
+    }
+
+    /// Returns the number of keys.
+    pub(crate) fn len(&self) -> usize
+        ensures { result ≡ length self.now.keys }
+    {
+        self.len
+    }
+
+    /// Returns the key at an index.
+    pub(crate) fn key(&self, i: usize) -> &[u8]
+        requires { i < length self.now.keys }
+        ensures key { result.now ≡ slice_index_or self.now.keys i [] }
+        ensures width { length result.now ≡ self.now.width }
+    {
+        let at = i * self.width;
+        &self.bytes[at..at + self.width]
+    }
+
+    /// Returns the parent of the key at an index.
+    pub(crate) fn parent(&self, i: usize) -> Option<Parent> {
+        self.parents.get(i).copied()
+    }
+
+    /// Adds a key behind the others. On an error the block stays as it is.
+    pub(crate) fn push(&mut self, key: &[u8], parent: Parent) -> Result<(), AllocError>
+        requires width { length key.now ≡ self.old.width }
+        requires few { length self.old.keys < BLOCK }
+        ensures keys { OnOk result (self.new.keys ≡ self.old.keys ++ key.now ∷ []) }
+        ensures width { self.new.width ≡ self.old.width }
+        ensures err { OnErr result (self.new ≡ self.old) }
+    {
+        // An earlier call may have failed behind this push.
+        self.parents.truncate(self.len);
+        self.parents.push(parent)?;
+        self.bytes.extend_from_slice(key)?;
+        self.len += 1;
+        Ok(())
+    }
+}

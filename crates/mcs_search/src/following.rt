@@ -1,0 +1,115 @@
+//! One state of a search: its choices, and the choices that led to it.
+ghost use Rattle.std.specs.Prelude.{◌≡◌, ◌<◌, ◌≤◌, length, IfOk, IsTrue};
+ghost use Rattle.std.specs.List.{All};
+ghost use Rattle.mcs_search.specs.Rules.{Rules, Breaks};
+ghost use Rattle.mcs_search.specs.Keys.{Grows};
+ghost use Rattle.mcs_search.specs.Verdicts.{CameOf};
+
+use crate::block::Parent;
+use crate::system::System;
+use crate::visited::{Added, Visited};
+use std::alloc::{AllocError, Global};
+
+/// What came of following the choices of a state.
+#[derive(Clone, Copy)]
+pub(crate) enum Followed {
+    /// The next states are all among those that were visited.
+    All,
+    /// The property fails on the way of this choice.
+    Broken(u8),
+    /// A next state has no room.
+    TooMany,
+    /// The system gave up.
+    GaveUp,
+}
+
+/// Follows these choices of a state, the one at the index `at`, and adds the next states.
+pub(crate) fn follow<S: System>(
+    system: &mut S,
+    visited: &mut Visited,
+    most: usize,
+    at: usize,
+    key: &[u8],
+    choices: &[u8],
+    into: &mut [u8],
+) -> Result<Followed, AllocError>
+    requires most { most < 4294967295 }
+    requires few { length visited.old.keys < 4294967295 }
+    requires at { at < 4294967295 }
+    requires state { (S.rules (S.setting system.old)).is_state key.now }
+    requires into { length into.old ≡ length key.now }
+    requires width { length key.now ≡ visited.old.width }
+    requires states { All (S.rules (S.setting system.old)).is_state visited.old.keys }
+    ensures setting { S.setting system.new ≡ S.setting system.old }
+    ensures grows { Grows visited.old visited.new }
+    ensures states { All (S.rules (S.setting system.old)).is_state visited.new.keys }
+    ensures few { length visited.new.keys < 4294967295 }
+    ensures came { IfOk result (CameOf (S.rules (S.setting system.old)) visited.new.keys key.now choices.now) }
+{
+    for i in 0..choices.len() {
+        let choice = choices[i];
+        match system.go(key, choice, into) {
+            None => return Ok(Followed::GaveUp),
+            Some(false) => return Ok(Followed::Broken(choice)),
+            Some(true) => {}
+        }
+        let parent = Parent {
+            state: at as u32,
+            choice,
+        };
+        match visited.add(into, parent, most)? {
+            Added::New => {}
+            Added::Known => {}
+            Added::Full => return Ok(Followed::TooMany),
+        }
+    }
+    Ok(Followed::All)
+}
+
+/// Returns the choices that led to the state at an index, and one more. They are read from parents,
+/// of which nothing is proved, so that they have to be tried.
+pub(crate) fn choices_to(
+    alloc: Global,
+    visited: &Visited,
+    state: usize,
+    last: u8,
+) -> Result<Vec<u8>, AllocError> {
+    let mut choices = Vec::new(alloc);
+    choices.push(last)?;
+    let mut at = state;
+    while at > 0 {
+        let Some(parent) = visited.parent(at) else {
+            break;
+        };
+        if parent.state as usize >= at {
+            break;
+        }
+        choices.push(parent.choice)?;
+        at = parent.state as usize;
+    }
+    choices.reverse();
+    Ok(choices)
+}
+
+/// Returns whether these choices, tried one after the other, lead to where the property fails.
+pub(crate) fn breaks<S: System>(
+    system: &mut S,
+    key: &mut [u8],
+    into: &mut [u8],
+    choices: &[u8],
+) -> bool
+    requires state { (S.rules (S.setting system.old)).is_state key.old }
+    requires into { length into.old ≡ length key.old }
+    ensures setting { S.setting system.new ≡ S.setting system.old }
+    ensures breaks { IsTrue result → Breaks (S.rules (S.setting system.old)) key.old choices.now }
+{
+    for choice in choices {
+        match system.go(key, *choice, into) {
+            None => return false,
+            Some(false) => return true,
+            Some(true) => {}
+        }
+        key.copy_from_slice(into);
+    }
+    false
+}

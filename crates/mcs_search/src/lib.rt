@@ -1,0 +1,12 @@
+//! A breadth-first search through all states that a system can reach. It knows no machine.
+#![tactic(auto)]
+
+mod arena;
+mod block;
+mod following;
+mod searching;
+mod system;
+mod visited;
+
+pub use searching::{MOST, Search, Verdict, search_all};
+pub use system::System;

@@ -1,0 +1,201 @@
+//! The search, whole and in slices.
+ghost use Rattle.std.specs.Prelude.{◌≡◌, ◌<◌, ◌≤◌, [], ◌∷◌, length, IfOk, IfSome, slice_index_or};
+ghost use Rattle.mcs_search.specs.Rules.{Rules};
+ghost use Rattle.mcs_search.specs.Verdicts.{IsProved, IsUnderWay, Progress, start_of};
+
+use crate::block::Parent;
+use crate::following::{Followed, breaks, choices_to, follow};
+use crate::system::System;
+use crate::visited::Visited;
+use std::alloc::{AllocError, Global};
+use std::marker::Model;
+
+/// The number of states that a search may visit at most.
+pub const MOST: usize = 4_000_000_000;
+
+/// The result of a search.
+#[derive(Drop)]
+pub enum Verdict {
+    /// The property holds, whatever is chosen. There are this many states.
+    Holds(usize),
+    /// The property fails after these choices.
+    Broken(Vec<u8>),
+    /// There are more states than the search may visit.
+    TooMany,
+    /// The system gave up.
+    GaveUp,
+}
+
+/// A breadth-first search under way.
+#[derive(Drop)]
+pub struct Search {
+    visited: Visited,
+    followed: usize,
+    most: usize,
+    key: Vec<u8>,
+    into: Vec<u8>,
+    choices: Vec<u8>,
+    alloc: Global,
+}
+
+impl Model for Search {
+    ghost use Rattle.std.specs.Prelude.{◌≡◌, ◌<◌, ◌≤◌, length, vec_len};
+    ghost use Rattle.mcs_search.specs.declared.searching.TheConstants.{MOST};
+    ghost use Rattle.mcs_search.specs.Verdicts.{Progress, FitsSearch};
+
+    ghost Value = { Progress };
+
+    ghost view = { λ s. record { keys = s.visited.keys; followed = s.followed } };
+
+    ghost invariant = { λ s. FitsSearch s.visited s.followed s.most (vec_len s.key) (vec_len s.into) };
+}
+
+impl Search {
+    /// Begins a search of at most `most` states.
+    pub fn begin(alloc: Global, start: &[u8], most: usize) -> Result<Search, AllocError>
+        requires { most ≤ MOST }
+        ensures { IfOk result (λ search.
+            search ≡ record { keys = start.now ∷ []; followed = 0 }) }
+    {
+        let key = vec![in alloc; 0u8; start.len()]?;
+        let into = vec![in alloc; 0u8; start.len()]?;
+        let mut visited = Visited::new(alloc, start.len())?;
+        let parent = Parent {
+            state: 0,
+            choice: 0,
+        };
+        visited.add(start, parent, 1)?;
+        Ok(Search {
+            visited,
+            followed: 0,
+            most,
+            key,
+            into,
+            choices: Vec::new(alloc),
+            alloc,
+        })
+    }
+
+    /// Returns the number of states that were found.
+    pub fn states(&self) -> usize
+        ensures { result ≡ length self.now.keys }
+    {
+        self.visited.len()
+    }
+
+    /// Returns the number of states whose choices were followed. The others are the frontier.
+    pub fn followed(&self) -> usize
+        ensures { result ≡ self.now.followed }
+    {
+        self.followed
+    }
+
+    /// Returns the key of a state, by its index in the order in which states were found.
+    pub fn key(&self, i: usize) -> &[u8]
+        requires { i < length self.now.keys }
+        ensures { result.now ≡ slice_index_or self.now.keys i [] }
+    {
+        self.visited.key(i)
+    }
+
+    /// Returns the verdict on a choice on whose way the property failed.
+    fn counterexample<S: System>(
+        &mut self,
+        system: &mut S,
+        choice: u8,
+    ) -> Result<Verdict, AllocError>
+        requires under_way { IsUnderWay (S.rules (S.setting system.old)) self.old }
+        ensures setting { S.setting system.new ≡ S.setting system.old }
+        ensures same { self.new ≡ self.old }
+        ensures proved { IfOk result (IsProved (S.rules (S.setting system.old)) (start_of self.old)) }
+    {
+        let choices = choices_to(self.alloc, &self.visited, self.followed, choice)?;
+        self.key.copy_from_slice(self.visited.key(0));
+        if breaks(system, &mut self.key, &mut self.into, &choices) {
+            Ok(Verdict::Broken(choices))
+        } else {
+            Ok(Verdict::GaveUp)
+        }
+    }
+
+    /// Follows the choices of the next state. Returns a verdict if there is none, or at the first
+    /// choice that ends the search.
+    fn follow_next<S: System>(&mut self, system: &mut S) -> Result<Option<Verdict>, AllocError>
+        requires under_way { IsUnderWay (S.rules (S.setting system.old)) self.old }
+        ensures setting { S.setting system.new ≡ S.setting system.old }
+        ensures under_way { IsUnderWay (S.rules (S.setting system.old)) self.new }
+        ensures start { start_of self.new ≡ start_of self.old }
+        ensures proved { IfOk result (λ verdict.
+            IfSome verdict (IsProved (S.rules (S.setting system.old)) (start_of self.old))) }
+    {
+        let len = self.visited.len();
+        if self.most < len {
+            return Ok(Some(Verdict::TooMany));
+        }
+        if self.followed == len {
+            return Ok(Some(Verdict::Holds(len)));
+        }
+        self.key.copy_from_slice(self.visited.key(self.followed));
+        system.choices(&self.key, &mut self.choices)?;
+        match follow(
+            system,
+            &mut self.visited,
+            self.most,
+            self.followed,
+            &self.key,
+            &self.choices,
+            &mut self.into,
+        )? {
+            Followed::All => {
+                self.followed += 1;
+                Ok(None)
+            }
+            Followed::TooMany => Ok(Some(Verdict::TooMany)),
+            Followed::GaveUp => Ok(Some(Verdict::GaveUp)),
+            Followed::Broken(choice) => Ok(Some(self.counterexample(system, choice)?)),
+        }
+    }
+
+    /// Follows the choices of at most `steps` states. Returns `None` if the search has not ended; it
+    /// goes on with the next call, also after an error.
+    pub fn go_on<S: System>(
+        &mut self,
+        system: &mut S,
+        steps: usize,
+    ) -> Result<Option<Verdict>, AllocError>
+        requires under_way { IsUnderWay (S.rules (S.setting system.old)) self.old }
+        ensures setting { S.setting system.new ≡ S.setting system.old }
+        ensures under_way { IsUnderWay (S.rules (S.setting system.old)) self.new }
+        ensures start { start_of self.new ≡ start_of self.old }
+        ensures proved { IfOk result (λ verdict.
+            IfSome verdict (IsProved (S.rules (S.setting system.old)) (start_of self.old))) }
+    {
+        for _ in 0..steps {
+            match self.follow_next(system)? {
+                None => {}
+                Some(verdict) => return Ok(Some(verdict)),
+            }
+        }
+        Ok(None)
+    }
+}
+
+/// Searches through all states that a system can reach from one, at most `most`.
+pub fn search_all<S: System>(
+    alloc: Global,
+    system: &mut S,
+    start: &[u8],
+    most: usize,
+) -> Result<Verdict, AllocError>
+    requires most { most ≤ MOST }
+    requires start { (S.rules (S.setting system.old)).is_state start.now }
+    ensures setting { S.setting system.new ≡ S.setting system.old }
+    ensures proved { IfOk result (IsProved (S.rules (S.setting system.old)) start.now) }
+{
+    let mut search = Search::begin(alloc, start, most)?;
+    // Each step follows one of at most `most` states, and the last one finds none left.
+    match search.go_on(system, most + 1)? {
+        Some(verdict) => Ok(verdict),
+        None => Ok(Verdict::TooMany),
+    }
+}

@@ -1,0 +1,199 @@
+//! The states that were found, with a table that finds a state by its key.
+ghost use Rattle.std.specs.Prelude.{◌≡◌, ◌≢◌, ◌<◌, ◌≤◌, ◌+◌, ℕ, List, [], ◌∷◌, ◌++◌, length, vec_len, IfOk, OnOk, MatchOption, slice_index_or};
+ghost use Rattle.std.specs.List.{Contains};
+ghost use Rattle.mcs_search.specs.Keys.{Stored, Adds};
+ghost use Rattle.mcs_search.specs.Verdicts.{WasAdded};
+
+use crate::arena::Arena;
+use crate::block::Parent;
+use std::alloc::{AllocError, Global};
+use std::hash::{FoldHasher, Hasher};
+use std::marker::Model;
+
+/// The number of slots of the first table.
+const FIRST_SLOTS: usize = 1_024;
+
+/// What became of a key that was to be added.
+#[derive(Clone, Copy)]
+pub(crate) enum Added {
+    /// The key was new.
+    New,
+    /// The key was there.
+    Known,
+    /// The key was new, and there was no room for it.
+    Full,
+}
+
+/// Returns the hash of a key.
+fn hash(key: &[u8]) -> usize {
+    let mut hasher = FoldHasher::default();
+    hasher.write(key);
+    hasher.finish() as usize
+}
+
+/// Returns the first slot of a key in a table with `count` slots, a power of two.
+fn first_slot(count: usize, key: &[u8]) -> usize
+    requires { 0 < count }
+    ensures { result < count }
+{
+    hash(key) & (count - 1)
+}
+
+/// Returns the slot behind a slot; behind the last one it is the first.
+fn slot_behind(count: usize, at: usize) -> usize
+    requires { at < count }
+    ensures { result < count }
+{
+    if at + 1 < count { at + 1 } else { 0 }
+}
+
+/// Returns `None` if the arena has the key, and a slot for it otherwise. A slot has the index of a
+/// key plus 1, or 0.
+fn slot_for(slots: &[u32], arena: &Arena, key: &[u8]) -> Option<usize>
+    requires { 0 < length slots.now }
+    ensures { MatchOption result (Contains arena.now.keys key.now) (λ at. at < length slots.now) }
+{
+    let count = slots.len();
+    let mut at = first_slot(count, key);
+    for _ in 0..count {
+        let slot = slots[at] as usize;
+        if slot == 0 {
+            return Some(at);
+        }
+        if slot <= arena.len() && arena.key(slot - 1) == key {
+            return None;
+        }
+        at = slot_behind(count, at);
+    }
+    Some(at)
+}
+
+/// Returns a free slot for a key that has none.
+fn free_slot(slots: &[u32], key: &[u8]) -> usize
+    requires { 0 < length slots.now }
+    ensures { result < length slots.now }
+{
+    let count = slots.len();
+    let mut at = first_slot(count, key);
+    for _ in 0..count {
+        if slots[at] == 0 {
+            return at;
+        }
+        at = slot_behind(count, at);
+    }
+    at
+}
+
+/// Enters all keys of an arena into an empty table.
+fn enter_all(slots: &mut [u32], arena: &Arena)
+    requires room { 0 < length slots.old }
+    requires few { length arena.now.keys < 4294967295 }
+{
+    for i in 0..arena.len() {
+        let at = free_slot(slots, arena.key(i));
+        slots[at] = i as u32 + 1;
+    }
+}
+
+/// Keys of one width, each with its parent, and a table over them.
+///
+/// Nothing is proved of the table, and nothing has to be: a key counts as known only after its bytes
+/// were compared with those of a key in the arena. A key that the table misses is stored twice.
+#[derive(Drop)]
+pub(crate) struct Visited {
+    arena: Arena,
+    slots: Vec<u32>,
+    alloc: Global,
+}
+
+impl Model for Visited {
+    ghost use Rattle.std.specs.Prelude.{◌<◌, vec_len};
+    ghost use Rattle.mcs_search.specs.Keys.{Stored};
+
+    ghost Value = { Stored };
+
+    ghost view = { λ v. v.arena };
+
+    ghost invariant = { λ v. 0 < vec_len v.slots };
+}
+
+impl Visited {
+    /// Returns a set without keys.
+    pub(crate) fn new(alloc: Global, width: usize) -> Result<Visited, AllocError>
+        ensures { IfOk result (λ visited. visited ≡ record { width = width; keys = [] }) }
+    {
+        let slots = vec![in alloc; 0u32; FIRST_SLOTS]?;
+        Ok(Visited {
+            arena: Arena::new(alloc, width),
+            slots,
+            alloc,
+        })
+    }
+
+    /// Returns the number of keys.
+    pub(crate) fn len(&self) -> usize
+        ensures { result ≡ length self.now.keys }
+    {
+        self.arena.len()
+    }
+
+    /// Returns the key at an index.
+    pub(crate) fn key(&self, i: usize) -> &[u8]
+        requires { i < length self.now.keys }
+        ensures key { result.now ≡ slice_index_or self.now.keys i [] }
+        ensures width { length result.now ≡ self.now.width }
+    {
+        self.arena.key(i)
+    }
+
+    /// Returns the parent of the key at an index.
+    pub(crate) fn parent(&self, i: usize) -> Option<Parent> {
+        self.arena.parent(i)
+    }
+
+    /// Makes a table of four slots a key if less than half of this one is free. The old table is
+    /// freed first, since the arena has all that is in it.
+    fn make_room(&mut self) -> Result<(), AllocError>
+        requires few { length self.old.keys < 4294967295 }
+        ensures { self.new ≡ self.old }
+    {
+        let len = self.arena.len();
+        if len < self.slots.len() / 2 {
+            return Ok(());
+        }
+        let count = (len * 4).next_power_of_two();
+        self.slots = vec![in self.alloc; 0u32; 1]?;
+        let mut slots = vec![in self.alloc; 0u32; count]?;
+        enter_all(&mut slots, &self.arena);
+        self.slots = slots;
+        Ok(())
+    }
+
+    /// Adds a key unless it is there, or `most` keys are. On an error no key is lost.
+    pub(crate) fn add(
+        &mut self,
+        key: &[u8],
+        parent: Parent,
+        most: usize,
+    ) -> Result<Added, AllocError>
+        requires width { length key.now ≡ self.old.width }
+        requires most { most < 4294967295 }
+        requires few { length self.old.keys < 4294967295 }
+        ensures added { IfOk result (WasAdded most self.old.keys self.new.keys key.now) }
+        ensures adds { Adds self.old key.now self.new }
+        ensures few { length self.new.keys < 4294967295 }
+    {
+        self.make_room()?;
+        match slot_for(&self.slots, &self.arena, key) {
+            None => Ok(Added::Known),
+            Some(at) => {
+                if self.arena.len() >= most {
+                    return Ok(Added::Full);
+                }
+                self.arena.push(key, parent)?;
+                self.slots[at] = self.arena.len() as u32;
+                Ok(Added::New)
+            }
+        }
+    }
+}

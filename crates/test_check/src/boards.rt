@@ -1,0 +1,61 @@
+//! A board with a program: the electronic die of the examples.
+use mcs_board::BenchRig;
+use mcs_check::Replica;
+use mcs_cpu4004::Cpu;
+use mcs_fixtures::boards::{CLOCK_AND_DATA, INPUTS, OUTPUTS, chains, lines};
+use mcs_model::board::{Board, BoardFault, BoardParts, KeyMatrix, Line};
+use mcs_model::limits::ROMS;
+use mcs_nibble::Addr;
+use std::alloc::{AllocError, Global};
+use std::process::Abort;
+
+/// The die's program.
+const PROGRAM: [u8; 29] = [
+    34, 0, 36, 16, 35, 210, 226, 242, 226, 32, 42, 54, 35, 167, 225, 37, 234, 20, 15, 113, 25, 218,
+    177, 64, 11, 0, 0, 64, 11,
+];
+
+/// The lamps of its faces, which stand behind it.
+pub(crate) const FACES: [u8; 6] = [8, 1, 9, 3, 11, 7];
+
+/// Where they stand.
+const FACES_AT: u16 = 42;
+
+/// Returns a board with a ROM port of outputs, one of inputs, a RAM chip and one key.
+fn one_key() -> Result<Board, BoardFault> {
+    let mut roms = [None; ROMS];
+    roms[0] = Some(OUTPUTS);
+    roms[1] = Some(INPUTS);
+    Board::of(BoardParts {
+        roms,
+        banks: [1, 0, 0, 0, 0, 0, 0, 0],
+        chains: chains(1, 1, CLOCK_AND_DATA),
+        keys: Some(KeyMatrix {
+            chain: 0,
+            first: 0,
+            rows: 1,
+            columns: lines(&[Line::Rom(1, 0)]),
+        }),
+        lamps: lines(&[]),
+    })
+}
+
+/// Puts bytes into ROMs, from an address on.
+fn put(rig: &mut BenchRig, from: u16, bytes: &[u8]) {
+    let mut at = Addr::ZERO.plus(from);
+    for byte in bytes {
+        rig.set_rom_byte(at, *byte);
+        at = at.plus(1);
+    }
+}
+
+/// Returns the die, before its first cycle.
+pub(crate) fn die(alloc: Global, rt: &impl Abort) -> Result<Replica, AllocError> {
+    let board = one_key().expect(rt, "a board");
+    let mut rig = BenchRig::new(alloc)?;
+    assert!(rt; BenchRig::fits(&board));
+    rig.wire(&board);
+    put(&mut rig, 0, &PROGRAM);
+    put(&mut rig, FACES_AT, &FACES);
+    Ok(Replica::of(Cpu::new(), rig))
+}

@@ -1,0 +1,11 @@
+-- Rules that say nothing: the tests count states, and replay choices.
+use Rattle.std.specs.Prelude.{ℕ}
+use Rattle.mcs_search.specs.Rules.{Rules}
+
+abbrev pub free : ℕ → Rules
+free n = record {
+  is_state = λ _. Unit {0};
+  covers = λ _ _. Unit {0};
+  leads = λ _ _ _. Unit {0};
+  fails = λ _ _. Unit {0};
+}

@@ -1,0 +1,93 @@
+//! Verdicts of whole searches.
+use crate::wheels::{Wheels, searched};
+use mcs_search::Verdict;
+use std::alloc::Global;
+use std::process::Abort;
+
+/// Expects that the property holds on this many states.
+fn expect_holds(rt: &impl Abort, verdict: &Verdict, states: usize) {
+    match verdict {
+        Verdict::Holds(n) => assert_eq!(rt; *n, states),
+        _ => panic!(rt; "the property does not hold"),
+    }
+}
+
+fn expect_too_many(rt: &impl Abort, verdict: &Verdict) {
+    assert!(rt; matches!(verdict, Verdict::TooMany));
+}
+
+/// Expects that all places of the wheels are found.
+fn expect_all(alloc: Global, rt: &impl Abort, count: usize, places: u8, states: usize) {
+    let mut wheels = Wheels::new(count, places);
+    expect_holds(rt, &searched(alloc, rt, &mut wheels, 1_000_000), states);
+}
+
+#[test]
+fn all_states_are_found(rt: HostRuntime) {
+    expect_all(rt.alloc(), &rt, 0, 5, 1);
+    expect_all(rt.alloc(), &rt, 1, 1, 1);
+    expect_all(rt.alloc(), &rt, 1, 200, 200);
+    expect_all(rt.alloc(), &rt, 3, 5, 125);
+    expect_all(rt.alloc(), &rt, 2, 251, 63_001);
+}
+
+#[test]
+fn more_states_than_a_block_has(rt: HostRuntime) {
+    expect_all(rt.alloc(), &rt, 3, 51, 132_651);
+}
+
+/// Expects a counterexample that turns each wheel to its bad place and not further.
+fn expect_shortest(alloc: Global, rt: &impl Abort, places: u8, bad: [u8; 3]) {
+    let mut wheels = Wheels::new(3, places);
+    wheels.bad = bad;
+    let verdict = searched(alloc, rt, &mut wheels, 1_000_000);
+    let Verdict::Broken(choices) = &verdict else {
+        panic!(rt; "no counterexample")
+    };
+    let mut turned = [0u8; 3];
+    for choice in choices.as_slice() {
+        let at = usize::from(*choice);
+        assert!(rt; at < 3);
+        turned[at] = turned[at].wrapping_add(1);
+    }
+    assert!(rt; turned == bad);
+}
+
+#[test]
+fn a_counterexample_is_shortest(rt: HostRuntime) {
+    expect_shortest(rt.alloc(), &rt, 5, [0, 1, 0]);
+    expect_shortest(rt.alloc(), &rt, 5, [2, 1, 3]);
+    expect_shortest(rt.alloc(), &rt, 5, [4, 4, 4]);
+    expect_shortest(rt.alloc(), &rt, 45, [44, 44, 44]);
+}
+
+#[test]
+fn no_state_more_than_asked_for(rt: HostRuntime) {
+    let mut one = Wheels::new(1, 1);
+    expect_too_many(&rt, &searched(rt.alloc(), &rt, &mut one, 0));
+    expect_holds(&rt, &searched(rt.alloc(), &rt, &mut one, 1), 1);
+    let mut wheels = Wheels::new(3, 5);
+    expect_too_many(&rt, &searched(rt.alloc(), &rt, &mut wheels, 1));
+    expect_too_many(&rt, &searched(rt.alloc(), &rt, &mut wheels, 124));
+    expect_holds(&rt, &searched(rt.alloc(), &rt, &mut wheels, 125), 125);
+}
+
+#[test]
+fn a_system_may_give_up(rt: HostRuntime) {
+    let mut wheels = Wheels::new(3, 5);
+    wheels.stuck = [1, 2, 0];
+    assert!(&rt;
+        matches!(
+            searched(rt.alloc(), &rt, &mut wheels, 1_000),
+            Verdict::GaveUp
+        )
+    );
+    // a nearer counterexample is found before
+    wheels.bad = [0, 2, 0];
+    assert!(&rt;
+        matches!(
+            searched(rt.alloc(), &rt, &mut wheels, 1_000),
+            Verdict::Broken(_)
+        )
+    );
+}

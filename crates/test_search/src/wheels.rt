@@ -1,0 +1,91 @@
+//! A system for tests.
+use mcs_search::{Search, System, Verdict, search_all};
+use std::alloc::{AllocError, Global};
+use std::process::Abort;
+
+/// Wheels of `places` places, all at place 0 first. A choice turns a wheel on by one place.
+#[derive(Drop)]
+pub(crate) struct Wheels {
+    pub(crate) count: usize,
+    pub(crate) places: u8,
+    /// The property fails here; of fewer wheels the first bytes count.
+    pub(crate) bad: [u8; 3],
+    /// The system gives up here.
+    pub(crate) stuck: [u8; 3],
+}
+
+/// No state: no wheel has this place.
+pub(crate) const NOWHERE: [u8; 3] = [255; 3];
+
+impl Wheels {
+    /// Returns wheels on which the property holds everywhere.
+    pub(crate) fn new(count: usize, places: u8) -> Wheels {
+        Wheels {
+            count,
+            places,
+            bad: NOWHERE,
+            stuck: NOWHERE,
+        }
+    }
+}
+
+/// Returns whether the wheels are at these places.
+fn are_at(key: &[u8], places: &[u8; 3]) -> bool {
+    !key.is_empty() && key.len() <= 3 && key == &places[..key.len()]
+}
+
+impl System for Wheels {
+    ghost use Rattle.std.specs.Prelude.{ℕ};
+    ghost use Rattle.test_search.specs.Wheels.{free};
+
+    ghost Setting = { ℕ };
+
+    ghost setting = { λ _. 0 };
+
+    ghost rules = { free };
+
+    fn choices(&mut self, key: &[u8], into: &mut Vec<u8>) -> Result<(), AllocError> {
+        into.clear();
+        for i in 0..3u8 {
+            if usize::from(i) < key.len() {
+                into.push(i)?;
+            }
+        }
+        Ok(())
+    }
+
+    fn go(&mut self, key: &[u8], choice: u8, into: &mut [u8]) -> Option<bool> {
+        into.copy_from_slice(key);
+        let at = usize::from(choice);
+        if at < into.len() {
+            let turned = into[at].wrapping_add(1);
+            into[at] = if turned < self.places { turned } else { 0 };
+        }
+        if are_at(into, &self.stuck) {
+            return None;
+        }
+        Some(!are_at(into, &self.bad))
+    }
+}
+
+/// Follows at most `steps` states of a search.
+#[tactic(auto, using(crate::proofs::Free::free_under_way))]
+pub(crate) fn go_on(
+    search: &mut Search,
+    wheels: &mut Wheels,
+    steps: usize,
+) -> Result<Option<Verdict>, AllocError> {
+    search.go_on(wheels, steps)
+}
+
+/// Searches through at most `most` places of the wheels.
+pub(crate) fn searched(
+    alloc: Global,
+    rt: &impl Abort,
+    wheels: &mut Wheels,
+    most: usize,
+) -> Verdict {
+    let start = vec![in alloc; 0u8; wheels.count].expect(rt, "memory");
+    let most = most.min(mcs_search::MOST);
+    search_all(alloc, wheels, &start, most).expect(rt, "memory")
+}

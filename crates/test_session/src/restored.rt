@@ -1,0 +1,83 @@
+//! Benches that are restored: from plain numbers, and from bytes.
+use crate::checks::equal;
+use mcs_bench::{Bench, Flat};
+use mcs_codec::{STATE_BYTES, bench_of, state_bytes};
+use mcs_fixtures::boards::worked;
+use mcs_model::command::Command;
+use mcs_model::image::Image;
+use mcs_model::refusals::BenchFault;
+use mcs_nibble::Addr;
+use std::alloc::Global;
+use std::process::Abort;
+
+/// The bench in this state.
+fn restored(alloc: Global, rt: &impl Abort, flat: &Flat) -> Bench {
+    assert!(rt; flat.check());
+    Bench::restore(alloc, flat).expect(rt, "memory")
+}
+
+/// A bench that has accepted its last command refuses each other one.
+#[test]
+fn a_worn_bench(rt: HostRuntime) {
+    let alloc = rt.alloc();
+    let mut flat = Flat::new(alloc).expect(&rt, "memory");
+    flat.seq = u32::MAX;
+    let bench = restored(alloc, &rt, &flat);
+    equal(&rt, bench.seq(), u32::MAX);
+    equal(&rt, bench.check(&Command::Reset), Err(BenchFault::Worn));
+    flat.seq = u32::MAX - 1;
+    let bench = restored(alloc, &rt, &flat);
+    equal(&rt, bench.check(&Command::Reset), Ok(()));
+}
+
+/// Does a command that the bench accepts.
+fn done(rt: &impl Abort, bench: &mut Bench, command: &Command) {
+    match bench.check(command) {
+        Ok(()) => {
+            let _reply = bench.apply(command);
+        }
+        Err(_) => panic!(rt; "a command was refused"),
+    }
+}
+
+/// `JUN 0x123`, at 0.
+fn jump(alloc: Global, rt: &impl Abort) -> Image {
+    let mut image = Image::new(alloc).expect(rt, "memory");
+    assert!(rt; image.push(Addr::ZERO, 0x41).is_ok());
+    assert!(rt; image.push(Addr::ZERO.plus(1), 0x23).is_ok());
+    image
+}
+
+/// A bench that owes the second cycle of a jump.
+fn owing(alloc: Global, rt: &impl Abort) -> Bench {
+    let mut bench = Bench::new(alloc).expect(rt, "memory");
+    let board = worked().expect(rt, "a board");
+    done(rt, &mut bench, &Command::Wire(board));
+    done(rt, &mut bench, &Command::Load(jump(alloc, rt)));
+    done(rt, &mut bench, &Command::Run(1));
+    bench
+}
+
+/// The state of a bench in bytes, and how many they are.
+fn written(bench: &Bench) -> ([u8; STATE_BYTES], usize) {
+    let mut bytes = [0; STATE_BYTES];
+    let count = state_bytes(bench, &mut bytes);
+    (bytes, count)
+}
+
+/// An owed cycle is written and read, and so is all else.
+#[test]
+fn an_owed_cycle(rt: HostRuntime) {
+    let alloc = rt.alloc();
+    let bench = owing(alloc, &rt);
+    equal(&rt, bench.regs().owed, 1);
+    equal(&rt, bench.regs().pc.get(), 0x123);
+    let (bytes, count) = written(&bench);
+    assert!(rt; count <= STATE_BYTES);
+    let found = bench_of(alloc, &bytes[..count]).expect(&rt, "memory");
+    let again = found.expect(&rt, "a state");
+    equal(&rt, again.seq(), 3);
+    equal(&rt, again.regs(), bench.regs());
+    let (found, length) = written(&again);
+    assert!(rt; length == count && found[..count] == bytes[..count]);
+}

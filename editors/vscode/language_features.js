@@ -1,0 +1,133 @@
+// What Visual Studio Code asks beside help, names and errors, asked of `mcs4 lsp`: layout, hints, folds, names of the workspace, calls,
+// lenses, links, selections, the form of a statement. Each answer is put into the editor's own classes.
+"use strict";
+
+class LanguageFeatures {
+  /**
+   * @param {import("./language_client.js").LanguageClient} client
+   * @param {object[]} selector the languages
+   */
+  constructor(client, selector) {
+    this.client = client;
+    this.vscode = client.vscode;
+    this.selector = selector;
+  }
+
+  register() {
+    const { languages, commands } = this.vscode;
+    const { selector } = this;
+    return [
+      languages.registerDocumentFormattingEditProvider(selector, {
+        provideDocumentFormattingEdits: (document, options) => this.edits("textDocument/formatting", document, { options }),
+      }),
+      languages.registerDocumentRangeFormattingEditProvider(selector, {
+        provideDocumentRangeFormattingEdits: (document, range, options) => (
+          this.edits("textDocument/rangeFormatting", document, { range: this.client.plainRange(range), options })),
+      }),
+      languages.registerInlayHintsProvider(selector, { provideInlayHints: (document, range) => this.hints(document, range) }),
+      languages.registerFoldingRangeProvider(selector, { provideFoldingRanges: (document) => this.folds(document) }),
+      languages.registerSelectionRangeProvider(selector, {
+        provideSelectionRanges: (document, positions) => this.selections(document, positions),
+      }),
+      languages.registerSignatureHelpProvider(selector, {
+        provideSignatureHelp: (document, position) => this.signature(document, position),
+      }, " ", ","),
+      languages.registerCodeLensProvider(selector, { provideCodeLenses: (document) => this.lenses(document) }),
+      languages.registerDocumentLinkProvider([...selector, { pattern: "**/mcs4.toml" }], { provideDocumentLinks: (document) => this.links(document) }),
+      languages.registerWorkspaceSymbolProvider({ provideWorkspaceSymbols: (query) => this.workspaceSymbols(query) }),
+      languages.registerCallHierarchyProvider(selector, {
+        prepareCallHierarchy: (document, position) => this.routines(document, position),
+        provideCallHierarchyIncomingCalls: (item) => this.calls("callHierarchy/incomingCalls", item, "from"),
+        provideCallHierarchyOutgoingCalls: (item) => this.calls("callHierarchy/outgoingCalls", item, "to"),
+      }),
+      commands.registerCommand("mcs4.runTest", (...given) => (
+        this.client.ask("workspace/executeCommand", { command: "mcs4.runTest", arguments: given }))),
+    ];
+  }
+
+  /** Asks about a whole text; an empty list if there is no answer. */
+  async of(method, document, more = {}) {
+    return (await this.client.ask(method, { textDocument: { uri: document.uri.toString() }, ...more })) || [];
+  }
+
+  position({ line, character }) {
+    return new this.vscode.Position(line, character);
+  }
+
+  async edits(method, document, more) {
+    return (await this.of(method, document, more)).map(({ range, newText }) => new this.vscode.TextEdit(this.client.rangeOf(range), newText));
+  }
+
+  async hints(document, range) {
+    const hints = await this.of("textDocument/inlayHint", document, { range: this.client.plainRange(range) });
+    return hints.map(({ position, label, paddingLeft }) => (
+      Object.assign(new this.vscode.InlayHint(this.position(position), label), { paddingLeft })));
+  }
+
+  async folds(document) {
+    return (await this.of("textDocument/foldingRange", document)).map(({ startLine, endLine, kind }) => (
+      new this.vscode.FoldingRange(startLine, endLine, kind === "comment" ? this.vscode.FoldingRangeKind.Comment : undefined)));
+  }
+
+  async selections(document, positions) {
+    const plain = positions.map(({ line, character }) => ({ line, character }));
+    const made = ({ range, parent }) => new this.vscode.SelectionRange(this.client.rangeOf(range), parent && made(parent));
+    return (await this.of("textDocument/selectionRange", document, { positions: plain })).map(made);
+  }
+
+  async signature(document, position) {
+    const found = await this.client.ask("textDocument/signatureHelp", this.client.at(document, position));
+    if (!found) return null;
+    const { vscode } = this;
+    const signatures = found.signatures.map(({ label, documentation, parameters }) => (
+      Object.assign(new vscode.SignatureInformation(label, documentation), {
+        parameters: parameters.map((each) => new vscode.ParameterInformation(each.label, each.documentation)),
+      })));
+    return Object.assign(new vscode.SignatureHelp(), { ...found, signatures });
+  }
+
+  async lenses(document) {
+    return (await this.of("textDocument/codeLens", document)).map(({ range, command }) => (
+      new this.vscode.CodeLens(this.client.rangeOf(range), this.command(command))));
+  }
+
+  /** A command of the editor's own takes its own classes. */
+  command({ title, command, arguments: given = [] }) {
+    if (command !== "editor.action.showReferences") return { title, command, arguments: given };
+    const [uri, position, places] = given;
+    const own = [this.vscode.Uri.parse(uri), this.position(position), places.map((each) => this.client.locationOf(each))];
+    return { title, command, arguments: own };
+  }
+
+  async links(document) {
+    return (await this.of("textDocument/documentLink", document)).map(({ range, target, tooltip }) => (
+      Object.assign(new this.vscode.DocumentLink(this.client.rangeOf(range), this.vscode.Uri.parse(target)), { tooltip })));
+  }
+
+  async workspaceSymbols(query) {
+    return ((await this.client.ask("workspace/symbol", { query })) || []).map(({ name, kind, containerName, location }) => (
+      new this.vscode.SymbolInformation(name, kind - 1, containerName, this.client.locationOf(location))));
+  }
+
+  // --- routines
+
+  itemOf({ kind, name, detail, uri, range, selectionRange }) {
+    const { vscode, client } = this;
+    return new vscode.CallHierarchyItem(kind - 1, name, detail, vscode.Uri.parse(uri), client.rangeOf(range), client.rangeOf(selectionRange));
+  }
+
+  async routines(document, position) {
+    const found = await this.client.ask("textDocument/prepareCallHierarchy", this.client.at(document, position));
+    return (found || []).map((each) => this.itemOf(each));
+  }
+
+  async calls(method, { uri, range, selectionRange }, end) {
+    const { vscode, client } = this;
+    const item = { uri: uri.toString(), range: client.plainRange(range), selectionRange: client.plainRange(selectionRange) };
+    const Call = end === "from" ? vscode.CallHierarchyIncomingCall : vscode.CallHierarchyOutgoingCall;
+    const found = (await client.ask(method, { item })) || [];
+    return found.map((each) => new Call(this.itemOf(each[end]), each.fromRanges.map((range_) => client.rangeOf(range_))));
+  }
+}
+
+module.exports = { LanguageFeatures };

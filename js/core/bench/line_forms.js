@@ -1,0 +1,163 @@
+// The forms of lines that the bench reads: their words, and the numbers among them with their ranges. A line that has no such form is
+// rejected because of one of its words, which `faultOfLine` names.
+
+import { FORMS } from "./answer_table.js";
+import { LONGEST_LINE } from "./inputs.js";
+import { upTo } from "./numbers.js";
+import { mostAlike } from "../text/alike.js";
+import * as say from "../../words/lines.js";
+
+/**
+ * What is wrong with a line: the number of the refusal, and words that name the word at fault.
+ * @typedef {{ number: number, words: string }} LineFault
+ *
+ * The form of a place: the ranges of the numbers in its name begin with 0, and end with these; `value` is the last number that it holds.
+ * @typedef {{ form: RegExp, most: number[], value: number }} PlaceForm
+ * @typedef {[number, number]} Range the first and the last number
+ */
+
+const NOT_A_COMMAND = 10;
+const BAD_NUMBER = 11;
+const LINE_TOO_LONG = 12;
+const NOT_ASCII = 14;
+const FOREIGN = /[^\t -~]/u;
+const BIT = 1;
+const BANK = 7;
+const NIBBLE = 15;
+const BYTE = 255;
+const ADDRESS = 4095;
+const MOST_CYCLES = 100000;
+const LARGEST = 4294967295;
+const MOST_LISTED = 256;
+/** `trace` has this many places at most. */
+const MOST_PLACES = 16;
+
+/** @type {(most: number) => Range} */
+const upToMost = (most) => [0, most];
+/** @type {Record<string, Range[]>} the numbers behind the first word */
+const NUMBERS = {
+  press: [upToMost(BYTE), upToMost(BYTE)],
+  release: [upToMost(BYTE), upToMost(BYTE)],
+  run: [upToMost(LARGEST)],
+  test: [upToMost(BIT)],
+  break: [upToMost(ADDRESS)],
+  unbreak: [upToMost(ADDRESS)],
+  watch: [upToMost(BANK), upToMost(BYTE)],
+  unwatch: [upToMost(BANK), upToMost(BYTE)],
+  ram: [upToMost(BANK)],
+  list: [upToMost(ADDRESS), [1, MOST_LISTED]],
+  count: [[1, MOST_CYCLES]],
+};
+const NUMERAL = "(0x[0-9a-fA-F]+|[0-9]+)";
+
+/** @type {(form: string, most: number[], value?: number) => PlaceForm} `N` in a form is a number */
+const place = (form, most, value = 0) => ({ form: new RegExp(`^${form.replace(/\./g, "\\.").replace(/N/g, NUMERAL)}$`), most, value });
+/** Places of `poke`, and of `trace`. */
+const PLACES = [
+  place("acc", [], NIBBLE), place("cy", [], BIT), place("pc", [], ADDRESS), place("dcl", [], BANK), place("rN", [NIBBLE], NIBBLE),
+  place("rom.N", [ADDRESS], BYTE), place("ram.N.N", [BANK, BYTE], NIBBLE), place("st.N.N.N", [BANK, NIBBLE, 3], NIBBLE),
+];
+/** Places of `trace` alone. */
+const SEEN_PLACES = [
+  place("lamps", []), place("ret", []), place("src", []), place("romN", [NIBBLE]), place("ramN.N", [BANK, 3]), place("chainN", [3]),
+  place("romN.N", [NIBBLE, 3]), place("ramN.N.N", [BANK, 3, 3]), place("chainN.N", [3, 79]),
+];
+/** Names of places, as a line is completed with them; those with a dot at their end go on. */
+export const POKED = ["acc", "cy", "pc", "dcl", ...upTo(16).map((at) => `r${at}`), "rom.", "ram.", "st."];
+export const TRACED = [...POKED, "lamps", "ret", "src"];
+
+/** @type {(word: string) => number} a numeral of the bench; NaN for another word */
+const numeral = (word) => (new RegExp(`^${NUMERAL}$`).test(word) ? Number(word) : NaN);
+
+/**
+ * @param {string} word
+ * @param {Range} range
+ * @returns {LineFault | null}
+ */
+function faultOfNumber(word, [first, last]) {
+  const number = numeral(word);
+  return number >= first && number <= last ? null : { number: BAD_NUMBER, words: say.notInRange(word, first, last) };
+}
+
+/**
+ * The form of a place; null if none has it.
+ * @param {string} word
+ * @param {PlaceForm[]} places
+ */
+function formOf(word, places) {
+  return places.find(({ form }) => form.test(word)) || null;
+}
+
+/**
+ * Whether the numbers in the name of a place are in their ranges.
+ * @param {string} word
+ * @param {PlaceForm} found
+ */
+function hasItsNumbers(word, { form, most }) {
+  const numbers = /** @type {RegExpExecArray} */ (form.exec(word)).slice(1).map(Number);
+  return numbers.every((number, at) => number <= most[at]);
+}
+
+/** @type {(word: string, names: string[]) => LineFault} */
+const noPlace = (word, names) => ({ number: NOT_A_COMMAND, words: say.noPlace(word, mostAlike(word, names)) });
+/** @type {(word: string) => LineFault} */
+const noSuchPlace = (word) => ({ number: BAD_NUMBER, words: say.noSuchPlace(word) });
+
+/**
+ * @param {string} word
+ * @param {string} value
+ */
+function faultOfPoke(word, value) {
+  const found = formOf(word, PLACES);
+  if (!found) return noPlace(word, POKED);
+  return hasItsNumbers(word, found) ? faultOfNumber(value, upToMost(found.value)) : noSuchPlace(word);
+}
+
+/**
+ * @param {string} count
+ * @param {string[]} places
+ */
+function faultOfTrace(count, places) {
+  const all = [...PLACES, ...SEEN_PLACES];
+  const unknown = places.slice(0, MOST_PLACES).find((word) => !formOf(word, all));
+  if (unknown !== undefined) return noPlace(unknown, TRACED);
+  if (places.length > MOST_PLACES) return { number: NOT_A_COMMAND, words: say.tooManyPlaces(MOST_PLACES) };
+  const wrong = places.find((word) => !hasItsNumbers(word, /** @type {PlaceForm} */ (formOf(word, all))));
+  return wrong === undefined ? faultOfNumber(count, [1, MOST_CYCLES]) : noSuchPlace(wrong);
+}
+
+/**
+ * @param {string[]} words
+ * @returns {LineFault | null}
+ */
+function faultOfWords([first, ...words]) {
+  if (first === undefined) return null;
+  if (!FORMS.has(first)) return { number: NOT_A_COMMAND, words: say.noLine(first, mostAlike(first, FORMS.keys())) };
+  const otherForm = { number: NOT_A_COMMAND, words: say.otherForm(first) };
+  if (first === "trace") return words.length === 0 ? otherForm : faultOfTrace(words[0], words.slice(1));
+  if (first === "poke") return words.length === 2 ? faultOfPoke(words[0], words[1]) : otherForm;
+  const ranges = NUMBERS[first] || [];
+  if (words.length !== ranges.length) return otherForm;
+  const faults = words.map((word, at) => faultOfNumber(word, ranges[at]));
+  return faults.find((fault) => fault !== null) || null;
+}
+
+/**
+ * The first character that no line can have; "" for none.
+ * @param {string} line
+ */
+export function foreignIn(line) {
+  return (FOREIGN.exec(line) || [""])[0];
+}
+
+/**
+ * Why the bench cannot read a line; null if it can. Whether it does what the line says is another question.
+ * @param {string} line without its end
+ * @returns {LineFault | null}
+ */
+export function faultOfLine(line) {
+  if (line.length > LONGEST_LINE) return { number: LINE_TOO_LONG, words: say.tooLong(LONGEST_LINE, line.length) };
+  const foreign = foreignIn(line);
+  if (foreign !== "") return { number: NOT_ASCII, words: say.foreign(foreign) };
+  return faultOfWords(line.split(/[ \t]+/).filter((word) => word !== ""));
+}

@@ -1,0 +1,161 @@
+// Images of ROM in S-records and in BNPF, in which Intel took the masks of 4001s; and the form of an image by its first bytes and its name.
+
+import { hex } from "./numbers.js";
+import { ImageBytes, NotARecord, NotAnImage, readLines } from "./rom_image.js";
+import * as say from "../../words/bench.js";
+
+/** @typedef {"hex" | "srec" | "bnpf" | "binary"} ImageForm */
+
+// --- S-records ---
+
+/** The bytes of an address, by the type of a record of data. */
+const ADDRESS_SIZES = new Map([["1", 2], ["2", 3], ["3", 4]]);
+const LAST_TYPES = ["7", "8", "9"];
+
+/**
+ * Takes a record; returns whether it is the last one.
+ * @param {string} record
+ * @param {ImageBytes} image
+ */
+function takeSRecord(record, image) {
+  if (!/^S\d([0-9A-F]{2}){4,}$/i.test(record)) throw new NotARecord(say.S_RECORD_FORM);
+  const [count, ...bytes] = (record.slice(2).match(/../g) || []).map((digits) => parseInt(digits, 16));
+  if (bytes.length !== count) throw new NotARecord(say.otherCount(count, bytes.length));
+  const right = 0xff - (bytes.slice(0, -1).reduce((sum, byte) => sum + byte, count) & 0xff);
+  const sum = bytes[bytes.length - 1];
+  if (sum !== right) throw new NotAnImage(say.otherSum(hex(sum, 2), hex(right, 2)));
+  const size = ADDRESS_SIZES.get(record[1]);
+  if (size === undefined) return LAST_TYPES.includes(record[1]);
+  if (bytes.length < size + 1) throw new NotAnImage(say.SHORT_RECORD);
+  image.put(bytes.slice(0, size).reduce((address, byte) => address * 256 + byte, 0), bytes.slice(size, -1));
+  return false;
+}
+
+/**
+ * Returns the bytes of an image in S-records.
+ * @param {string} text
+ * @param {number} [offset] is added to each address
+ */
+export function readSRecords(text, offset = 0) {
+  const image = new ImageBytes(offset);
+  let isEnded = false;
+  readLines(text, (line) => {
+    const record = line.trim();
+    if (record === "") return;
+    if (isEnded) throw new NotAnImage(say.AFTER_S9);
+    isEnded = takeSRecord(record, image);
+  });
+  if (!isEnded) throw new NotAnImage(say.NO_S9);
+  if (image.isEmpty) throw new NotAnImage(say.NO_BYTE);
+  return image.bytes;
+}
+
+// --- BNPF ---
+
+const WORD_LENGTH = 9;
+/** What follows the `B` of a word on its line: three of its letters, or the end of the line after fewer. */
+const AFTER_B = /[ \t]*(?:[NP][ \t]*[NP][ \t]*[NP]|(?:[NP][ \t]*)?(?:[NP][ \t]*)?$)/iy;
+
+/**
+ * Returns whether a word begins at a `B`. Those of remarks, as `BNPF` itself, begin none.
+ * @param {string} line
+ * @param {number} at
+ */
+function beginsWord(line, at) {
+  if (at > 0 && /[A-EG-Z]/i.test(line[at - 1])) return false;
+  AFTER_B.lastIndex = at + 1;
+  return AFTER_B.test(line);
+}
+
+/**
+ * Returns the bytes of an image in BNPF. A word is `B`, eight of `P` (1) and `N` (0), the highest bit first, and `F`; it may continue on
+ * the next line. What is between words is ignored.
+ * @param {string} text
+ * @param {number} [from] the address of the first word
+ */
+export function readBnpf(text, from = 0) {
+  const image = new ImageBytes(from);
+  let [word, count] = ["", 0];
+  const take = (/** @type {string} */ letter, /** @type {boolean} */ begins) => {
+    if (word === "") {
+      if (begins) word = letter;
+    } else if (/[NP]/.test(letter) && word.length < WORD_LENGTH) word += letter;
+    else if (letter === "F" && word.length === WORD_LENGTH) {
+      image.put(count, [parseInt(word.slice(1).replace(/P/g, "1").replace(/N/g, "0"), 2)]);
+      count += 1;
+      word = "";
+    } else if (!/[ \t]/.test(letter)) throw new NotAnImage(say.bnpfForm(word + letter));
+  };
+  readLines(text, (whole) => {
+    const line = whole.trim();
+    for (let at = 0; at < line.length; at++) take(line[at].toUpperCase(), /b/i.test(line[at]) && beginsWord(line, at));
+  });
+  const lines = text.replace(/\n$/, "").split("\n").length;
+  if (word !== "") throw new NotAnImage(say.imageLine(lines, say.bnpfWithoutEnd(word)));
+  if (count === 0) throw new NotAnImage(say.NO_BYTE);
+  return image.bytes;
+}
+
+/**
+ * Returns a byte as a word of BNPF.
+ * @param {number} byte
+ */
+function wordOf(byte) {
+  return `B${byte.toString(2).padStart(8, "0").replace(/1/g, "P").replace(/0/g, "N")}F`;
+}
+
+/** So many words are on a line. */
+const WORDS_OF_LINE = 4;
+
+/**
+ * Returns bytes in BNPF; the address of the first word of a line comes before it, as a remark.
+ * @param {Int16Array} bytes of a range, by their addresses
+ * @param {number} from
+ * @param {number} count
+ */
+export function bnpfOf(bytes, from, count) {
+  let text = "";
+  for (let at = from; at < from + count; at += WORDS_OF_LINE) {
+    const words = [...bytes.subarray(at, Math.min(at + WORDS_OF_LINE, from + count))].map(wordOf);
+    text += `${String(at).padStart(4)} ${words.join(" ")}\n`;
+  }
+  return text;
+}
+
+// --- the form of an image ---
+
+/** @type {(bytes: Uint8Array, is: (byte: number) => boolean) => boolean} */
+const hasOnly = (bytes, is) => bytes.every(is);
+const isOfText = (/** @type {number} */ byte) => byte === 9 || byte === 10 || byte === 13 || (byte >= 32 && byte < 127);
+
+/**
+ * Returns whether bytes are a text: lines of ASCII, or of UTF-8.
+ * @param {Uint8Array} bytes
+ */
+function isText(bytes) {
+  if (!hasOnly(bytes, (byte) => isOfText(byte) || byte >= 128)) return false;
+  if (bytes.every((byte) => byte < 128)) return true;
+  if (!bytes.includes(10)) return false;
+  try {
+    new TextDecoder("utf-8", { fatal: true }).decode(bytes);
+    return true;
+  } catch {
+    return false;
+  }
+}
+
+/**
+ * Returns the form of an image by its first bytes and its name; null for a text in none of the forms.
+ * @param {string} name
+ * @param {Uint8Array} bytes
+ * @returns {ImageForm | null}
+ */
+export function formOf(name, bytes) {
+  if (/\.(hex|ihx)$/i.test(name)) return "hex";
+  if (/\.bnpf?$/i.test(name)) return "bnpf";
+  const begin = String.fromCharCode(...bytes.subarray(0, 2));
+  if (begin.startsWith(":")) return "hex";
+  if (/^S\d/.test(begin)) return "srec";
+  if (hasOnly(bytes, isOfText) && /B[NP]{8}F/i.test(new TextDecoder("latin1").decode(bytes))) return "bnpf";
+  return isText(bytes) ? null : "binary";
+}

@@ -1,0 +1,90 @@
+// What a display shows by answers about its lamps: by `lamps`, and by `trace` of the lamps alone, which is what an eye sees in that time.
+
+import { SeenText, hasScannedDisplay } from "../engine/seen_text.js";
+import { DisplayText, wholeText } from "./display_text.js";
+import { endOf } from "./face_board.js";
+import * as say from "../../words/board.js";
+
+/**
+ * @typedef {import("../bench/answers.js").Board} Board
+ * @typedef {import("./face.js").Face} Face
+ *
+ * A line for each of the answers; or what is wrong, in words.
+ * @typedef {{ lines: string[], words: string }} Shown
+ */
+
+const TRACE = /^trace ran \d+ \w+ lines (\d+) ([.*]+|-)$/;
+const REFUSED = /^no \d/;
+
+/** Reads answers about the lamps of a board with a display. */
+class ShownAnswers {
+  /**
+   * @param {Face} face
+   * @param {Board} board
+   * @param {string} name of the board
+   */
+  constructor(face, board, name) {
+    this.name = name;
+    const displays = face.groups.filter(({ kind }) => kind === "display");
+    this.needed = Math.max(...displays.map(endOf));
+    this.isScanned = hasScannedDisplay(face);
+    this.text = new DisplayText(displays, [...face.lamps].map(([at, { text }]) => ({ at, text })));
+    this.seen = new SeenText(face, board.lamps.length);
+  }
+
+  /**
+   * Returns why an answer cannot be shown, in words; "" if it can.
+   * @param {string} marks
+   * @param {number} line
+   */
+  faultOf(marks, line) {
+    const count = marks === "-" ? 0 : marks.length;
+    return count < this.needed ? say.tooFewLamps(line, count, this.name, this.needed) : "";
+  }
+
+  /**
+   * Reads the answer that begins at a line.
+   * @param {string[]} answers
+   * @param {number} at
+   * @returns {{ text: string, words: string, count: number }} `count` is that of its lines, 0 if it is not about the lamps
+   */
+  read(answers, at) {
+    const wrong = (/** @type {string} */ words) => ({ text: "", words, count: 1 });
+    const answer = answers[at];
+    if (REFUSED.test(answer)) return wrong(say.isRefusal(at + 1, answer));
+    const [word, marks = ""] = answer.split(" ");
+    if (word === "lamps") {
+      const words = this.faultOf(marks, at + 1) || (this.isScanned ? say.isInstant(at + 1, this.name) : "");
+      return words === "" ? { text: wholeText(this.text.read(marks)), words, count: 1 } : wrong(words);
+    }
+    const [, rows, first] = TRACE.exec(answer) || [];
+    if (first === undefined) return { text: "", words: "", count: 0 };
+    const words = this.faultOf(first, at + 1);
+    if (words !== "") return wrong(words);
+    const count = 1 + Number(rows);
+    if (at + count > answers.length) return wrong(say.ENDS_WITHIN_TRACE);
+    return { text: wholeText(this.seen.read(answers.slice(at, at + count))), words: "", count };
+  }
+}
+
+/**
+ * Returns what the display of a board shows by each answer about its lamps.
+ * @param {Face} face
+ * @param {Board} board
+ * @param {string} name of the board
+ * @param {string[]} answers
+ * @returns {Shown}
+ */
+export function shownAnswers(face, board, name, answers) {
+  if (!face.groups.some(({ kind }) => kind === "display")) return { lines: [], words: say.hasNoDisplay(name) };
+  const reader = new ShownAnswers(face, board, name);
+  /** @type {string[]} */
+  const lines = [];
+  for (let at = 0; at < answers.length;) {
+    const { text, words, count } = reader.read(answers, at);
+    if (words !== "") return { lines: [], words };
+    if (count > 0) lines.push(text);
+    at += Math.max(1, count);
+  }
+  return { lines, words: lines.length > 0 ? "" : say.NO_LAMPS_SHOWN };
+}

@@ -1,0 +1,190 @@
+// What the tree of a condition means on a board with a program: which places it looks at, and whether it holds by what the bench answers
+// about them. The machine is not computed here.
+
+import { chainMeaning, counterMeaning, cyclesMeaning, displayMeaning, lampsMeaning, printedMeaning } from "./forms.js";
+import { fail } from "./scanner.js";
+import { atColumn, characterValues, keyValue, labelIn, lampValue, valueIn } from "./values.js";
+import * as say from "../../words/conditions.js";
+
+/**
+ * @typedef {import("./conditions.js").Names} Names
+ * @typedef {import("./conditions.js").Beside} Beside
+ * @typedef {import("./parser.js").ConditionNode} ConditionNode
+ * @typedef {import("./parser.js").CompareNode} CompareNode
+ * @typedef {import("./parser.js").FormNode} FormNode
+ * @typedef {import("./parser.js").HoldsNode} HoldsNode
+ * @typedef {import("./parser.js").PanelIsNode} PanelIsNode
+ * @typedef {import("./parser.js").ValueNode} ValueNode
+ * @typedef {import("./values.js").Looked} Looked
+ * @typedef {import("./values.js").Value} Value
+ *
+ * `tell` says what is and what has to be, or, with `isNot`, what has not to be; `address` is where the counter has to be, if it is that and
+ * no more, else -1.
+ * @typedef {{ fits: (values: string[], beside: Beside) => boolean,
+ *   tell: (values: string[], beside: Beside, isNot: boolean) => string, address: number }} Meaning
+ */
+
+/** @type {Record<CompareNode["sign"], (is: number, than: number) => boolean>} */
+const COMPARISONS = {
+  "=": (is, than) => is === than, "!=": (is, than) => is !== than, "<": (is, than) => is < than, "<=": (is, than) => is <= than,
+  ">": (is, than) => is > than, ">=": (is, than) => is >= than,
+};
+
+/** @type {Record<string, (words: string[], names: Names, looked: Looked) => Meaning>} */
+const FORMS = { lamps: lampsMeaning, display: displayMeaning, printed: printedMeaning, cycles: cyclesMeaning };
+
+/**
+ * @param {Value} value
+ * @param {CompareNode["sign"]} sign
+ * @param {Value} wanted
+ * @returns {Meaning}
+ */
+function comparedMeaning(value, sign, wanted) {
+  const compare = COMPARISONS[sign];
+  return {
+    address: -1,
+    fits: (values) => compare(value.read(values), wanted.read(values)),
+    tell: (values, _, isNot) => {
+      const number = wanted.read(values);
+      const than = wanted.isConstant ? String(number) : say.valueIs(wanted.name, number);
+      return say.hasToBe(value.name, String(value.read(values)), sign === "=" ? than : `${sign} ${than}`, false, isNot);
+    },
+  };
+}
+
+/**
+ * Rejects a number that a place can never be.
+ * @param {Value} value
+ * @param {ValueNode} node
+ * @param {Value} wanted
+ */
+function checkRange(value, node, wanted) {
+  if (value.isConstant || !wanted.isConstant) return;
+  const number = wanted.read([]);
+  if (number <= value.most) return;
+  fail(say.holds(value.name, value.most, node.kind === "number" ? node.text : say.valueIs(node.text, number)), node.column);
+}
+
+/**
+ * @param {CompareNode} node
+ * @param {Names} names
+ * @param {Looked} looked
+ * @returns {Meaning}
+ */
+function compareMeaning({ sign, left, right }, names, looked) {
+  const value = valueIn(left, names, looked);
+  const wanted = valueIn(right, names, looked);
+  checkRange(value, right, wanted);
+  checkRange(wanted, left, value);
+  if (value.name !== "pc" || !wanted.isConstant || (sign !== "=" && sign !== "!=")) return comparedMeaning(value, sign, wanted);
+  const address = wanted.read([]);
+  const meaning = counterMeaning(address, String(address), names, looked);
+  return sign === "=" ? meaning : notMeaning(meaning, "");
+}
+
+/**
+ * The meaning of a place with its value; of RAM several values are those of the characters from there on.
+ * @param {HoldsNode} node
+ * @param {Names} names
+ * @param {Looked} looked
+ * @returns {Meaning}
+ */
+function holdsMeaning({ place, values, text, column }, names, looked) {
+  const [first] = values;
+  if (values.length === 1) return compareMeaning({ kind: "compare", sign: "=", left: place, right: first, text, column }, names, looked);
+  const all = characterValues(place, values.length, names, looked);
+  const wanted = values.map((value, at) => {
+    const each = valueIn(value, names, looked);
+    checkRange(all[at], value, each);
+    return each;
+  });
+  /** @type {(each: Value[], told: string[]) => string} */
+  const joined = (each, told) => each.map((value) => value.read(told)).join(" ");
+  return {
+    address: -1,
+    fits: (told) => all.every((value, at) => value.read(told) === wanted[at].read(told)),
+    tell: (told, _, isNot) => say.hasToBe(all[0].name, joined(all, told), joined(wanted, told), false, isNot),
+  };
+}
+
+/**
+ * @param {FormNode} node
+ * @param {Names} names
+ * @param {Looked} looked
+ */
+function formMeaning({ words: [head, ...rest] }, names, looked) {
+  const words = rest.map(({ text }) => text);
+  const form = FORMS[head.text];
+  return form ? form(words, names, looked) : chainMeaning(head.text, words, names, looked);
+}
+
+/**
+ * @param {PanelIsNode} node
+ * @param {Names} names
+ * @param {Looked} looked
+ * @returns {Meaning}
+ */
+function panelMeaning({ what, name, isOn }, names, looked) {
+  const value = what === "lamp" ? lampValue(name, names, looked) : keyValue(name, names, looked);
+  const words = what === "lamp" ? ["off", "on"] : ["up", "down"];
+  return {
+    address: -1,
+    fits: (values) => value.read(values) === Number(isOn),
+    tell: (values, _, isNot) => say.hasToBe(`${what} ${name}`, words[value.read(values)], words[Number(isOn)], false, isNot),
+  };
+}
+
+/**
+ * @param {Meaning} meaning
+ * @param {string} text "" for one that stands alone
+ * @returns {Meaning}
+ */
+function notMeaning(meaning, text) {
+  return {
+    address: -1,
+    fits: (values, beside) => !meaning.fits(values, beside),
+    tell: (values, beside, isNot) => (text === "" ? meaning.tell(values, beside, !isNot) : isNot ? meaning.tell(values, beside, false)
+      : say.holdsAndMayNot(text)),
+  };
+}
+
+/**
+ * @param {"or" | "and"} by
+ * @param {Meaning[]} parts
+ * @param {string} text
+ * @returns {Meaning}
+ */
+function joinedMeaning(by, parts, text) {
+  const isAnd = by === "and";
+  return {
+    address: -1,
+    fits: (values, beside) => (isAnd ? parts.every(({ fits }) => fits(values, beside)) : parts.some(({ fits }) => fits(values, beside))),
+    tell: (values, beside, isNot) => {
+      if (isNot) return say.holdsAndMayNot(text);
+      const failing = parts.filter(({ fits }) => !fits(values, beside)).map(({ tell }) => tell(values, beside, false));
+      return isAnd ? failing[0] : failing.join("; ");
+    },
+  };
+}
+
+/**
+ * What a condition means.
+ * @param {ConditionNode} node
+ * @param {Names} names
+ * @param {Looked} looked gets the places that it looks at
+ * @returns {Meaning}
+ */
+export function meaningOf(node, names, looked) {
+  return atColumn(node.column, () => {
+    if (node.kind === "not") {
+      const isJoined = node.part.kind === "or" || node.part.kind === "and";
+      return notMeaning(meaningOf(node.part, names, looked), isJoined ? node.part.text : "");
+    }
+    if (node.kind === "compare") return compareMeaning(node, names, looked);
+    if (node.kind === "holds") return holdsMeaning(node, names, looked);
+    if (node.kind === "panel") return panelMeaning(node, names, looked);
+    if (node.kind === "at") return counterMeaning(labelIn(node.label, names), `@${node.label}`, names, looked);
+    if (node.kind === "form") return formMeaning(node, names, looked);
+    return joinedMeaning(node.kind, node.parts.map((part) => meaningOf(part, names, looked)), node.text);
+  });
+}

@@ -1,0 +1,488 @@
+// The grammar of conditions (docs/MANUAL.md, "Conditions"): a text becomes a tree, whose nodes know their columns. What a name means is not
+// looked at here, but for names of lamps and keys, in which any sign may be a letter.
+//
+//     condition  = and { or and }      and = not { and not }      not = { "not" } ( lamps | .. | value [ sign value ] )
+//     value      = operand { ("+" | "-" | "&") operand }          operand = number | name | place | "(" value ")"
+
+import { Scanner, fail, numeralOf } from "./scanner.js";
+import * as say from "../../words/conditions.js";
+
+/**
+ * @typedef {import("./scanner.js").Token} Token
+ * @typedef {"=" | "!=" | "<" | "<=" | ">" | ">="} Sign
+ *
+ * A value: a number; a name or a place, with `in` or `out` of a port; a lamp or a key by its name; a sum of two values.
+ * @typedef {{ kind: "number", value: number, text: string, column: number }} NumberNode
+ * @typedef {{ kind: "name", text: string, way: "" | "in" | "out", column: number }} NameNode
+ * @typedef {{ kind: "lamp" | "key", text: string, column: number }} PanelNode
+ * @typedef {{ kind: "sum", sign: "+" | "-" | "&", left: ValueNode, right: ValueNode, text: string, column: number }} SumNode
+ * @typedef {NumberNode | NameNode | PanelNode | SumNode} ValueNode
+ *
+ * A condition. `form` is one in the words of tests: a place with its values, or `lamps`, `display`, `printed`, `cycles` with what follows.
+ * @typedef {{ kind: "or" | "and", parts: ConditionNode[], text: string, column: number }} JoinedNode
+ * @typedef {{ kind: "not", part: ConditionNode, text: string, column: number }} NotNode
+ * @typedef {{ kind: "compare", sign: Sign, left: ValueNode, right: ValueNode, text: string, column: number }} CompareNode
+ * @typedef {{ kind: "form", words: Token[], text: string, column: number }} FormNode
+ * @typedef {{ kind: "holds", place: NameNode, values: ValueNode[], text: string, column: number }} HoldsNode
+ * @typedef {{ kind: "panel", what: "lamp" | "key", name: string, isOn: boolean, text: string, column: number }} PanelIsNode
+ * @typedef {{ kind: "at", label: string, text: string, column: number }} AtNode
+ * @typedef {JoinedNode | NotNode | CompareNode | FormNode | HoldsNode | PanelIsNode | AtNode} ConditionNode
+ * @typedef {ConditionNode | ValueNode} Node
+ */
+
+/** The words of the language, which names do not replace: for colours. */
+export const WORDS = new Set(["or", "and", "not", "lamps", "lamp", "key", "display", "printed", "cycles", "at", "most", "least", "on",
+  "off", "down", "up", "none", "in", "out"]);
+
+/** A condition has so many characters, and so many parentheses inside each other. */
+export const LONGEST = 2000;
+export const MOST_DEPTH = 30;
+
+/** @type {Record<string, Sign>} */
+const SIGNS = { "=": "=", "==": "=", "!=": "!=", "<": "<", "<=": "<=", ">": ">", ">=": ">=" };
+const JOINS = new Map([["or", "or"], ["||", "or"], ["and", "and"], ["&&", "and"]]);
+const PORT = /^(rom\d+|ram\d+\.\d+)$/i;
+const CONDITIONS = new Set(["or", "and", "not", "compare", "form", "holds", "panel", "at"]);
+/** How many numbers follow the first word of a place that has blanks in it. */
+const SPACED = new Map([["ram", 2], ["st", 3]]);
+/** What is the same with parentheses, as its text is a name. */
+const BARE = new Set(["number", "name", "lamp", "key"]);
+const FORMS = { lamp: say.LAMP_FORM, key: say.KEY_FORM };
+const STATES = new Map([["on", true], ["off", false], ["down", true], ["up", false]]);
+
+/**
+ * @param {Node} node
+ * @returns {node is ConditionNode}
+ */
+export function isCondition(node) {
+  return CONDITIONS.has(node.kind);
+}
+
+class Parser {
+  /**
+   * @param {string} text
+   * @param {(name: string) => boolean} isOfPanel whether a lamp has this name
+   */
+  constructor(text, isOfPanel) {
+    this.text = text;
+    this.isOfPanel = isOfPanel;
+    this.scanner = new Scanner(text);
+    this.depth = 0;
+  }
+
+  // --- tokens ---
+
+  /** @param {Token} token */
+  isNot({ kind, text }) {
+    return kind === "sign" ? text === "!" : kind === "word" && text.toLowerCase() === "not";
+  }
+
+  /**
+   * What a token joins, "" where it joins nothing.
+   * @param {Token} token
+   */
+  joinOf({ kind, text }) {
+    const word = text.toLowerCase();
+    return kind === "sign" || kind === "word" ? JOINS.get(word) || "" : "";
+  }
+
+  /** @param {number} column */
+  textFrom(column) {
+    return this.text.slice(column, this.scanner.place).trim();
+  }
+
+  // --- conditions ---
+
+  /**
+   * All of the text.
+   * @returns {Node}
+   */
+  whole() {
+    const node = this.joined("or");
+    const token = this.scanner.peek();
+    if (token.kind !== "end") fail(say.notExpected(this.told(token)), token.column);
+    return node;
+  }
+
+  /** @param {Token} token */
+  told({ kind, text }) {
+    return kind === "text" ? `"${text}"` : text;
+  }
+
+  /**
+   * @param {"or" | "and"} by
+   * @returns {Node}
+   */
+  joined(by) {
+    const { column } = this.scanner.peek();
+    const read = () => (by === "or" ? this.joined("and") : this.negated());
+    const parts = [read()];
+    while (this.joinOf(this.scanner.peek()) === by) {
+      this.scanner.next();
+      parts.push(read());
+    }
+    if (parts.length === 1) return parts[0];
+    return { kind: by, parts: parts.map((part) => this.needCondition(part)), text: this.textFrom(column), column };
+  }
+
+  /** @returns {Node} */
+  negated() {
+    const { column } = this.scanner.peek();
+    let count = 0;
+    for (; this.isNot(this.scanner.peek()); count++) this.scanner.next();
+    const node = this.comparison();
+    if (count === 0) return node;
+    const part = this.needCondition(node);
+    return count % 2 === 0 ? part : { kind: "not", part, text: this.textFrom(column), column };
+  }
+
+  /**
+   * @param {Node} node
+   * @returns {ConditionNode}
+   */
+  needCondition(node) {
+    if (isCondition(node)) return node;
+    if (node.kind === "name" && node.text.startsWith("@")) {
+      return { kind: "at", label: node.text.slice(1), text: node.text, column: node.column };
+    }
+    if (node.kind === "lamp" || node.kind === "key") return fail(FORMS[node.kind], node.column);
+    return fail(say.noComparison(node.text), node.column);
+  }
+
+  /**
+   * @param {Node} node
+   * @returns {ValueNode}
+   */
+  needValue(node) {
+    return isCondition(node) ? fail(say.noValue(node.text), node.column) : node;
+  }
+
+  /** @returns {Node} */
+  comparison() {
+    const left = this.sum();
+    if (isCondition(left)) return left;
+    const token = this.scanner.peek();
+    if (token.kind === "sign" && token.text in SIGNS) {
+      this.scanner.next();
+      return this.compared(left, SIGNS[token.text]);
+    }
+    if (left.kind === "name" && PORT.test(left.text) && left.way === "" && this.isValueNext()) fail(say.portForm(left.text), left.column);
+    return left.kind === "name" && this.isValueNext() ? this.held(left, this.values()) : left;
+  }
+
+  /**
+   * @param {ValueNode} left
+   * @param {Sign} sign
+   * @returns {ConditionNode}
+   */
+  compared(left, sign) {
+    const { column } = left;
+    this.needMore(sign);
+    const right = this.needValue(this.sum());
+    if (this.isValueNext() && (sign === "=" || sign === "!=") && left.kind === "name") {
+      const holds = this.held(left, [right, ...this.values()]);
+      return sign === "=" ? holds : { kind: "not", part: holds, text: this.textFrom(column), column };
+    }
+    return { kind: "compare", sign, left, right, text: this.textFrom(column), column };
+  }
+
+  /**
+   * @param {NameNode} place
+   * @param {ValueNode[]} values
+   * @returns {HoldsNode}
+   */
+  held(place, values) {
+    return { kind: "holds", place, values, text: this.textFrom(place.column), column: place.column };
+  }
+
+  /** Whether a value follows, where another one has just ended. */
+  isValueNext() {
+    const token = this.scanner.peek();
+    return token.kind === "number" || (token.kind === "word" && this.joinOf(token) === "" && !this.isNot(token));
+  }
+
+  /** The values that follow each other. */
+  values() {
+    /** @type {ValueNode[]} */
+    const values = [];
+    while (this.isValueNext()) values.push(this.needValue(this.operand()));
+    return values;
+  }
+
+  // --- values ---
+
+  /** @returns {Node} */
+  sum() {
+    let left = this.operand();
+    for (;;) {
+      const { kind, text } = this.scanner.peek();
+      if (kind !== "sign" || (text !== "+" && text !== "-" && text !== "&")) return left;
+      const { column } = left;
+      this.scanner.next();
+      this.needMore(text);
+      const [one, other] = [this.needValue(left), this.needValue(this.operand())];
+      left = { kind: "sum", sign: text, left: one, right: other, text: this.textFrom(column), column };
+    }
+  }
+
+  /** @param {string} sign behind which something has to stand */
+  needMore(sign) {
+    if (this.scanner.peek().kind === "end") fail(say.missingBehind(sign), this.last);
+  }
+
+  /** @returns {Node} */
+  operand() {
+    const token = this.scanner.peek();
+    const { kind, text, column } = token;
+    if (kind === "sign" && text === "(") return this.inside();
+    if (kind === "number") {
+      this.scanner.next();
+      return { kind: "number", value: numeralOf(text), text, column };
+    }
+    if (kind !== "word" || this.joinOf(token) !== "" || this.isNot(token)) {
+      return fail(kind === "end" ? say.NO_CONDITION : say.missingBefore(this.told(token)), Math.min(column, this.last));
+    }
+    return this.named(token);
+  }
+
+  /** The last column of the text. */
+  get last() {
+    return Math.max(0, this.text.length - 1);
+  }
+
+  /** @returns {Node} what stands in parentheses */
+  inside() {
+    const { column } = this.scanner.next();
+    this.depth += 1;
+    if (this.depth > MOST_DEPTH) fail(say.tooDeep(MOST_DEPTH), column);
+    const node = this.joined("or");
+    const token = this.scanner.peek();
+    if (token.text !== ")" || token.kind !== "sign") {
+      fail(token.kind === "end" ? say.NOT_CLOSED : say.notExpected(this.told(token)), token.kind === "end" ? column : token.column);
+    }
+    this.depth -= 1;
+    this.scanner.next();
+    return BARE.has(node.kind) ? node : { ...node, text: this.textFrom(column), column };
+  }
+
+  /**
+   * What begins with a word.
+   * @param {Token} token
+   * @returns {Node}
+   */
+  named(token) {
+    const word = token.text.toLowerCase();
+    if (word === "lamps") return this.lamps(token);
+    if (word === "display") return this.display(token);
+    if (word === "printed" || word === "cycles") {
+      this.scanner.goTo(token.end);
+      return this.formOf(token, this.following(word === "printed"));
+    }
+    const panel = word === "lamp" || word === "key" ? this.panel(token, word) : null;
+    if (panel) return panel;
+    this.scanner.next();
+    if (word === "at") return this.label(token.column);
+    if (/^chain\d+$/.test(word)) return this.chain(token);
+    const more = SPACED.get(word) || 0;
+    for (let count = 0; count < more; count++) {
+      const { kind, column } = this.scanner.next();
+      if (kind !== "number") fail(say.SPACED_FORM, Math.min(column, this.last));
+    }
+    const text = more === 0 ? token.text : this.textFrom(token.column);
+    return { kind: "name", text, way: this.way(word), column: token.column };
+  }
+
+  /**
+   * The way of a port, which may stand behind it.
+   * @param {string} word
+   * @returns {"" | "in" | "out"}
+   */
+  way(word) {
+    const next = this.scanner.peek();
+    const way = next.text.toLowerCase();
+    if (!PORT.test(word) || next.kind !== "word" || (way !== "in" && way !== "out")) return "";
+    this.scanner.next();
+    return way;
+  }
+
+  /**
+   * The counter is at a label.
+   * @param {number} column
+   * @returns {AtNode}
+   */
+  label(column) {
+    const name = this.scanner.peek();
+    if (name.kind !== "word") fail(say.AT_FORM, column);
+    this.scanner.next();
+    return { kind: "at", label: name.text.replace(/^@/, ""), text: this.textFrom(column), column };
+  }
+
+  // --- forms whose words are names ---
+
+  /**
+   * `lamp NAME on`, `key NAME down`, or the value of that; null where it is a name of the source that is compared.
+   * @param {Token} token
+   * @param {"lamp" | "key"} what
+   * @returns {Node | null}
+   */
+  panel(token, what) {
+    const { scanner } = this;
+    scanner.goTo(token.end);
+    const name = scanner.raw(this.depth > 0);
+    if (!name) return fail(FORMS[what], token.column);
+    const state = this.peekLoosely();
+    const isOn = state.kind === "word" ? STATES.get(state.text.toLowerCase()) : undefined;
+    if (isOn !== undefined && (what === "key") === /^(down|up)$/i.test(state.text)) {
+      scanner.next();
+      return { kind: "panel", what, name: name.text, isOn, text: this.textFrom(token.column), column: token.column };
+    }
+    if (/^([=<>!+\-&|]\S*|or|and)$/i.test(name.text) && !this.isOfPanel(name.text)) {
+      scanner.goTo(token.column);
+      return null;
+    }
+    if (state.kind === "word") return fail(FORMS[what], token.column);
+    return { kind: what, text: name.text, column: token.column };
+  }
+
+  /**
+   * The lamps that are lit, by their names or marks; or all as one number, which is compared.
+   * @param {Token} token
+   * @returns {Node}
+   */
+  lamps(token) {
+    const { scanner } = this;
+    scanner.goTo(token.end);
+    const { kind, text } = this.peekLoosely();
+    if (kind === "sign" && (text in SIGNS || /^[+\-&]$/.test(text))) {
+      return { kind: "name", text: token.text, way: "", column: token.column };
+    }
+    return this.formOf(token, this.following(false, true));
+  }
+
+  /**
+   * Reads `display TEXT`, with a sign of equality or without.
+   * @param {Token} head
+   * @returns {ConditionNode}
+   */
+  display(head) {
+    this.scanner.goTo(head.end);
+    const isNot = this.equality();
+    const form = this.formOf(head, this.following(true, true));
+    return isNot ? { kind: "not", part: form, text: form.text, column: head.column } : form;
+  }
+
+  /** Takes a sign that says that two are the same, or are not; returns whether they are not. */
+  equality() {
+    const { text } = this.peekLoosely();
+    if (text === "=" || text === "==" || text === "!=") this.scanner.next();
+    return text === "!=";
+  }
+
+  /** The next token, where a sign that belongs to no condition is a word. */
+  peekLoosely() {
+    const { scanner } = this;
+    const { place } = scanner;
+    const name = scanner.raw(false);
+    scanner.goTo(place);
+    const isWord = name && (this.isOfPanel(name.text) || !/^([=<>+\-&|)]|!=)/.test(name.text));
+    if (name && isWord) return { kind: "word", text: name.text.replace(/\)+$/, "") };
+    return scanner.peek();
+  }
+
+  /**
+   * Returns the words up to what joins conditions.
+   * @param {boolean} isText whether they may be a text in quotes
+   * @param {boolean} [hasLamps] whether they may be names of lamps, of which one may be called `or`
+   */
+  following(isText, hasLamps = false) {
+    const { scanner } = this;
+    scanner.back();
+    /** @type {Token[]} */
+    const words = [];
+    for (;;) {
+      const { place } = scanner;
+      const word = scanner.raw(this.depth > 0);
+      if (!word) return words;
+      if (isText && words.length === 0 && word.text.startsWith('"')) {
+        scanner.goTo(word.column);
+        return this.quoted();
+      }
+      const isEnd = this.joinOf(word) !== "" && !(hasLamps && this.isLampsFrom(word.column));
+      if (isEnd || (this.depth > 0 && word.text === ")")) {
+        scanner.goTo(place);
+        return words;
+      }
+      words.push(word);
+    }
+  }
+
+  /**
+   * Whether all words from a column to the end are names of lamps.
+   * @param {number} column
+   */
+  isLampsFrom(column) {
+    return this.text.slice(column).trim().split(/\s+/).every((word) => this.isOfPanel(word));
+  }
+
+  /** The words of a text in quotes. */
+  quoted() {
+    const token = this.scanner.next();
+    return token.text.split(/\s+/).filter(Boolean).map((text) => ({ ...token, text }));
+  }
+
+  /**
+   * @param {Token} head
+   * @param {Token[]} words
+   * @returns {FormNode}
+   */
+  formOf(head, words) {
+    const { column } = head;
+    return { kind: "form", words: [{ ...head, text: head.text.toLowerCase() }, ...words], text: this.textFrom(column), column };
+  }
+
+  /**
+   * The bits of a chain.
+   * @param {Token} head
+   * @returns {ConditionNode}
+   */
+  chain(head) {
+    const { scanner } = this;
+    const isNot = this.equality();
+    /** @type {Token[]} */
+    const words = [];
+    for (;;) {
+      const { place } = scanner;
+      const word = scanner.raw(this.depth > 0);
+      if (!word || !/^[01?]+$/.test(word.text)) {
+        scanner.goTo(place);
+        break;
+      }
+      words.push(word);
+    }
+    const form = this.formOf(head, words);
+    return isNot ? { kind: "not", part: form, text: form.text, column: head.column } : form;
+  }
+}
+
+/**
+ * The tree of a text; where it is none, `Unreadable` is thrown.
+ * @param {string} text
+ * @param {(name: string) => boolean} [isOfPanel] whether a lamp has this name
+ * @returns {Node}
+ */
+export function parse(text, isOfPanel = () => false) {
+  if (text.length > LONGEST) fail(say.tooLong(LONGEST), LONGEST - 1);
+  return new Parser(text, isOfPanel).whole();
+}
+
+/**
+ * The tree of a text that is a condition.
+ * @param {string} text
+ * @param {(name: string) => boolean} [isOfPanel]
+ * @returns {ConditionNode}
+ */
+export function parseCondition(text, isOfPanel = () => false) {
+  if (text.length > LONGEST) fail(say.tooLong(LONGEST), LONGEST - 1);
+  const parser = new Parser(text, isOfPanel);
+  return parser.needCondition(parser.whole());
+}

@@ -1,0 +1,34 @@
+// What is asked of the bench about places of conditions: `trace` tells most of them, `state` what only commands change.
+
+import { valueIn } from "../bench/state_line.js";
+import { valuesOf } from "../engine/tracing.js";
+import { MOST_PLACES } from "./conditions.js";
+import { STATE_PLACES } from "./values.js";
+
+/** @typedef {import("../engine/tracing.js").Answers} Answers */
+
+export class Probes {
+  /** @param {string[]} places */
+  constructor(places) {
+    this.places = places;
+    const traced = places.filter((place) => !STATE_PLACES.has(place));
+    this.groups = [];
+    for (let from = 0; from < traced.length; from += MOST_PLACES) this.groups.push(traced.slice(from, from + MOST_PLACES));
+    this.asksState = traced.length < places.length;
+    /** What is asked. */
+    this.lines = this.groups.map((group) => `trace 1 ${group.join(" ")}\n`).join("") + (this.asksState ? "state\n" : "");
+  }
+
+  /**
+   * What is told of the places now, in their order.
+   * @param {Answers} answers to the lines
+   * @returns {string[]}
+   */
+  take(answers) {
+    const traced = this.groups.flatMap(() => valuesOf(answers.takeTrace().row));
+    if (!this.asksState) return traced;
+    const state = answers.take();
+    let at = 0;
+    return this.places.map((place) => (STATE_PLACES.has(place) ? valueIn(state, place) : traced[at++]));
+  }
+}

@@ -1,0 +1,364 @@
+// The values in a condition: numbers, names of the source, of Watch and of the front panel, places, and sums of them. Each value is
+// computed from what the bench answers about its places.
+
+import { keysOf, pinOf } from "../explore/inputs.js";
+import { mostAlike } from "../text/alike.js";
+import { isCondition, parse } from "./parser.js";
+import { placeOf } from "./places.js";
+import { Unreadable, fail } from "./scanner.js";
+import * as say from "../../words/conditions.js";
+
+/**
+ * @typedef {import("./conditions.js").Names} Names
+ * @typedef {import("./parser.js").ValueNode} ValueNode
+ * @typedef {import("./parser.js").NameNode} NameNode
+ * @typedef {import("./parser.js").SumNode} SumNode
+ *
+ * `name` is the spelling that is shown; `most` is the largest number, Infinity if unknown; `isConstant`: it depends on no place; `told` is
+ * how a place shows it.
+ * @typedef {{ name: string, most: number, isConstant: boolean, read: (values: string[]) => number, told?: (values: string[]) => string }}
+ *   Value
+ *
+ * What an answer of the bench about a place cannot give; a test keeps it.
+ * @typedef {"cycles" | "seen" | "printed"} Need
+ */
+
+/** What no trace tells, but the answer to `state`; only commands change it. */
+export const STATE_PLACES = new Set(["test", "owed", "keys"]);
+/** So many names of Watch lead from one to the next. */
+const MOST_NAMES_DEEP = 3;
+/** A bank has so many characters of RAM, by the byte that SRC sends. */
+const LAST_CHARACTER = 255;
+/** What is meant by a word that others have for a place. */
+const MEANT = new Map([["a", say.ACCUMULATOR_IS], ["c", say.CARRY_IS], ["carry", say.CARRY_IS], ["ip", say.COUNTER_IS],
+  ["bank", say.BANK_IS]]);
+/** Numbers are exact up to 53 bits; the signs of numbers with bits have 32. */
+const HALF = 2 ** 26;
+
+/** The places that a condition looks at, each once, and what a test has to know besides. */
+export class Looked {
+  /** @param {boolean} [isTest] whether the condition is one of a test */
+  constructor(isTest = false) {
+    this.isTest = isTest;
+    /** How many names of Watch are inside each other. */
+    this.depth = 0;
+    /** @type {string[]} */
+    this.places = [];
+    /** @type {Need[]} */
+    this.needs = [];
+  }
+
+  /**
+   * Returns the index of a place among all.
+   * @param {string} place
+   */
+  at(place) {
+    const at = this.places.indexOf(place);
+    return at >= 0 ? at : this.places.push(place) - 1;
+  }
+
+  /**
+   * Notes what a test has to know; elsewhere that is an error.
+   * @param {Need} need
+   * @param {string} fault
+   */
+  need(need, fault) {
+    if (!this.isTest) fail(fault);
+    if (!this.needs.includes(need)) this.needs.push(need);
+  }
+}
+
+/**
+ * @param {number} number
+ * @returns {Value}
+ */
+function constant(number) {
+  return { name: String(number), most: Infinity, isConstant: true, read: () => number };
+}
+
+/**
+ * @param {number} one
+ * @param {number} other
+ */
+function bothBits(one, other) {
+  const high = Math.floor(one / HALF) & Math.floor(other / HALF);
+  return high * HALF + ((one % HALF) & (other % HALF));
+}
+
+/** @type {Record<SumNode["sign"], (one: number, other: number) => number>} */
+const SUMS = { "+": (one, other) => one + other, "-": (one, other) => one - other, "&": bothBits };
+
+/**
+ * Returns a value of 0 or 1.
+ * @param {string} name
+ * @param {number} at
+ * @param {(told: string) => number} read
+ * @returns {Value}
+ */
+function bitValue(name, at, read) {
+  return { name, most: 1, isConstant: false, read: (values) => read(values[at]) };
+}
+
+/**
+ * Returns the number of a lamp, by its name or by a number.
+ * @param {string} name
+ * @param {Names} names
+ */
+export function lampAt(name, { face, board }) {
+  const named = face.lampNumbers.get(name);
+  if (named !== undefined) return named;
+  if (/^\d+$/.test(name) && Number(name) < board.lamps.length) return Number(name);
+  const there = [...face.lampNumbers].sort((one, other) => one[1] - other[1]).map(([each]) => each);
+  return fail(say.noLamp(name, there.join(" ")));
+}
+
+/**
+ * @param {string} name
+ * @param {Names} names
+ * @param {Looked} looked
+ * @returns {Value}
+ */
+export function lampValue(name, names, looked) {
+  const lamp = lampAt(name, names);
+  return bitValue(`lamp ${name}`, looked.at("lamps"), (marks) => Number(marks[lamp] === "*"));
+}
+
+/**
+ * A key that is down is 1.
+ * @param {string} name
+ * @param {Names} names
+ * @param {Looked} looked
+ * @returns {Value}
+ */
+export function keyValue(name, { face }, looked) {
+  const key = [...keysOf(face), ...(face.test ? [pinOf(face)] : [])].find((each) => each.name === name);
+  if (!key) {
+    const there = [...keysOf(face), ...(face.test ? [pinOf(face)] : [])].map((each) => each.name);
+    return fail(say.noKeyOfPanel(name, there.join(" ")));
+  }
+  const [word, ...numbers] = key.down.split(" ");
+  if (word === "test") return bitValue(`key ${name}`, looked.at("test"), (told) => Number(told === numbers[0]));
+  const item = numbers.join(".");
+  return bitValue(`key ${name}`, looked.at("keys"), (told) => Number(told.split(",").includes(item)));
+}
+
+/**
+ * A name of the source, in any case where that is one name alone.
+ * @param {string} name
+ * @param {Names["map"]} map
+ */
+function sourceName(name, map) {
+  if (!map) return undefined;
+  const alike = [...map.names].filter(([each]) => each.toLowerCase() === name.toLowerCase());
+  return map.names.get(name) || (alike.length === 1 ? alike[0][1] : undefined);
+}
+
+/**
+ * The address of a label.
+ * @param {string} name
+ * @param {Names} names
+ */
+export function labelIn(name, names) {
+  const found = sourceName(name, names.map);
+  return found && found.isLabel ? found.value : fail(say.noLabel(name));
+}
+
+/**
+ * @param {string} text
+ * @param {Names} names
+ * @param {Looked} looked
+ * @returns {Value | null} null where it is no place
+ */
+function placeValue(text, { board }, looked) {
+  const place = placeOf(text);
+  if (!place) return null;
+  const { name } = place;
+  const probes = place.probesOn(board);
+  if (probes.length === 0) fail(say.boardLacks(name));
+  const most = place.most(board);
+  if (most < 0) fail(say.isNoNumber(name));
+  const looks = probes.map((probe) => looked.at(probe));
+  const toldOf = (/** @type {string[]} */ values) => looks.map((at) => values[at]);
+  return { name, most, isConstant: false, read: (values) => place.number(toldOf(values)), told: (values) => place.value(toldOf(values)) };
+}
+
+/**
+ * Returns `rom1 in`, what RDR reads there: an output line as its mask says; or `rom1 out`, `ram0.1 out`, what the port's latch holds, in
+ * which an input line is 0.
+ * @param {NameNode} node
+ * @param {Names} names
+ * @param {Looked} looked
+ * @returns {Value}
+ */
+function portValue({ text, way }, { board }, looked) {
+  const port = text.toLowerCase();
+  const place = placeOf(port);
+  if (!place || place.probesOn(board).length === 0) return fail(say.boardLacks(port));
+  if (port.startsWith("ram") && way === "in") fail(say.portForm(port));
+  const rom = board.roms.find(({ chip }) => `rom${Number(chip)}` === place.name);
+  const mask = rom ? [...rom.port] : [];
+  const bitsOf = (/** @type {string} */ mark) => mask.reduce((sum, each, at) => sum + (each === mark ? 2 ** (3 - at) : 0), 0);
+  const [inputs, ones] = [bitsOf("i"), bitsOf("1")];
+  const at = looked.at(place.name);
+  const read = (/** @type {string[]} */ values) => {
+    const levels = parseInt(values[at], 16);
+    return way === "in" ? (levels & inputs) | ones : levels & ~inputs;
+  };
+  return { name: `${place.name} ${way}`, most: 15, isConstant: false, read };
+}
+
+/**
+ * Returns what a word that is no place is likely to mean, by its form; "" if nobody knows.
+ * @param {string} text
+ */
+export function meantBy(text) {
+  if (/^r\d+$/i.test(text)) return say.REGISTERS_ARE;
+  if (/^(ram|st)\b/i.test(text)) return say.CHARACTERS_ARE;
+  return /^(ram|rom)\d/i.test(text) ? say.PORTS_ARE : MEANT.get(text.toLowerCase()) || "";
+}
+
+/**
+ * @param {string} text
+ * @param {Names} names
+ */
+function proposalFor(text, { map, watched, face }) {
+  const meant = meantBy(text);
+  if (meant) return meant;
+  const known = [...(map ? map.names.keys() : []), ...(watched ? watched.keys() : []), ...face.lampNumbers.keys()];
+  const alike = mostAlike(text, known);
+  return alike.length > 0 ? say.perhaps(alike.join(" ")) : say.PLACES_ARE;
+}
+
+/**
+ * @param {string} text
+ * @param {Names} names
+ * @returns {never}
+ */
+function noPlace(text, names) {
+  return fail(say.noSuchPlace(text, proposalFor(text, names)));
+}
+
+/**
+ * Returns what a name of Watch stands for; it may name others, up to some depth.
+ * @param {string} name
+ * @param {string} text its expression
+ * @param {Names} names
+ * @param {Looked} looked
+ * @returns {Value}
+ */
+function watchedValue(name, text, names, looked) {
+  if (looked.depth >= MOST_NAMES_DEEP) return fail(say.namesTooDeep(name, MOST_NAMES_DEEP));
+  const node = parse(text, (lamp) => names.face.lampNumbers.has(lamp));
+  if (isCondition(node)) return fail(say.isNoValue(name, text));
+  looked.depth += 1;
+  try {
+    return { ...valueIn(node, names, looked), name };
+  } catch (fault) {
+    // The column is one of another text.
+    throw fault instanceof Unreadable ? new Unreadable(say.inName(name, fault.message)) : fault;
+  } finally {
+    looked.depth -= 1;
+  }
+}
+
+/**
+ * @param {NameNode} node
+ * @param {Names} names
+ * @param {Looked} looked
+ * @returns {Value}
+ */
+function nameValue(node, names, looked) {
+  const { text, way } = node;
+  const word = text.toLowerCase();
+  if (way !== "") return portValue(node, names, looked);
+  if (text.startsWith("@")) {
+    const found = sourceName(text.slice(1), names.map);
+    return constant(found ? found.value : fail(say.noLabel(text.slice(1))));
+  }
+  if (word === "test" || word === "owed") return bitValue(word, looked.at(word), Number);
+  const place = placeValue(text, names, looked);
+  if (place) return place;
+  const watched = names.watched && names.watched.get(text);
+  if (watched !== undefined) return watchedValue(text, watched, names, looked);
+  const found = sourceName(text, names.map);
+  if (found) return constant(found.value);
+  return names.face.lampNumbers.has(text) ? lampValue(text, names, looked) : noPlace(text, names);
+}
+
+/**
+ * Returns the values of RAM characters from a place on, one after the other.
+ * @param {NameNode} node
+ * @param {number} count
+ * @param {Names} names
+ * @param {Looked} looked
+ * @returns {Value[]}
+ */
+export function characterValues({ text, column }, count, names, looked) {
+  return atColumn(column, () => {
+    const place = placeOf(text);
+    const [, bank, byte] = /^ram\.(\d)\.0x(\w+)$/.exec(place ? place.name : "") || fail(say.isOneValue(place ? place.name : text));
+    return Array.from({ length: count }, (_, more) => {
+      const at = parseInt(byte, 16) + more;
+      const each = at <= LAST_CHARACTER ? placeOf(`ram.${bank}.${at}`) : null;
+      if (more > 0 && (!each || each.probesOn(names.board).length === 0)) fail(say.NO_RAM_FOR_LAST);
+      return placeValue(each ? each.name : text, names, looked) || noPlace(text, names);
+    });
+  });
+}
+
+/**
+ * @param {SumNode} node
+ * @param {Names} names
+ * @param {Looked} looked
+ * @returns {Value}
+ */
+function sumValue({ sign, left, right, text }, names, looked) {
+  const [one, other] = [valueIn(left, names, looked), valueIn(right, names, looked)];
+  const isConstant = one.isConstant && other.isConstant;
+  return { name: text, most: Infinity, isConstant, read: (values) => SUMS[sign](one.read(values), other.read(values)) };
+}
+
+/**
+ * Returns the number that a value is, whatever the machine is.
+ * @param {ValueNode} node
+ * @param {Names["map"]} map
+ * @returns {number}
+ */
+export function constantIn(node, map) {
+  if (node.kind === "number") return node.value;
+  if (node.kind === "sum") return SUMS[node.sign](constantIn(node.left, map), constantIn(node.right, map));
+  const found = node.kind === "name" && node.way === "" ? sourceName(node.text.replace(/^@/, ""), map) : undefined;
+  return found ? found.value : fail(map ? say.noConstant(node.text) : say.noNames(node.text), node.column);
+}
+
+/**
+ * What a value in a condition means.
+ * @param {ValueNode} node
+ * @param {Names} names
+ * @param {Looked} looked
+ * @returns {Value}
+ */
+export function valueIn(node, names, looked) {
+  return atColumn(node.column, () => {
+    if (node.kind === "number") return constant(node.value);
+    if (node.kind === "sum") return sumValue(node, names, looked);
+    if (node.kind === "name") return nameValue(node, names, looked);
+    return node.kind === "key" ? keyValue(node.text, names, looked) : lampValue(node.text, names, looked);
+  });
+}
+
+/**
+ * What is wrong with something is wrong in its column, where no other one is known.
+ * @template Result
+ * @param {number} column
+ * @param {() => Result} read
+ * @returns {Result}
+ */
+export function atColumn(column, read) {
+  try {
+    return read();
+  } catch (fault) {
+    if (fault instanceof Unreadable && fault.column < 0) fault.column = column;
+    throw fault;
+  }
+}

@@ -1,0 +1,53 @@
+// A condition that is looked for, on or back: it is reached where it becomes true.
+
+import { expressionOf, tracedConditionOf } from "../conditions/conditions.js";
+import { placeOf } from "../conditions/places.js";
+import { valuesOf } from "../engine/tracing.js";
+import { inColumn } from "../../words/conditions.js";
+import * as say from "../../words/debug.js";
+
+/**
+ * @typedef {import("../conditions/conditions.js").Names} Names
+ * @typedef {{ places: string[], holds: (values: string[]) => boolean }} Asked
+ */
+
+/**
+ * Reads a condition to look for; `fault` says what is wrong with it, and in which column.
+ * @param {string} text
+ * @param {Names} names
+ * @returns {{ asked: Asked | null, fault: string }}
+ */
+export function askedOf(text, names) {
+  const { condition, ...wrong } = tracedConditionOf(text, names);
+  if (!condition) {
+    // Of a lone name that is none, that is what is wrong.
+    const value = expressionOf(text, names);
+    const { fault, column } = value.expression ? wrong : value;
+    return { asked: null, fault: inColumn(fault, column) };
+  }
+  return condition.places.length > 0 ? { asked: condition, fault: "" } : { asked: null, fault: say.NEVER_CHANGES };
+}
+
+/**
+ * Reads what is looked for: a place, of which each change counts, or a condition.
+ * @param {string} text
+ * @param {Names} names
+ * @returns {{ goal: { kind: "change", place: string } | { kind: "when", condition: string } | null, fault: string }}
+ */
+export function goalOfText(text, names) {
+  const lamp = names.face.lampNumbers.get(text.trim()) ?? names.face.lampNumbers.get(text.trim().replace(/ /g, "_"));
+  const place = placeOf(lamp === undefined ? text : `lamp ${lamp}`);
+  if (place) return { goal: { kind: "change", place: place.name }, fault: "" };
+  const { asked, fault } = askedOf(text, names);
+  return { goal: asked && { kind: "when", condition: text.trim() }, fault };
+}
+
+/**
+ * Whether a condition becomes true by a change.
+ * @param {Asked} asked
+ * @param {string} before the row of its places
+ * @param {string} after
+ */
+export function becomesTrue({ holds }, before, after) {
+  return holds(valuesOf(after)) && !holds(valuesOf(before));
+}

@@ -1,0 +1,176 @@
+// A routine that scans the key matrix of a board: source text for the board as it is wired.
+
+import { upTo } from "../bench/numbers.js";
+import * as say from "../../words/key_scan.js";
+
+/**
+ * @typedef {import("../bench/answers.js").Board} Board
+ * @typedef {import("../bench/answers.js").Matrix} Matrix
+ *
+ * A port that is written or read: the bank that has to be designated (-1 for a ROM), the SRC byte that selects it, the instruction that
+ * writes it, and what it is called. `bit` is the line there, as its value.
+ * @typedef {{ bank: number, source: number, write: string, title: string, bit: number }} Port
+ *
+ * A line of source: its label, its instruction with operands, its comment.
+ * @typedef {[label: string, instruction: string[], comment?: string]} Line
+ */
+
+const LABEL_WIDTH = 12;
+const COMMENT_COLUMN = 32;
+/** A counter of ISZ goes up to so much. */
+const TURNS = 16;
+
+/**
+ * @param {string} line of the board, as `rom0.2`, `ram1.3.0`
+ * @returns {Port}
+ */
+function portOf(line) {
+  const numbers = line.slice(3).split(".").map(Number);
+  const bit = 2 ** numbers[numbers.length - 1];
+  if (line.startsWith("rom")) return { bank: -1, source: numbers[0] * 16, write: "WRR", title: say.romPort(numbers[0]), bit };
+  return { bank: numbers[0], source: numbers[1] * 64, write: "WMP", title: say.ramPort(numbers[0], numbers[1]), bit };
+}
+
+/** @type {(one: Port, other: Port) => boolean} */
+const isSame = (one, other) => one.title === other.title;
+
+/** @param {number} byte */
+const inHex = (byte) => `0x${byte.toString(16).toUpperCase().padStart(2, "0")}`;
+
+/**
+ * Selects a port.
+ * @param {Port} port
+ * @returns {Line[]}
+ */
+function selected({ bank, source, title }) {
+  /** @type {Line[]} */
+  const designated = bank < 0 ? [] : [["", ["LDM", String(bank)]], ["", ["DCL"]]];
+  return [...designated, ["", ["FIM", "P0,", inHex(source)], title], ["", ["SRC", "P0"]]];
+}
+
+/** @param {Line} line */
+function textOf([label, instruction, comment = ""]) {
+  const code = `${(label && `${label}:`).padEnd(LABEL_WIDTH)}${instruction.join(" ")}`;
+  return comment === "" ? code : `${code.padEnd(COMMENT_COLUMN)}; ${comment}`;
+}
+
+/** The labels of a routine, none of which a text has already. */
+class Labels {
+  /** @param {string} text */
+  constructor(text) {
+    const number = upTo(1000).find((each) => !text.includes(`keys${each || ""}_`)) || 0;
+    this.begin = `keys${number || ""}`;
+  }
+
+  /** @param {string} ending */
+  of(ending) {
+    return `${this.begin}_${ending}`;
+  }
+}
+
+/**
+ * The 1 that drives row 0 goes on to the bit of that row.
+ * @param {number} first that bit
+ * @param {Labels} labels
+ * @returns {Line[]}
+ */
+function toFirstRow(first, labels) {
+  if (first === 0) return [];
+  const rounds = Math.ceil(first / TURNS);
+  const [turn, shift] = [labels.of("first"), labels.of("shift")];
+  /** @type {Line[]} */
+  const counters = [["", ["LDM", String((TURNS - (first % TURNS)) % TURNS)]], ["", ["XCH", "R8"], say.goesTo(first)]];
+  if (rounds > 1) counters.push(["", ["LDM", String(TURNS - rounds)]], ["", ["XCH", "R9"]]);
+  /** @type {Line[]} */
+  const loop = [[turn, ["LDM", "0"]], ["", ["JMS", shift]], ["", ["ISZ", "R8,", turn]]];
+  return [...counters, ...loop, .../** @type {Line[]} */ (rounds > 1 ? [["", ["ISZ", "R9,", turn]]] : [])];
+}
+
+/**
+ * Reads the columns: at the first one that is at 1 it jumps.
+ * @param {string[]} columns
+ * @param {Labels} labels
+ * @returns {Line[]}
+ */
+function readColumns(columns, labels) {
+  const ports = columns.map(portOf);
+  const chips = ports.filter((port, at) => ports.findIndex((each) => isSame(each, port)) === at);
+  return chips.flatMap((chip) => {
+    /** @type {Line[]} */
+    const lines = [...selected(chip), ["", ["RDR"]]];
+    let bit = 1 / 2;
+    const own = ports.map((port, column) => ({ ...port, column })).filter((port) => isSame(port, chip));
+    for (const { bit: wanted, column } of own.sort((one, other) => one.bit - other.bit)) {
+      if (wanted === bit) continue;
+      for (; bit < wanted; bit *= 2) lines.push(["", ["RAR"]]);
+      lines.push(["", ["JCN", "2,", labels.of(String(column))], say.columnInCarry(column)]);
+    }
+    return lines;
+  });
+}
+
+/**
+ * Shifts the bit that the accumulator has, as the value of the data line, into the chain.
+ * @param {Port} clock
+ * @param {Port} data
+ * @param {Labels} labels
+ * @returns {Line[]}
+ */
+function shiftLines(clock, data, labels) {
+  const isOne = isSame(clock, data);
+  /** @type {Line[]} */
+  const other = isOne ? [] : [...selected(clock), ["", ["LDM", "0"]], ["", [clock.write]]];
+  /** @type {Line[]} */
+  const both = isOne ? [["", ["CLC"]], ["", ["ADD", "R6"]]] : [];
+  return [
+    [labels.of("shift"), ["XCH", "R6"], say.BIT_COMES], ...selected(data), ["", ["LD", "R6"]],
+    ["", [data.write], isOne ? say.CLOCK_LOW : say.DATA], ...other,
+    ["", ["LDM", String(clock.bit)]], ...both, ["", [clock.write], say.CLOCK_RISES], ["", ["BBL", "0"]],
+  ];
+}
+
+/**
+ * What the comment before the routine says.
+ * @param {Matrix} matrix
+ * @param {Port} clock
+ * @param {Port} data
+ * @param {Labels} labels
+ */
+function headOf({ chain, first, rows, columns }, clock, data, labels) {
+  const read = [...new Set(columns.map((line) => portOf(line).title))];
+  const written = [...new Set([data.title, clock.title])];
+  const banks = [...new Set([data.bank, clock.bank])].filter((bank) => bank >= 0);
+  return [
+    say.scansKeys(rows, first, chain, read), say.callIt(labels.of("scan")),
+    say.usesThese(first > TURNS ? "R9" : first > 0 ? "R8" : "R7"), say.writesPorts(written), ...banks.map(say.designates),
+  ].map((words) => `; ${words}`);
+}
+
+/**
+ * Returns the routine, and for a text without instructions a program that calls it; "" for a board without keys.
+ * @param {Board} board
+ * @param {string} text of the source that it comes into
+ */
+export function keyScanOf({ matrix, chains }, text) {
+  if (!matrix) return "";
+  const { rows, first, columns } = matrix;
+  const [clock, data] = [portOf(chains[matrix.chain].clock), portOf(chains[matrix.chain].data)];
+  const labels = new Labels(text);
+  const [scan, row, shift, out] = ["scan", "row", "shift", "out"].map((ending) => labels.of(ending));
+  /** @type {Line[]} */
+  const start = /^\s*[^\s;]/m.test(text) ? [] : [["start", ["JMS", scan], say.WAITS], ["", ["JUN", "start"]]];
+  /** @type {Line[]} */
+  const lines = [
+    [scan, ["LDM", "0"]], ["", ["XCH", "R4"], say.FIRST_ROW],
+    ["", ["LDM", String(TURNS - rows)]], ["", ["XCH", "R7"], say.counts(rows)],
+    ["", ["LDM", String(data.bit)]], ["", ["JMS", shift], say.ONE_COMES_IN], ...toFirstRow(first, labels),
+    ...readColumns(columns, labels).map((line, at) => /** @type {Line} */ (at === 0 ? [row, line[1], line[2]] : line)),
+    ["", ["LDM", "0"]], ["", ["JMS", shift], say.NEXT_ROW], ["", ["INC", "R4"]], ["", ["ISZ", "R7,", row]], ["", ["BBL", "0"], say.NO_KEY],
+    ...columns.flatMap((_, column) => /** @type {Line[]} */ ([
+      [labels.of(String(column)), ["LDM", String(column)], say.columnIsDown(column)], ["", ["JUN", labels.of("down")]]])),
+    [labels.of("down"), ["XCH", "R5"]], [out, ["LDM", "0"]], ["", ["JMS", shift], say.LEAVES_ROWS], ["", ["ISZ", "R7,", out]],
+    ["", ["BBL", "1"], say.KEY_IS_DOWN], ...shiftLines(clock, data, labels),
+  ];
+  const head = headOf(matrix, clock, data, labels);
+  return [...start.map(textOf), ...(start.length > 0 ? [""] : []), ...head, ...lines.map(textOf), ""].join("\n");
+}

@@ -1,0 +1,58 @@
+// The program of a session by its text: its names and lines, if the text makes the bytes that are in ROM.
+
+import { hex } from "../bench/numbers.js";
+import { SourceMap } from "../machine/source_map.js";
+import { faultsOfText } from "../testing/prepared.js";
+import { sentText } from "../text/text_fault.js";
+import { readProgram } from "./program_check.js";
+
+/**
+ * @typedef {import("./engine_host.js").EngineHost} EngineHost
+ * @typedef {import("../testing/prepared.js").TextFault} TextFault
+ *
+ * Where ROM has another byte than the program: the address, the byte there, the line and the byte that it makes.
+ * @typedef {{ address: string, is: string, line: number, makes: string }} OtherByte
+ *
+ * Why the text is not the program of a session: it has faults, or ROM has another byte. With neither, `map` is the program's.
+ * @typedef {{ faults: TextFault[], other: OtherByte | null, map: SourceMap }} SessionProgram
+ */
+
+/**
+ * Returns the first byte of ROM that is another one than the program makes; null if there is none.
+ * @param {Uint8Array} codes
+ * @param {Int16Array} bytes of the program, negative where it has none
+ * @param {SourceMap} map
+ * @returns {OtherByte | null}
+ */
+function otherByte(codes, bytes, map) {
+  const at = bytes.findIndex((byte, address) => byte >= 0 && byte !== codes[address]);
+  return at < 0 ? null : { address: hex(at, 3), is: hex(codes[at], 2), line: map.lineOf(at), makes: hex(bytes[at], 2) };
+}
+
+/**
+ * Reads a program's text alone; returns its map, and the byte at each address, or what is wrong with it.
+ * @param {EngineHost} engine
+ * @param {string} text
+ * @returns {{ faults: TextFault[], map: SourceMap, bytes: Int16Array }}
+ */
+export function readSource(engine, text) {
+  const rejected = (/** @type {TextFault[]} */ faults) => ({ faults, map: new SourceMap([], ""), bytes: new Int16Array() });
+  const unsent = faultsOfText("program", text);
+  if (unsent.length > 0) return rejected(unsent);
+  const sent = sentText(text, ";");
+  const { map, refusal, bytes } = readProgram(engine, sent);
+  if (refusal) return rejected([{ text: "program", ...refusal, words: "" }]);
+  return { faults: [], map: new SourceMap(map, sent), bytes };
+}
+
+/**
+ * Reads a program's text, and compares it with what is in ROM.
+ * @param {EngineHost} engine
+ * @param {Uint8Array} codes the bytes in ROM
+ * @param {string} text
+ * @returns {SessionProgram}
+ */
+export function sessionProgram(engine, codes, text) {
+  const { faults, map, bytes } = readSource(engine, text);
+  return { faults, other: faults.length > 0 ? null : otherByte(codes, bytes, map), map };
+}

@@ -1,0 +1,60 @@
+// Records the lines of a board piece by piece, for a file that is written as it goes: however long the recording is, it holds one piece.
+
+import { Waves } from "../waves/waves.js";
+import { Answers } from "./tracing.js";
+import { WaveTaking } from "./wave_taking.js";
+
+/**
+ * @typedef {import("./engine_host.js").EngineHost} EngineHost
+ * @typedef {import("./engine_host.js").State} State
+ * @typedef {import("./wave_recorder.js").RecordedProgram} RecordedProgram
+ * @typedef {import("../waves/wave_lines.js").WaveLine} WaveLine
+ */
+
+const PIECE = 20000;
+
+/**
+ * Returns whether a line changes with the counter.
+ * @param {WaveLine} line
+ */
+const isOfCounter = ({ kind }) => kind === "pc" || kind === "label";
+
+/**
+ * Returns the chosen lines of a board, and those that their ports are made of.
+ * @param {WaveLine[]} lines of the board
+ * @param {number[]} chosen by their numbers
+ * @returns {{ lines: WaveLine[], chosen: number[] }} `chosen` are the same lines by their new numbers
+ */
+export function neededLines(lines, chosen) {
+  const needed = [...new Set(chosen.flatMap((line) => [line, ...lines[line].members]))];
+  const numbers = new Map(needed.map((line, at) => [line, at]));
+  const renumbered = (/** @type {number} */ line) => numbers.get(line) ?? -1;
+  return {
+    lines: needed.map((line) => ({ ...lines[line], members: lines[line].members.map(renumbered) })),
+    chosen: chosen.map(renumbered),
+  };
+}
+
+/**
+ * Records the next cycles of a state that has no breakpoints and no watches. Yields the recording at its beginning, and after each piece.
+ * @param {EngineHost} engine
+ * @param {State} state is moved on
+ * @param {{ lines: WaveLine[], program: RecordedProgram | null, cycles: number }} wanted
+ * @param {() => Promise<any>} breathe is called between the pieces
+ */
+export async function* recordPieces(engine, state, { lines, program, cycles }, breathe) {
+  const taking = new WaveTaking(lines, lines.some(isOfCounter));
+  taking.begin(new Answers(engine.ask(state, `state\n${taking.questions(1)}`).answers));
+  const waves = new Waves({ ...taking.take(), lines, listing: [], program });
+  yield waves;
+  while (taking.elapsed < cycles && !taking.isStuck) {
+    const some = Math.min(PIECE, cycles - taking.elapsed);
+    const answers = new Answers(engine.serve(state, `${taking.questions(some)}run ${some}\nstate\n`, state).answers);
+    taking.takeRun(answers);
+    taking.takeState(answers.take());
+    waves.beginAt(waves.cycles);
+    waves.append({ ...taking.take(), listing: [] });
+    yield waves;
+    await breathe();
+  }
+}

@@ -1,0 +1,227 @@
+// The values of expressions as Intel's assembler and AS write them: names and numbers with + - * / & and brackets, < and > for bytes of an
+// address, $ or * for the address of the line.
+
+import { capitals } from "./source_lines.js";
+import * as say from "../../words/import.js";
+
+/**
+ * A value; `isKnown` is false where a name has none yet, and `fault` is why the expression cannot be read, "" if it can.
+ * @typedef {{ value: number, isKnown: boolean, fault: string }} Evaluated
+ *
+ * What names mean: whether a line defines a name, and its value, if that is known.
+ * @typedef {{ isDefined: (name: string) => boolean, valueOf: (name: string) => number | undefined }} NameValues
+ */
+
+const MOST_DEPTH = 50;
+const BYTE = 256;
+/** The bits that & looks at. */
+const MOST_BITS = 4096;
+const NAME = /[A-Za-z_.?@][A-Za-z0-9_.?@$]*/y;
+const BYTE_OF = /(LOW|HIGH|LO|HI|low|high|lo|hi)[ \t]*\(/y;
+const CHARACTER = /'[^']'|"[^"]"/y;
+/** The forms of numbers, in the order in which they are tried: prefix, suffix and base. */
+const NUMBERS = [
+  { form: /0[xX]([0-9A-Fa-f]+)/y, base: 16 },
+  { form: /[$]([0-9A-Fa-f]+)/y, base: 16 },
+  { form: /([0-9][0-9A-Fa-f]*)[hH]/y, base: 16 },
+  { form: /%([01]+)/y, base: 2 },
+  { form: /([0-7]+)[oOqQ]/y, base: 8 },
+  { form: /([01]+)[bB]/y, base: 2 },
+  { form: /([0-9]+)[dD]?/y, base: 10 },
+];
+
+/**
+ * Returns the bits that two numbers have both.
+ * @param {number} one
+ * @param {number} other
+ */
+function bitsOfBoth(one, other) {
+  const has = (/** @type {number} */ number, /** @type {number} */ bit) => Math.trunc(number / bit) % 2 !== 0;
+  let bits = 0;
+  for (let bit = 1; bit <= MOST_BITS; bit *= 2) if (has(one, bit) && has(other, bit)) bits += bit;
+  return bits;
+}
+
+/**
+ * Returns the value of digits of a base.
+ * @param {string} digits
+ * @param {number} base
+ */
+function numberOfDigits(digits, base) {
+  let value = 0;
+  for (const digit of digits) value = value * base + parseInt(digit, 16);
+  return value;
+}
+
+class Evaluation {
+  /**
+   * @param {string} text
+   * @param {number} here the address of the line
+   * @param {NameValues} names
+   */
+  constructor(text, here, names) {
+    this.text = text;
+    this.here = here;
+    this.names = names;
+    this.at = 0;
+    this.depth = 0;
+    this.isKnown = true;
+    this.fault = "";
+  }
+
+  /** @param {string} words the first ones hold */
+  fail(words) {
+    if (this.fault === "") this.fault = words;
+  }
+
+  skip() {
+    while (/[ \t]/.test(this.text[this.at] || "")) this.at += 1;
+  }
+
+  /** Returns the next letter that is no blank, "" at the end. */
+  next() {
+    this.skip();
+    return this.text[this.at] || "";
+  }
+
+  /**
+   * Returns what stands here, if it has a form.
+   * @param {RegExp} form
+   */
+  match(form) {
+    form.lastIndex = this.at;
+    return form.exec(this.text);
+  }
+
+  sum() {
+    let value = this.product();
+    for (let sign = this.next(); sign === "+" || sign === "-"; sign = this.next()) {
+      this.at += 1;
+      const other = this.product();
+      value = sign === "+" ? value + other : value - other;
+    }
+    return value;
+  }
+
+  product() {
+    let value = this.factor();
+    for (let sign = this.next(); sign === "*" || sign === "/" || sign === "&"; sign = this.next()) {
+      this.at += 1;
+      const other = this.factor();
+      if (sign === "*") value *= other;
+      else if (sign === "&") value = bitsOfBoth(value, other);
+      else if (other !== 0) value = Math.trunc(value / other);
+      else if (this.isKnown) this.fail(say.DIVISION_BY_0);
+    }
+    return value;
+  }
+
+  /** @returns {number} */
+  factor() {
+    this.depth += 1;
+    let value = 0;
+    if (this.depth > MOST_DEPTH) {
+      this.fail(say.tooDeep(MOST_DEPTH));
+      this.at = this.text.length;
+    } else {
+      value = this.factorHere();
+    }
+    this.depth -= 1;
+    return value;
+  }
+
+  factorHere() {
+    const letter = this.next();
+    if (letter === "(") return this.bracketed();
+    if (letter !== "" && "-+<>".includes(letter)) return this.signed(letter);
+    const byteOf = this.match(BYTE_OF);
+    if (byteOf) {
+      this.at += byteOf[0].length - 1;
+      const value = this.bracketed();
+      return /^l/i.test(byteOf[0]) ? value % BYTE : Math.trunc(value / BYTE);
+    }
+    const character = this.match(CHARACTER);
+    if (character) return this.character(character[0]);
+    for (const { form, base } of NUMBERS) {
+      const found = this.match(form);
+      if (found) return this.number(found, base);
+    }
+    if (letter === "$" || letter === "*") {
+      this.at += 1;
+      return this.here;
+    }
+    const name = this.match(NAME);
+    if (name) return this.named(name[0]);
+    this.fail(letter === "" ? say.NO_OPERAND : say.notUnderstood(this.text.slice(this.at)));
+    this.at += 1;
+    return 0;
+  }
+
+  /** @param {string} sign `<` and `>` are of all that is behind them */
+  signed(sign) {
+    this.at += 1;
+    if (sign === "-") return -this.factor();
+    if (sign === "+") return this.factor();
+    const value = this.sum();
+    return sign === "<" ? ((value % BYTE) + BYTE) % BYTE : Math.trunc(value / BYTE);
+  }
+
+  bracketed() {
+    this.at += 1;
+    const value = this.sum();
+    if (this.next() !== ")") this.fail(say.NO_BRACKET);
+    this.at += 1;
+    return value;
+  }
+
+  /** @param {string} quoted */
+  character(quoted) {
+    this.at += quoted.length;
+    if (!isAscii(quoted)) this.fail(say.noCharacter(quoted));
+    return quoted.charCodeAt(1);
+  }
+
+  /**
+   * @param {RegExpExecArray} found
+   * @param {number} base
+   */
+  number([whole, digits], base) {
+    this.at += whole.length;
+    if (/\w/.test(this.text[this.at] || "")) this.fault = say.noNumber(this.text);
+    return numberOfDigits(digits, base);
+  }
+
+  /** @param {string} spelled */
+  named(spelled) {
+    this.at += spelled.length;
+    const name = capitals(spelled);
+    const value = this.names.valueOf(name);
+    if (!this.names.isDefined(name)) this.fail(say.noName(spelled));
+    else if (value === undefined) this.isKnown = false;
+    return value === undefined ? 0 : value;
+  }
+}
+
+/**
+ * Returns whether all characters of a text are of ASCII.
+ * @param {string} text
+ */
+export function isAscii(text) {
+  return /^[\x01-\x7f]*$/.test(text); // eslint-disable-line no-control-regex
+}
+
+/**
+ * Evaluates an expression.
+ * @param {string} text
+ * @param {number} here the address of the line
+ * @param {NameValues} names
+ * @returns {Evaluated}
+ */
+export function evaluate(text, here, names) {
+  const evaluation = new Evaluation(text, here, names);
+  const value = evaluation.sum();
+  evaluation.skip();
+  if (evaluation.at < text.length) evaluation.fail(say.notUnderstood(text.slice(evaluation.at)));
+  const { fault, isKnown } = evaluation;
+  return { value, isKnown: isKnown && fault === "", fault };
+}

@@ -1,0 +1,347 @@
+// Brings a program in the spelling of Intel or of AS into the bench's spelling, a line for each line. Names get their values first, then
+// lines are written.
+
+import { hex } from "../bench/numbers.js";
+import { LONGEST_NAME } from "../text/assembly.js";
+import { evaluate, isAscii } from "./expressions.js";
+import {
+  BYTE_WORDS, FOREIGN, LONGEST_SOURCE_LINE, OF_4040, OPERANDS, PROGRAM_RAM, REMARKS, ROOM_WORDS, capitals, lettersOf, partsOfList,
+  readSource, trimmed,
+} from "./source_lines.js";
+import * as say from "../../words/import.js";
+
+/**
+ * @typedef {import("./source_lines.js").SourceLine} SourceLine
+ * @typedef {import("./source_lines.js").OperandKind} OperandKind
+ *
+ * A line that cannot be taken, from 1, and why.
+ * @typedef {{ line: number, words: string }} ImportFault
+ *
+ * How the value of an operand is written: its range, the modulus of negative numbers (0 for none), and whether it is always a number.
+ * @typedef {{ from?: number, to: number, modulus?: number, isNumber?: boolean }} Figure
+ */
+
+const MOST_TURNS = 20;
+const LAST_ADDRESS = 4095;
+const NIBBLE = 16;
+const BYTE = 256;
+/** Where statements and comments begin. */
+const COLUMNS = { statement: 8, comment: 24 };
+/** Names that the bench takes for something else. */
+const RESERVED = /^(ORG|DB|WPM|R[0-9]|R1[0-5]|P[0-7])$/;
+const NAME = /^[A-Za-z_.?@][A-Za-z0-9_.?@$]*$/;
+/** Numbers whose value is written without a note of how they were spelled. */
+const PLAIN_NUMBER = /^([0-9]+|[0-9][0-9A-Fa-f]*[hH]|(0[xX]|[$%])[0-9A-Fa-f]+)$/;
+/** @type {Map<string, number>} */
+const CONDITIONS = new Map(Object.entries({ TZ: 1, T0: 1, TN: 9, T1: 9, CN: 2, C1: 2, CZ: 10, C0: 10, AZ: 4, AN: 12 }));
+const INVERTED = 8;
+/** @type {Record<string, number>} the bits of a condition by its letters */
+const LETTERS = { Z: 4, C: 2, T: 1 };
+
+/** Why a line cannot be taken; the rest of it is not looked at. */
+class LineFault extends Error {}
+
+/**
+ * Returns a text that is filled up to a column, with a blank behind it at least.
+ * @param {string} text
+ * @param {number} column
+ */
+function upToColumn(text, column) {
+  return text.length < column ? text.padEnd(column) : `${text} `;
+}
+
+class ProgramImport {
+  /** @param {string[]} texts the lines of the source */
+  constructor(texts) {
+    this.lines = readSource(texts);
+    /** @type {ImportFault[]} */
+    this.faults = [];
+    /** @type {Map<string, number>} the line that defines each name, by capitals */
+    this.definedAt = new Map();
+    /** @type {Map<string, number>} */
+    this.values = new Map();
+    /** @type {Map<string, string>} how each name is written here */
+    this.names = new Map();
+    this.isForAs = this.lines.some(({ word }) => word === "CPU");
+    /** The address of the line that is written, and how its expressions were spelled. */
+    this.address = 0;
+    /** @type {string[]} */
+    this.spelled = [];
+    /** @type {import("./expressions.js").NameValues} */
+    this.meaning = { isDefined: (name) => this.definedAt.has(name), valueOf: (name) => this.values.get(name) };
+  }
+
+  /** Returns the lines as the bench takes them; none if a line has a fault. */
+  run() {
+    this.lines.forEach((line, at) => this.define(line, at + 1));
+    if (this.faults.length > 0) return [];
+    this.chooseNames();
+    let turns = MOST_TURNS;
+    // Names may be defined by names further down: until nothing changes.
+    while (turns > 0 && this.locate()) turns -= 1;
+    return this.lines.map((line, at) => this.tried(at + 1, () => this.written(line), ""));
+  }
+
+  /**
+   * Returns what an act returns; the fault of a line is noted.
+   * @template Result
+   * @param {number} line
+   * @param {() => Result} act
+   * @param {Result} instead
+   */
+  tried(line, act, instead) {
+    try {
+      return act();
+    } catch (thrown) {
+      if (!(thrown instanceof LineFault)) throw thrown;
+      this.faults.push({ line, words: thrown.message });
+      return instead;
+    }
+  }
+
+  // --- names ---
+
+  /**
+   * @param {SourceLine} line
+   * @param {number} number
+   */
+  define({ label, isLong }, number) {
+    this.tried(number, () => {
+      if (isLong) throw new LineFault(say.longLine(LONGEST_SOURCE_LINE));
+      if (label === "") return;
+      const name = capitals(label);
+      const before = this.definedAt.get(name);
+      if (before !== undefined) throw new LineFault(say.definedTwice(label, before));
+      this.definedAt.set(name, number);
+    }, undefined);
+  }
+
+  /** Gives each name the spelling of the line that defines it, as far as the bench takes that. */
+  chooseNames() {
+    const taken = new Set();
+    /** @type {Map<string, number>} the next number behind a name that is taken */
+    const next = new Map();
+    for (const [name, line] of this.definedAt) {
+      const plain = this.lines[line - 1].label.replace(/[^A-Za-z0-9_]/g, "_").replace(/^(?=[0-9])/, "_");
+      const isReserved = OPERANDS.has(capitals(plain)) || RESERVED.test(capitals(plain));
+      const base = (isReserved ? `${plain}_` : plain).slice(0, LONGEST_NAME);
+      let here = base;
+      for (let number = next.get(base) || 2; taken.has(here); number++) {
+        here = `${base.slice(0, LONGEST_NAME - `_${number}`.length)}_${number}`;
+        next.set(base, number + 1);
+      }
+      taken.add(here);
+      this.names.set(name, here);
+    }
+  }
+
+  // --- values ---
+
+  /**
+   * @param {string} text
+   * @param {number} here
+   */
+  valueOf(text, here) {
+    return evaluate(text, here, this.meaning);
+  }
+
+  /** Gives each name its value; returns whether any has changed. */
+  locate() {
+    let [at, hasChanged] = [0, false];
+    for (const line of this.lines) {
+      const { value, isKnown } = line.word === "EQU" ? this.valueOf(line.operand, at) : { value: at, isKnown: true };
+      const name = capitals(line.label);
+      if (name !== "" && isKnown && this.values.get(name) !== value) {
+        this.values.set(name, value);
+        hasChanged = true;
+      }
+      at = this.addressAfter(line, at);
+    }
+    return hasChanged;
+  }
+
+  /**
+   * Returns the address after a line.
+   * @param {SourceLine} line
+   * @param {number} at
+   */
+  addressAfter({ word, operand }, at) {
+    if (word === "ORG" || word === "ALIGN" || ROOM_WORDS.has(word)) {
+      const { value, isKnown } = this.valueOf(operand, at);
+      if (!isKnown) return at;
+      if (word === "ORG") return value;
+      if (word !== "ALIGN") return at + value;
+      return value > 0 ? Math.trunc((at + value - 1) / value) * value : at;
+    }
+    if (BYTE_WORDS.has(word)) return partsOfList(operand).reduce((sum, part) => sum + (lettersOf(part) || " ").length, at);
+    const kinds = OPERANDS.get(word);
+    return kinds ? at + (kinds.length > 1 || kinds.includes("target") ? 2 : 1) : at;
+  }
+
+  // --- lines ---
+
+  /** @param {SourceLine} line */
+  written(line) {
+    const { text, label, word, comment } = line;
+    this.spelled = [];
+    let written = "";
+    try {
+      written = this.statementLine(line);
+    } finally {
+      this.address = this.addressAfter(line, this.address);
+    }
+    const spelled = this.spelled.join(", ");
+    const note = spelled === "" ? comment : ` ${spelled}${comment && ` ;${comment}`}`;
+    if (note === "") return word === "" && label === "" && /^[ \t]*[;*/]/.test(text) ? ";" : written;
+    return `${written === "" ? "" : upToColumn(written, COLUMNS.comment)};${note}`;
+  }
+
+  /** @param {SourceLine} line */
+  statementLine({ label, word, operand }) {
+    const name = this.names.get(capitals(label)) || "";
+    if (word === "EQU") return `${name} = ${this.figure(operand, { to: LAST_ADDRESS, isNumber: true })}`;
+    const statement = this.statement(word, operand);
+    const mark = name === "" ? "" : `${name}:`;
+    return statement === "" ? mark : upToColumn(mark, COLUMNS.statement) + statement;
+  }
+
+  /**
+   * @param {string} word
+   * @param {string} operand
+   */
+  statement(word, operand) {
+    if (word === "" || word === "END" || REMARKS.has(word)) {
+      if (word !== "") this.spelled = [trimmed(`${word} ${operand}`)];
+      return "";
+    }
+    if (OF_4040.has(word)) throw new LineFault(say.of4040(word));
+    if (word === PROGRAM_RAM) throw new LineFault(say.NO_PROGRAM_RAM);
+    if (FOREIGN.has(word)) throw new LineFault(say.notTaken(word));
+    if (word === "ORG") return `ORG ${this.figure(operand, { to: LAST_ADDRESS, isNumber: true })}`;
+    if (word === "ALIGN" || ROOM_WORDS.has(word)) return this.room(word, operand);
+    if (BYTE_WORDS.has(word)) return `DB ${this.bytes(operand)}`;
+    const kinds = OPERANDS.get(word);
+    if (!kinds) throw new LineFault(say.noInstruction(word));
+    return this.instruction(word, operand, kinds);
+  }
+
+  /**
+   * Returns the ORG of a statement that leaves room.
+   * @param {string} word
+   * @param {string} operand
+   */
+  room(word, operand) {
+    this.figure(operand, { to: LAST_ADDRESS + 1, isNumber: true });
+    this.spelled = [`${word} ${operand}`];
+    const next = this.addressAfter({ text: "", label: "", word, operand, comment: "", isLong: false }, this.address);
+    if (next > LAST_ADDRESS) throw new LineFault(say.PAST_LAST);
+    return `ORG 0x${hex(next, 3)}`;
+  }
+
+  /** @param {string} list */
+  bytes(list) {
+    const parts = partsOfList(list);
+    if (parts.length === 0) throw new LineFault(say.NO_VALUES);
+    return parts.flatMap((part) => {
+      const letters = lettersOf(part);
+      if (letters === null) return [this.figure(part, { to: BYTE - 1, modulus: BYTE })];
+      if (!isAscii(letters)) throw new LineFault(say.noCharacter(part));
+      return [...letters].map((letter) => `0x${hex(letter.charCodeAt(0), 2)}`);
+    }).join(", ");
+  }
+
+  /**
+   * @param {string} word
+   * @param {string} operand
+   * @param {OperandKind[]} kinds
+   */
+  instruction(word, operand, kinds) {
+    let parts = partsOfList(operand);
+    // Without a comma, operands have blanks between them.
+    const apart = kinds.length > 1 && parts.length === 1 ? /^([^ \t]+)[ \t]+(.+)$/.exec(operand) : null;
+    if (apart) parts = [apart[1], apart[2]];
+    if (word === "BBL" && parts.length === 0) parts = ["0"];
+    if (parts.length !== kinds.length) throw new LineFault(say.operandCount(word, kinds.length));
+    return [word, kinds.map((kind, at) => this.operand(kind, parts[at])).join(", ")].filter(Boolean).join(" ");
+  }
+
+  /**
+   * @param {OperandKind} kind
+   * @param {string} text
+   */
+  operand(kind, text) {
+    switch (kind) {
+      case "register": return this.register(text);
+      case "pair": return this.pair(text);
+      case "condition": return this.condition(text);
+      case "digit": return this.figure(text, { to: NIBBLE - 1, modulus: NIBBLE });
+      case "byte": return this.figure(text, { to: BYTE - 1, modulus: BYTE });
+      default: return this.figure(text, { to: LAST_ADDRESS });
+    }
+  }
+
+  /**
+   * Returns the value of an operand as the bench takes it: a name stays, and an expression becomes its number, and is noted.
+   * @param {string} text
+   * @param {Figure} figure
+   */
+  figure(text, { from = 0, to, modulus = 0, isNumber = false }) {
+    const { value, isKnown, fault } = this.valueOf(text, this.address);
+    if (fault) throw new LineFault(fault);
+    if (!isKnown) throw new LineFault(say.hangsUponItself(text));
+    // A byte may be a negative number, too.
+    const number = modulus > 0 && value < 0 && value >= -modulus / 2 ? value + modulus : value;
+    if (!(number >= from && number <= to)) throw new LineFault(say.outOfRange(text, number, from, to));
+    if (NAME.test(text) && !isNumber) return this.names.get(capitals(text)) || "";
+    if (!PLAIN_NUMBER.test(text)) this.spelled.push(text);
+    if (/^[0-9]+$/.test(text) || to < NIBBLE || (isNumber && number < 10)) return String(number);
+    return `0x${hex(number, number > BYTE - 1 || (to > BYTE - 1 && !isNumber) ? 3 : 2)}`;
+  }
+
+  /** @param {string} text */
+  register(text) {
+    const word = capitals(text);
+    if (/^R([0-9]|1[0-5])$/.test(word) && !this.definedAt.has(word)) return word;
+    // A name may stand for a register, as `COUNT EQU R5`.
+    return `R${this.figure(text, { to: NIBBLE - 1, isNumber: true })}`;
+  }
+
+  /** @param {string} text */
+  pair(text) {
+    const word = capitals(text);
+    const [, number] = /^([0-7])P$/.exec(word) || /^R?P([0-7])$/.exec(word) || [];
+    if (number !== undefined) return `P${number}`;
+    const [, first = "", mark = ""] = /^R([0-9]+)(?:R[0-9]+|P)$/.exec(word) || /^([0-9]+)(<)$/.exec(word) || [];
+    const register = Number(first);
+    if (first !== "" && register % 2 === 0 && register < NIBBLE) return `P${register / 2}`;
+    if (mark === "<") throw new LineFault(say.oddPair(text, register));
+    const { value, isKnown, fault } = this.valueOf(text, this.address);
+    if (fault === "" && isKnown && value === 0) return "P0";
+    throw new LineFault(say.noPair(text));
+  }
+
+  /** @param {string} text */
+  condition(text) {
+    const word = capitals(text);
+    if (this.definedAt.has(word)) return this.figure(text, { to: NIBBLE - 1 });
+    const known = CONDITIONS.get(word);
+    if (known !== undefined) return String(known);
+    if (word === "NC" && !this.isForAs) throw new LineFault(say.NC_OF_WHOM);
+    if (!/^N?[ZCT]+$/.test(word)) return this.figure(text, { to: NIBBLE - 1 });
+    const letters = new Set(word.replace(/^N/, ""));
+    return String([...letters].reduce((sum, letter) => sum + LETTERS[letter], word.startsWith("N") ? INVERTED : 0));
+  }
+}
+
+/**
+ * Brings a program into the bench's spelling.
+ * @param {string} source
+ * @returns {{ text: string, faults: ImportFault[] }} the text, if no line has a fault
+ */
+export function importProgram(source) {
+  const texts = source.split("\n").map((line) => line.replace(/\r$/, ""));
+  if (texts[texts.length - 1] === "") texts.pop();
+  const program = new ProgramImport(texts);
+  const lines = program.run();
+  return { text: program.faults.length > 0 ? "" : lines.map((line) => `${line}\n`).join(""), faults: program.faults };
+}

@@ -1,0 +1,168 @@
+// A line of a program in Intel's spelling or in that of AS, cut into its parts. (What the bench takes is read by text/assembly.js.)
+
+/**
+ * A line: its label, its word in capitals, what is behind that, and its comment. A definition has the word EQU.
+ * @typedef {{ text: string, label: string, word: string, operand: string, comment: string, isLong: boolean }} SourceLine
+ *
+ * @typedef {"register" | "pair" | "digit" | "byte" | "target" | "condition"} OperandKind
+ */
+
+/** Longer lines are none of an assembler. */
+export const LONGEST_SOURCE_LINE = 1024;
+
+/** @type {[string[], OperandKind[]][]} */
+const FORMS = [
+  [["NOP", "CLB", "CLC", "IAC", "CMC", "CMA", "RAL", "RAR", "TCC", "DAC", "TCS", "STC", "DAA", "KBP", "DCL", "WRM", "WMP", "WRR",
+    "WR0", "WR1", "WR2", "WR3", "SBM", "RDM", "RDR", "ADM", "RD0", "RD1", "RD2", "RD3"], []],
+  [["INC", "ADD", "SUB", "LD", "XCH"], ["register"]],
+  [["SRC", "FIN", "JIN"], ["pair"]],
+  [["LDM", "BBL"], ["digit"]],
+  [["FIM"], ["pair", "byte"]],
+  [["JUN", "JMS"], ["target"]],
+  [["ISZ"], ["register", "target"]],
+  [["JCN"], ["condition", "target"]],
+];
+/** The operands of each instruction. */
+export const OPERANDS = new Map(FORMS.flatMap(([names, kinds]) => names.map((name) => /** @type {const} */ ([name, kinds]))));
+export const OF_4040 = new Set(["HLT", "BBS", "LCR", "OR4", "OR5", "AN6", "AN7", "DB0", "DB1", "SB0", "SB1", "EIN", "DIN", "RPM"]);
+/** What becomes a comment. */
+export const REMARKS = new Set(["CPU", "TITLE", "PAGE", "LISTING", "NEWPAGE", "PRTINIT", "PRTEXIT", "SUBTITLE", "EJECT", "NOLIST", "LIST",
+  "NAME", "SPACE", "RELAXED", "RADIX", "INTSYNTAX"]);
+export const BYTE_WORDS = new Set(["DB", "DATA", "BYTE", "DEFB", "FCB", "DC"]);
+export const ROOM_WORDS = new Set(["DS", "RES", "DEFS", "RMB"]);
+const DIRECTIVES = new Set([...BYTE_WORDS, ...ROOM_WORDS, "EQU", "=", "SET", "ORG", "ALIGN", "END"]);
+/** What is not taken. */
+export const FOREIGN = new Set(["MACRO", "ENDM", "IF", "ELSE", "ENDIF", "IFDEF", "IFNDEF", "INCLUDE", "BINCLUDE", "REPT", "IRP", "WHILE",
+  "STRUCT", "SECTION", "DW"]);
+export const PROGRAM_RAM = "WPM";
+const KNOWN = [OPERANDS, OF_4040, REMARKS, DIRECTIVES, FOREIGN, new Set([PROGRAM_RAM])];
+
+const NAME = "[A-Za-z_.?@][A-Za-z0-9_.?@$]*";
+const MARKED_LABEL = new RegExp(`^[ \\t]*(${NAME})[ \\t]*[:,]`);
+const FIRST_NAME = new RegExp(`^${NAME}`);
+const DEFINITION = /^(=|EQU|SET|:=)(?=[ \t]|$|[^A-Za-z0-9_=])/i;
+const NAMED_DEFINITION = new RegExp(`^(${NAME})[ \\t]*(?:=|[ \\t]EQU[ \\t]|[ \\t]SET[ \\t])`, "i");
+
+/**
+ * Returns a text in capitals, as far as its letters are of ASCII.
+ * @param {string} text
+ */
+export function capitals(text) {
+  return text.replace(/[a-z]+/g, (letters) => letters.toUpperCase());
+}
+
+/**
+ * Returns a text without blanks at its ends.
+ * @param {string} text
+ */
+export function trimmed(text) {
+  return text.replace(/^[ \t]+/, "").replace(/[ \t]+$/, "");
+}
+
+/**
+ * Returns where the comment of a line begins: its mark is behind a blank if it is `/`; -1 for none.
+ * @param {string} line
+ */
+function commentAt(line) {
+  let quote = "";
+  for (let at = 0; at < line.length; at++) {
+    const letter = line[at];
+    if (quote !== "") {
+      if (letter === quote) quote = "";
+    } else if (letter === '"' || letter === "'") quote = letter;
+    else if (letter === ";" || (letter === "/" && (at === 0 || /[ \t]/.test(line[at - 1])))) return at;
+  }
+  return -1;
+}
+
+/**
+ * Cuts a line into what is before its comment, and the comment.
+ * @param {string} text
+ */
+function withoutComment(text) {
+  if (/^[*/]/.test(text)) return { rest: "", comment: text.slice(1) };
+  const begin = text.slice(0, LONGEST_SOURCE_LINE + 1);
+  const at = commentAt(begin);
+  const rest = at < 0 ? begin : begin.slice(0, at);
+  const isWhole = at >= 0 || begin.length <= LONGEST_SOURCE_LINE;
+  return { rest: isWhole ? rest.replace(/[ \t]+$/, "") : rest, comment: at < 0 ? "" : text.slice(at + 1) };
+}
+
+/**
+ * Cuts a line into its label and what is behind that. A name at the first column is a label if it is no instruction.
+ * @param {string} line
+ */
+function withoutLabel(line) {
+  const marked = MARKED_LABEL.exec(line);
+  if (marked) return { label: marked[1], rest: trimmed(line.slice(marked[0].length)) };
+  const [first = ""] = FIRST_NAME.exec(line) || [];
+  const rest = trimmed(line.slice(first.length));
+  const isLabel = first !== "" && !KNOWN.some((names) => names.has(capitals(first))) && !rest.startsWith("=");
+  return isLabel ? { label: first, rest } : { label: "", rest: trimmed(line) };
+}
+
+/**
+ * Reads what a line says behind its label; a definition is `X = 5` or `X EQU 5`, with or without a colon.
+ * @param {string} label
+ * @param {string} rest
+ */
+function statementIn(label, rest) {
+  if (rest === "") return { label, word: "", operand: "" };
+  if (label !== "" && DEFINITION.test(rest)) {
+    return { label, word: "EQU", operand: rest.replace(/^(=|:=|[A-Za-z]+)[ \t]*/, "") };
+  }
+  const named = label === "" ? NAMED_DEFINITION.exec(rest) : null;
+  if (named) return { label: named[1], word: "EQU", operand: trimmed(rest.slice(named[0].length)) };
+  const [word] = /^[^ \t]+/.exec(rest) || [""];
+  return { label, word: capitals(word), operand: trimmed(rest.slice(word.length)) };
+}
+
+/**
+ * Reads the lines of a source. What is behind END is a comment.
+ * @param {string[]} texts
+ * @returns {SourceLine[]}
+ */
+export function readSource(texts) {
+  let isEnded = false;
+  return texts.map((text) => {
+    const none = { text, label: "", word: "", operand: "", isLong: false };
+    if (isEnded) return { ...none, comment: text };
+    const { rest, comment } = withoutComment(text);
+    if (rest.length > LONGEST_SOURCE_LINE) return { ...none, comment, isLong: true };
+    const { label, rest: behind } = withoutLabel(rest);
+    const statement = statementIn(label, behind);
+    isEnded = statement.word === "END";
+    return { text, comment, isLong: false, ...statement };
+  });
+}
+
+/**
+ * Returns the parts of a list between commas that are in no brackets and no quotes.
+ * @param {string} list
+ */
+export function partsOfList(list) {
+  if (list === "") return [];
+  const parts = [""];
+  let [depth, quote] = [0, ""];
+  for (const letter of list) {
+    if (quote !== "") {
+      if (letter === quote) quote = "";
+    } else if (letter === '"' || letter === "'") quote = letter;
+    else if (letter === "(") depth += 1;
+    else if (letter === ")") depth -= 1;
+    else if (letter === "," && depth === 0) {
+      parts.push("");
+      continue;
+    }
+    parts[parts.length - 1] += letter;
+  }
+  return parts.map(trimmed);
+}
+
+/**
+ * Returns the letters of a part that is a text of several letters in quotes; null for any other part.
+ * @param {string} part
+ */
+export function lettersOf(part) {
+  return part.length > 3 && /^("[^"]*"|'[^']*')$/.test(part) ? part.slice(1, -1) : null;
+}

@@ -1,0 +1,78 @@
+// A program as assemblers print it: each line of its source with its address and its bytes, and below them its names with their values.
+
+import { hex, upTo } from "../bench/numbers.js";
+
+/** @typedef {import("./source_map.js").SourceMap} SourceMap */
+
+/** The columns before the source. */
+const WIDTH = 17;
+const BYTES_IN_ROW = 4;
+const TAB = " ".repeat(8);
+const LABEL_ALONE = /^[A-Za-z_]\w*:$/;
+const NAMED_NUMBER = /^([A-Za-z_]\w*)=/;
+
+/** @type {(left: string, source: string) => string} */
+const rowOf = (left, source) => `${left.padEnd(WIDTH)}${source}`.replace(/ +$/, "");
+
+/**
+ * Returns the rows of a line with bytes; the first one has its source.
+ * @param {number} address
+ * @param {number[]} bytes
+ * @param {string} source
+ */
+function rowsOfBytes(address, bytes, source) {
+  return upTo(Math.ceil(bytes.length / BYTES_IN_ROW)).map((row) => {
+    const own = bytes.slice(BYTES_IN_ROW * row, BYTES_IN_ROW * (row + 1)).map((byte) => ` ${hex(byte, 2)}`);
+    return rowOf(`${hex(address + BYTES_IN_ROW * row, 3)}${own.join("")}`, row === 0 ? source : "");
+  });
+}
+
+/**
+ * Returns what stands before a line without bytes: the value of the name that it defines, or the address of a label that stands alone.
+ * @param {string} line
+ * @param {number} address
+ * @param {SourceMap} map
+ */
+function meaningOf(line, address, map) {
+  const code = line.replace(/;.*/, "").replace(/[ \t]/g, "");
+  if (LABEL_ALONE.test(code)) return hex(address, 3);
+  const [, name = ""] = NAMED_NUMBER.exec(code) || [];
+  return name === "" ? "" : `  = ${hex(map.valueOf(name) || 0, 3)}`;
+}
+
+/**
+ * Returns the rows of the lines of a program.
+ * @param {string} text its source
+ * @param {SourceMap} map
+ * @param {Int16Array} bytes the byte at each address
+ */
+function rowsOf(text, map, bytes) {
+  return text.replace(/\n$/, "").split("\n").flatMap((line, at) => {
+    const source = line.replace(/\t/g, TAB);
+    const address = map.addressOf(at + 1);
+    if (address === undefined) return [rowOf(meaningOf(line, map.addresses[at + 1], map), source)];
+    return rowsOfBytes(address, [...bytes.subarray(address, address + map.sizes[at + 1])], source);
+  });
+}
+
+/**
+ * Returns the names of a program by the alphabet, or those of its labels alone, each with its value.
+ * @param {SourceMap} map
+ * @param {boolean} labelsAlone
+ */
+export function namesOfProgram(map, labelsAlone) {
+  return [...map.names.values()].filter(({ isLabel }) => isLabel || !labelsAlone)
+    .map(({ name, value }) => ({ name, value: hex(value, 3) }))
+    .sort((one, other) => (one.name < other.name ? -1 : 1));
+}
+
+/**
+ * Returns the lines of a listing.
+ * @param {string} text the source
+ * @param {SourceMap} map
+ * @param {Int16Array} bytes the byte at each address
+ */
+export function programListing(text, map, bytes) {
+  const names = namesOfProgram(map, false).map(({ name, value }) => rowOf(name, value));
+  return [...rowsOf(text, map, bytes), ...(names.length > 0 ? ["", ...names] : [])];
+}

@@ -1,0 +1,21 @@
+// Addresses as places in a program's source: `014 (wait), line 22: wait: FIM P1, time`.
+
+import { hex } from "../bench/numbers.js";
+import { inSource, notInSource } from "../../words/machine.js";
+
+/** @typedef {import("./source_map.js").SourceMap} SourceMap */
+
+/**
+ * Returns an address with its name and the line of the source that fills it.
+ * @param {SourceMap} map
+ * @param {{ lines: string[], before: number }} source its lines, and how many lines of its file come before them
+ * @param {number} address
+ */
+export function placeInSource(map, { lines, before }, address) {
+  const line = map.lineOf(address);
+  const digits = hex(address, 3);
+  if (line === 0) return notInSource(digits);
+  const name = map.nameOf(address);
+  const code = lines[line - 1].replace(/;.*/, "").replace(/[ \t]+/g, " ").trim();
+  return inSource(name === "" ? digits : `${digits} (${name})`, line + before, code);
+}

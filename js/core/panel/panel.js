@@ -1,0 +1,258 @@
+// The panel of a session in a terminal: time, which runs as fast as in the real chip or is paused; keys that are typed; and what is seen.
+// It does all by lines that it asks a session, and knows no terminal: js/core/panel/screen.js makes rows of characters of what is seen.
+
+import { refusalOf, readRun } from "../bench/answers.js";
+import { linesOf } from "../bench/inputs.js";
+import { hex } from "../bench/numbers.js";
+import { keyOfKeyboard, keysOf } from "../board/board_keys.js";
+import { printerOf } from "../board/face_board.js";
+import { cyclesOfLine } from "../debug/ahead.js";
+import { askedLines, partedAnswers } from "../engine/asking.js";
+import { KeyQueue, LONGEST_RUN, lineOfChange } from "../engine/key_queue.js";
+import { Printing } from "../engine/printing.js";
+import { RealTime } from "../time/real_time.js";
+import { REASONS } from "../../words/stops.js";
+import { PanelLook } from "./panel_look.js";
+import * as say from "../../words/panel.js";
+
+/**
+ * @typedef {import("../bench/answers.js").Board} Board
+ * @typedef {import("../board/face.js").Face} Face
+ * @typedef {import("../engine/key_queue.js").Change} Change
+ * @typedef {import("../engine/key_queue.js").PlannedLine} PlannedLine
+ * @typedef {import("../machine/source_map.js").SourceMap} SourceMap
+ * @typedef {import("./terminal_keys.js").TypedKey} TypedKey
+ *
+ * A session that answers lines; it throws if it has ended.
+ * @typedef {(lines: string) => Promise<string[]>} Ask
+ *
+ * The program in ROM by its text: the lines of the text, and how many lines of its file come before them.
+ * @typedef {{ map: SourceMap, lines: string[], before: number }} PanelSource
+ *
+ * What the panel is of: the name of the session, its board with the face, its program if that is known; what a refusal means; whether time
+ * is paused at first, and what the message is then.
+ * @typedef {{ name: string, board: Board, face: Face, source: PanelSource | null, wordsOfRefusal: (number: number) => string,
+ *   isPaused: boolean, note: string }} PanelOf
+ */
+
+/** This many changes of keys wait at most. */
+const MOST_CHANGES = 128;
+/** An instruction takes two cycles at most. */
+const STEP_CYCLES = 2;
+
+export class Panel {
+  /**
+   * @param {Ask} ask
+   * @param {PanelOf} of
+   * @param {number} now in milliseconds
+   */
+  constructor(ask, of, now) {
+    this.ask = ask;
+    this.of = of;
+    const { board, face } = of;
+    this.keys = keysOf(board, { keys: face.keys, test: null });
+    this.queue = new KeyQueue();
+    /** @type {Set<string>} the keys that went down here, and are down */
+    this.own = new Set();
+    this.time = new RealTime(now, now);
+    this.isPaused = of.isPaused;
+    /** Why time is paused, in words; "" if somebody wanted it. */
+    this.why = "";
+    this.message = of.note;
+    /** The first RAM chip that is shown. */
+    this.firstChip = 0;
+    this.isEnded = false;
+    const printer = printerOf(board, face);
+    this.printing = printer && new Printing({ ...printer, codes: [] });
+    /** How many cycles were run here. */
+    this.cycles = 0;
+    this.seen = new PanelLook(this);
+  }
+
+  /** Begins: a session that is at a breakpoint is paused. */
+  async begin() {
+    await this.seen.take(0);
+    if (this.seen.isAtBreakpoint) this.pause(REASONS.break);
+  }
+
+  // --- lines ---
+
+  /**
+   * Does a command; reports a refusal. Returns the answer.
+   * @param {string} line
+   */
+  async act(line) {
+    const [answer] = await this.ask(linesOf([line]));
+    this.reportRefusal(line, answer);
+    return answer;
+  }
+
+  /**
+   * @param {string} line
+   * @param {string} answer
+   */
+  reportRefusal(line, answer) {
+    const refusal = refusalOf(answer);
+    if (refusal) this.message = say.refused(line, answer, this.of.wordsOfRefusal(refusal.number));
+  }
+
+  // --- time ---
+
+  /** @param {string} why */
+  pause(why) {
+    this.isPaused = true;
+    this.why = why;
+  }
+
+  /** @param {number} now */
+  goOn(now) {
+    this.isPaused = false;
+    this.why = "";
+    this.time.goOn(now, now);
+  }
+
+  /**
+   * Runs the cycles that are due.
+   * @param {number} now
+   */
+  async keepTime(now) {
+    if (!this.isPaused) await this.advance(this.time.due(now));
+  }
+
+  /**
+   * Runs some cycles, with the keys that wait, up to a stop.
+   * @param {number} cycles
+   */
+  async advance(cycles) {
+    for (let left = cycles; left > 0 && !this.isPaused;) left -= await this.goOnFor(left);
+  }
+
+  /**
+   * Does the next thing that is due in some cycles: a change of a key, or a run; returns how many cycles were done.
+   * @param {number} cycles
+   */
+  async goOnFor(cycles) {
+    const [planned] = this.queue.plan(cycles);
+    let done = 0;
+    if (planned.change) await this.change(planned.change);
+    else done = await this.run(planned);
+    this.queue.done([planned], () => done);
+    return done;
+  }
+
+  /**
+   * A key goes down or up.
+   * @param {Change} change
+   */
+  async change(change) {
+    await this.act(lineOfChange(change));
+    if (change.word === "press") this.own.add(change.key);
+    else this.own.delete(change.key);
+  }
+
+  /**
+   * Runs; returns how many cycles were done.
+   * @param {PlannedLine} planned
+   */
+  async run(planned) {
+    const askers = this.printing ? [this.printing] : [];
+    const { answers: [answer], told } = partedAnswers([planned], askers, await this.ask(askedLines([planned], askers)));
+    if (this.printing) this.printing.take(told[0], this.cycles);
+    const run = readRun(answer);
+    this.cycles += run ? run.cycles : 0;
+    this.reportRefusal(planned.line, answer);
+    if (!run || run.end !== "end") this.pause(run ? REASONS[run.end] : "");
+    return run ? run.cycles : cyclesOfLine(planned);
+  }
+
+  /** Runs one instruction. */
+  async step() {
+    this.isPaused = true;
+    this.why = "";
+    if (this.printing) this.printing.take([await this.ask(this.printing.questions(STEP_CYCLES))], this.cycles);
+    const run = readRun(await this.act("step"));
+    this.cycles += run ? run.cycles : 0;
+    if (run && run.end !== "end") this.why = REASONS[run.end];
+  }
+
+  /** The codes that were sent to the printer up to now. */
+  get printed() {
+    if (!this.printing) return [];
+    return this.printing.codes.slice(0, this.printing.countAt(this.cycles)).map(([, code]) => code);
+  }
+
+  // --- keys ---
+
+  /**
+   * Does what a typed key means.
+   * @param {TypedKey} key
+   * @param {number} now
+   */
+  async type({ kind, text }, now) {
+    this.message = "";
+    const act = kind === "character" ? ACTS[text] : undefined;
+    if (act) await act(this, now);
+    else if (kind === "arrow") this.moveRam(text === "right" ? 1 : -1);
+    else if (kind === "character") await this.typeKey(text);
+    else if (kind === "sequence") this.message = say.NOTHING_HERE;
+  }
+
+  /** @param {number} by so many chips */
+  moveRam(by) {
+    const last = this.seen.chips.length - 1;
+    this.firstChip = Math.max(0, Math.min(last, this.firstChip + by));
+  }
+
+  /**
+   * A key of the board: while time runs it goes down and up when its turn comes; else it goes down or up at once.
+   * @param {string} typed
+   */
+  async typeKey(typed) {
+    const found = keyOfKeyboard(this.keys, typed);
+    if (!found) this.message = /\p{C}/u.test(typed) ? say.NOTHING_HERE : say.noKey(typed);
+    else if (this.isPaused) await this.toggle(found.key);
+    else if (this.queue.changes.length < MOST_CHANGES) {
+      this.queue.press(found.key);
+      this.queue.release(found.key);
+    }
+  }
+
+  /** @param {string} key */
+  async toggle(key) {
+    this.queue.forget(key);
+    await this.change({ key, word: this.seen.isDown(key) ? "release" : "press" });
+  }
+
+  /** Sets the breakpoint at the counter, or clears it. */
+  async toggleBreakpoint() {
+    const { counter } = this.seen;
+    await this.act(`${this.seen.isAtBreakpoint ? "unbreak" : "break"} 0x${hex(counter, 3)}`);
+  }
+
+  /** Ends: what was typed has its time, and keys that went down here go up. */
+  async end() {
+    while (!this.isPaused && this.queue.changes.length > 0) await this.goOnFor(LONGEST_RUN);
+    for (const key of this.own) await this.act(lineOfChange({ key, word: "release" }));
+    this.isEnded = true;
+  }
+}
+
+/** @type {(panel: Panel) => Promise<void>} */
+const step = (panel) => panel.step();
+/** @type {(panel: Panel) => Promise<void>} */
+const end = (panel) => panel.end();
+
+/**
+ * What keys do that are none of the board's.
+ * @type {Record<string, (panel: Panel, now: number) => Promise<unknown> | void>}
+ */
+const ACTS = {
+  " ": (panel, now) => (panel.isPaused ? panel.goOn(now) : panel.pause("")),
+  "\r": step,
+  "\n": step,
+  "\t": (panel) => panel.toggleBreakpoint(),
+  "\u0014": (panel) => panel.act(`test ${panel.seen.test === "0" ? 1 : 0}`),
+  "\u0012": (panel) => panel.act("reset"),
+  "\u0003": end,
+  "\u0004": end,
+};

@@ -1,0 +1,250 @@
+// The rows of the panel's screen: the session and time, the number on the display, registers, the source at the counter; below them side by
+// side RAM, the front of the board and the listing; last a message and the keys. A row is text in pieces, of which those of lamps have the
+// colour and the level of brightness of their lamp; js/node/panel_terminal.mjs puts them in their places.
+
+import { hex, upTo } from "../bench/numbers.js";
+import { linesOf } from "../board/strip.js";
+import { escaped } from "../text/escaped.js";
+import { withoutTabs } from "../text/tabs.js";
+import { LARGE_ROWS, largeRows } from "./large_digits.js";
+import { lampRowsOf, textOfCell } from "./lamp_rows.js";
+import { CHIP_ROWS } from "./panel_look.js";
+import { notInSource } from "../../words/machine.js";
+import * as say from "../../words/panel.js";
+
+/**
+ * @typedef {import("../board/board_keys.js").BoardKey} BoardKey
+ * @typedef {import("./panel.js").Panel} Panel
+ *
+ * @typedef {{ rows: number, columns: number }} ScreenSize
+ * @typedef {{ text: string, colour: string, level: number }} Piece `colour` is "" for text of no lamp
+ * @typedef {{ pieces: Piece[], isInverse: boolean }} ScreenRow
+ */
+
+/** The least size of a terminal. */
+export const LEAST_SIZE = { rows: 24, columns: 80 };
+const TOP_ROWS = 10;
+const OTHER_ROWS = TOP_ROWS + 2;
+const RAM_WIDTH = 28;
+const FRONT_WIDTH = 24;
+const LEAST_CELL = 3;
+const LEAST_PAPER = 2;
+const MOST_LARGE = 18;
+const LARGE_WIDTH = 58;
+
+/** @type {(text: string) => Piece} */
+const plain = (text) => ({ text, colour: "", level: 0 });
+
+/**
+ * Cuts pieces to a width, and fills them up to it.
+ * @param {Piece[]} pieces
+ * @param {number} width
+ */
+function fitted(pieces, width) {
+  let left = width;
+  const cut = pieces.map((piece) => {
+    const text = [...piece.text].slice(0, left).join("");
+    left -= [...text].length;
+    return { ...piece, text };
+  });
+  return left > 0 ? [...cut, plain(" ".repeat(left))] : cut;
+}
+
+/**
+ * @param {ScreenSize} size
+ */
+export function hasRoom({ rows, columns }) {
+  return rows >= LEAST_SIZE.rows && columns >= LEAST_SIZE.columns;
+}
+
+/**
+ * Returns how many rows RAM, the board's front and the listing have.
+ * @param {ScreenSize} size
+ */
+export function middleRows({ rows }) {
+  return rows - OTHER_ROWS;
+}
+
+/** Makes the rows of one panel. */
+export class Screen {
+  /** @param {Panel} panel */
+  constructor(panel) {
+    this.panel = panel;
+    const { face, board } = panel.of;
+    this.title = escaped(face.title);
+    this.name = escaped(panel.of.name);
+    this.test = face.test;
+    this.lampRows = lampRowsOf(face, board.lamps.length);
+    this.labels = panel.keys.map(labelOf);
+    this.cell = Math.max(LEAST_CELL, ...this.labels.map((label) => [...label].length + 2));
+  }
+
+  /**
+   * Returns all rows.
+   * @param {ScreenSize} size
+   * @returns {ScreenRow[]}
+   */
+  rows(size) {
+    const { panel } = this;
+    const hasMore = panel.seen.chips.length > panel.seen.shownChips(middleRows(size)).length;
+    const [head, ...top] = this.topRows();
+    const last = say.keyLine(this.test ? testName(this.test) : say.TEST_PIN, hasMore);
+    const front = this.frontRows(middleRows(size));
+    const middle = upTo(middleRows(size)).map((at) => [
+      ...fitted([plain(this.ramText(at))], RAM_WIDTH), plain(" "), ...front[at], plain(" "), plain(this.listedText(at)),
+    ]);
+    return [
+      { pieces: [plain(head)], isInverse: true },
+      ...top.map((text) => ({ pieces: [plain(text)], isInverse: false })),
+      ...middle.map((pieces) => ({ pieces, isInverse: false })),
+      { pieces: [plain(escaped(panel.message))], isInverse: false },
+      { pieces: [plain(last)], isInverse: true },
+    ].map((row) => ({ ...row, pieces: fitted(row.pieces, size.columns) }));
+  }
+
+  // --- above ---
+
+  topRows() {
+    const { panel, title, name } = this;
+    const state = panel.isPaused ? say.paused(panel.why) : say.RUNNING;
+    return [say.headLine(title, name, panel.seen.commands, state), ...this.displayRows(), ...this.registerRows(), this.sourceText()];
+  }
+
+  displayRows() {
+    const { seen } = this.panel;
+    if (!seen.hasDisplay) return Array(LARGE_ROWS).fill("");
+    const { display } = seen;
+    const [number] = display.split(" ");
+    const [first, ...others] = largeRows(number.slice(0, MOST_LARGE));
+    return [`${first.padEnd(LARGE_WIDTH)} ${say.display(escaped(display))}`, ...others];
+  }
+
+  registerRows() {
+    const { seen, of: { source } } = this.panel;
+    if (!seen.registers) return ["", "", ""];
+    const { accumulator, carry, counter, owed, bank, test, registers, returns } = seen.registers;
+    const pairs = upTo(registers.length / 2).map((at) => `P${at} ${registers[2 * at]}${registers[2 * at + 1]}`).join("  ");
+    const back = parseInt(returns[0], 16);
+    const isNamed = source !== null && back > 0 && source.map.lineOf(back) > 0;
+    return [
+      say.lamps(seen.marks || "-"),
+      `acc ${accumulator}  cy ${carry}  pc ${counter}  owed ${owed}  dcl ${bank}  test ${test}  ret ${returns.join(" ")}`,
+      `${pairs}  ${isNamed ? say.returnTo(this.placeOf(back)) : ""}`,
+    ];
+  }
+
+  /**
+   * Returns the name of an address that the source fills; its digits if it has none.
+   * @param {number} address
+   */
+  placeOf(address) {
+    const { source } = this.panel.of;
+    return (source && source.map.nameOf(address)) || hex(address, 3);
+  }
+
+  /** The line of the source that comes next. */
+  sourceText() {
+    const { of: { source }, seen: { counter } } = this.panel;
+    if (!source) return "";
+    const line = source.map.lineOf(counter);
+    if (line === 0) return notInSource(hex(counter, 3));
+    return say.sourceHere(this.placeOf(counter), line + source.before, escaped(withoutTabs(source.lines[line - 1]).trimStart()));
+  }
+
+  // --- in the middle ---
+
+  /** @param {number} at */
+  ramText(at) {
+    const { seen } = this.panel;
+    const chip = seen.chips[this.panel.firstChip + Math.floor(at / CHIP_ROWS)];
+    const part = at % CHIP_ROWS;
+    if (!chip) return "";
+    if (part === CHIP_ROWS - 1) {
+      const out = seen.ram.ports.get(chip.name);
+      return out === undefined ? "" : say.portOf(chip.name, out);
+    }
+    const register = seen.ram.registers.get(`${chip.name}.${part}`);
+    return register ? `${chip.name}.${part} ${register.characters} ${register.status}` : "";
+  }
+
+  /**
+   * A line of the listing, with the counter and the breakpoints; with a source its line, if an instruction begins there.
+   * @param {number} at
+   */
+  listedText(at) {
+    const { seen, of: { source } } = this.panel;
+    const listed = seen.listing[at];
+    if (!listed) return "";
+    const { address, line } = listed;
+    const digits = hex(address, 3);
+    const marks = `${address === seen.counter ? ">" : " "}${seen.breakpoints.includes(digits) ? "*" : " "}`;
+    if (!source || !source.map.beginsInstruction(address)) return marks + line;
+    return `${marks}${digits} ${escaped(codeOf(source.lines[source.map.lineOf(address) - 1]))}`;
+  }
+
+  /**
+   * Returns the rows of keys, of what is at TEST, of lamps and of the printer's paper.
+   * @param {number} count
+   */
+  frontRows(count) {
+    const keys = this.keyRows();
+    const lamps = this.lampRows.map((cells) => cells.map((cell) => {
+      const level = cell.seen ? this.panel.seen.levelOf(cell.seen) : 0;
+      return { text: escaped(textOfCell(cell, level)), colour: level > 0 ? cell.colour : "", level };
+    }));
+    const rows = [...keys, ...(keys.length > 0 ? [[]] : []), ...lamps];
+    const paper = this.paperRows(count - rows.length);
+    const shown = upTo(count).map((at) => rows[at] || []);
+    shown.splice(count - paper.length, paper.length, ...paper.map((text) => [plain(text)]));
+    return shown.map((pieces) => fitted(pieces, FRONT_WIDTH));
+  }
+
+  /** @returns {Piece[][]} */
+  keyRows() {
+    const { panel: { of: { board }, keys, seen }, test } = this;
+    const rows = upTo(board.rows).map((row) => [plain(upTo(board.columns).map((column) => {
+      const at = row * board.columns + column;
+      const label = this.labels[at];
+      return (seen.isDown(keys[at].key) ? `[${label || "_"}]` : ` ${label} `).padEnd(this.cell);
+    }).join(""))]);
+    if (!test) return rows;
+    const label = escaped(say.testKey(testName(test)));
+    return [...rows, [plain(Number(seen.test) === test.level ? `[${label}]` : ` ${label} `)]];
+  }
+
+  /**
+   * Returns the last lines of a printer's paper; two if there is no room.
+   * @param {number} room
+   */
+  paperRows(room) {
+    const { printing, printed, of: { face } } = this.panel;
+    if (!printing || !face.printer) return [];
+    const lines = linesOf(printed, face.printer.words).map(escaped);
+    const count = Math.max(LEAST_PAPER, room);
+    const head = count > LEAST_PAPER ? [say.PAPER] : [];
+    const last = lines.slice(-(count - head.length));
+    return [...head, ...last, ...Array(count - head.length - last.length).fill("")];
+  }
+}
+
+/** @param {{ name: string }} test */
+function testName({ name }) {
+  return name.replace(/_/g, " ");
+}
+
+/**
+ * Returns what a key is called, and what is typed for it if that is something else; of a key without a name the latter alone.
+ * @param {BoardKey} key
+ */
+function labelOf({ legend, letter, isNamed }) {
+  if (!isNamed) return letter;
+  return escaped(legend === letter || letter === "" ? legend : `${legend}:${letter}`);
+}
+
+/**
+ * Returns a line of a source without its comment; an instruction without a label is set in.
+ * @param {string} line
+ */
+function codeOf(line) {
+  return withoutTabs(line).replace(/;.*/, "").trimEnd().replace(/ +/g, " ").replace(/^ /, "  ");
+}

@@ -1,0 +1,53 @@
+// Values as `print/FORMAT` shows them.
+
+import { expressionOf } from "../conditions/conditions.js";
+import { valueOfExpression } from "../adapter/values.js";
+import { hex } from "../bench/numbers.js";
+import { refuse } from "./words_of_line.js";
+import { inColumn } from "../../words/conditions.js";
+import * as say from "../../words/prompt.js";
+
+/**
+ * @typedef {import("../debug/debug_session.js").DebugSession} DebugSession
+ * @typedef {import("../adapter/values.js").Known} Known
+ */
+
+/** @type {(base: number, mark: string) => (value: number) => string} */
+const digits = (base, mark) => (value) => `${value < 0 ? "-" : ""}${mark}${Math.abs(value).toString(base).toUpperCase()}`;
+/** @type {Record<string, (value: number, session: DebugSession) => string>} */
+const FORMATS = {
+  x: digits(16, "0x"),
+  d: digits(10, ""),
+  u: digits(10, ""),
+  o: digits(8, "0"),
+  t: digits(2, "0b"),
+  b: digits(2, "0b"),
+  a: (value, { map }) => (value < 0 ? digits(16, "0x")(value) : say.addressIs(hex(value, 3), map.nameOf(value) || "")),
+};
+
+/**
+ * The number that a text is now; a condition is 1 or 0.
+ * @param {string} text
+ * @param {DebugSession} session
+ */
+function numberOfText(text, session) {
+  const { expression, fault, column } = expressionOf(text, session.names);
+  if (!expression) return refuse(inColumn(fault, column));
+  const values = session.debugger.told(expression.places);
+  if (expression.number) return expression.number(values);
+  return expression.told(values) === "true" ? 1 : 0;
+}
+
+/**
+ * The value of an expression, perhaps with a format before it: `/x r4`.
+ * @param {string} text
+ * @param {Known} known
+ */
+export function formattedValue(text, known) {
+  const [, format, what = ""] = /^\/(\w*)\s*(.*)$/.exec(text) || [];
+  if (format === undefined) return valueOfExpression(text, known);
+  const shown = Object.keys(FORMATS).includes(format) ? FORMATS[format] : refuse(say.noFormat(format, Object.keys(FORMATS).join(", ")));
+  if (what === "") refuse(say.PRINT_FORM);
+  if (/^(display|lamps)$/.test(what.trim())) refuse(say.noNumberOf(what));
+  return shown(numberOfText(what, known.session), known.session);
+}

@@ -1,0 +1,68 @@
+// What a line of the bench, or of the prompt around it, can go on with.
+
+import { FORMS } from "../bench/answer_table.js";
+import { readBoard, readMarks } from "../bench/answers.js";
+import { POKED, TRACED } from "../bench/line_forms.js";
+import { upTo } from "../bench/numbers.js";
+
+/**
+ * What a host and a session tell: the names of files that begin with a text, and answers to questions.
+ * @typedef {{ files: (begin: string) => string[], ask: (line: string) => Promise<string[]> }} CompletionCalls
+ *
+ * The ways to go on, and the end of the line that they replace.
+ * @typedef {[string[], string]} Completion
+ */
+
+/** Words of the prompt itself. */
+export const OWN_WORDS = ["help", "source", "quit"];
+/** Words that a file can follow. */
+export const FILE_WORDS = ["wire", "asm", "map", "source"];
+const HELP_WORDS = ["places"];
+
+/** @type {(words: string[], begin: string) => string[]} */
+const beginning = (words, begin) => words.filter((word) => word.startsWith(begin));
+/** @type {(count: number) => string[]} */
+const numbers = (count) => upTo(count).map(String);
+
+/** @typedef {(at: number, ask: (line: string) => Promise<string[]>) => Promise<string[]>} WordsAt */
+
+/** @type {(words: string[]) => WordsAt} */
+const atFirst = (words) => async (at) => (at === 0 ? words : []);
+/** @type {WordsAt} */
+const keysAt = async (at, ask) => {
+  const { rows, columns } = readBoard(await ask("board"));
+  return at > 1 ? [] : numbers(at === 0 ? rows : columns);
+};
+
+/**
+ * The words that may stand behind the first one, by their position.
+ * @type {Record<string, WordsAt>}
+ */
+const WORDS_AFTER = {
+  help: atFirst([...FORMS.keys(), ...OWN_WORDS, ...HELP_WORDS]),
+  poke: atFirst(POKED),
+  trace: async (at) => (at > 0 ? TRACED : []),
+  test: atFirst(["0", "1"]),
+  press: keysAt,
+  release: keysAt,
+  ram: async (at, ask) => (at > 0 ? [] : readBoard(await ask("board")).banks.map(({ bank }) => String(bank))),
+  unbreak: async (at, ask) => (at > 0 ? [] : readMarks((await ask("breaks"))[0]).map((word) => `0x${word}`)),
+  unwatch: async (at, ask) => (at > 0 ? [] : readMarks((await ask("watches"))[0]).map((word) => word.replace(".", " 0x"))),
+};
+
+/**
+ * @param {string} line up to the cursor
+ * @param {CompletionCalls} calls
+ * @returns {Promise<Completion>}
+ */
+export async function completeLine(line, calls) {
+  const [, first] = /^[ \t]*(\S*)$/.exec(line) || [];
+  if (first !== undefined) return [beginning([...FORMS.keys(), ...OWN_WORDS], first).map((word) => `${word} `), first];
+  const [, word, rest] = /** @type {RegExpExecArray} */ (/^[ \t]*(\S+)[ \t]+(.*)$/.exec(line));
+  if (FILE_WORDS.includes(word)) return [calls.files(rest), rest];
+  const words = line.trimStart().split(/[ \t]+/);
+  const begin = /** @type {string} */ (words.pop());
+  const at = WORDS_AFTER[word];
+  const found = FORMS.has(word) || word === "help" ? await (at ? at(words.length - 1, calls.ask) : []) : [];
+  return [beginning(found, begin), begin];
+}

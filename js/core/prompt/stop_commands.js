@@ -1,0 +1,171 @@
+// What breakpoints of the prompt do beyond stopping: they are deleted at their first stop, let hits pass, run commands, and are saved.
+
+import { hex } from "../bench/numbers.js";
+import { LAST } from "./breakpoint_commands.js";
+import { refuse } from "./words_of_line.js";
+import * as say from "../../words/prompt.js";
+
+/**
+ * @typedef {import("./prompt.js").Act} Act
+ * @typedef {import("./prompt.js").Prompt} Prompt
+ * @typedef {import("../debug/breakpoints.js").Breakpoint} Breakpoint
+ *
+ * @typedef {{ isTemporary: boolean, commands: string[] }} AtStop
+ */
+
+/** @type {AtStop} */
+const NOTHING = { isTemporary: false, commands: [] };
+const MOST_IGNORED = 999999999;
+const MOST_COMMANDS = 100;
+export const END = "end";
+const SILENT = "silent";
+
+/** @type {(command: string) => string} a command for the breakpoint that was set last */
+const ofLast = (command) => `${command} ${LAST}`;
+
+export class StopCommands {
+  /** @param {Prompt} prompt */
+  constructor(prompt) {
+    this.prompt = prompt;
+    /** @type {Map<number, AtStop>} by the ids of breakpoints */
+    this.atStop = new Map();
+    /** @type {{ id: number, lines: string[] } | null} the commands that are being typed, up to `end` */
+    this.opened = null;
+  }
+
+  get list() {
+    return this.prompt.session.breakpoints;
+  }
+
+  /** @returns {Record<string, Act>} */
+  get acts() {
+    return {
+      tbreak: async (rest) => {
+        const id = await this.prompt.breakpoints.add(rest);
+        this.change(id, { isTemporary: true });
+      },
+      condition: (rest) => this.condition(rest),
+      ignore: (rest) => this.ignore(rest),
+      commands: (rest) => this.open(rest),
+      save: (rest) => this.save(rest),
+    };
+  }
+
+  /** @param {number} id */
+  of(id) {
+    return this.atStop.get(id) || NOTHING;
+  }
+
+  /**
+   * @param {number} id
+   * @param {Partial<AtStop>} some
+   */
+  change(id, some) {
+    this.atStop.set(id, { ...this.of(id), ...some });
+  }
+
+  /**
+   * The breakpoint that a word names, and the words after it.
+   * @param {string} rest
+   * @param {string} form how the command is written
+   * @returns {{ breakpoint: Breakpoint, more: string }}
+   */
+  named(rest, form) {
+    const [, word = "", more = ""] = /^(\S*)\s*(.*)$/.exec(rest) || [];
+    const [id] = this.prompt.breakpoints.numbersOf(word || refuse(form));
+    return { breakpoint: /** @type {Breakpoint} */ (this.list.get(id)), more };
+  }
+
+  /** @param {string} rest */
+  async condition(rest) {
+    const { breakpoint: { id }, more } = this.named(rest, say.CONDITION_FORM);
+    await this.prompt.breakpoints.change(id, { condition: more.replace(/^if\s+/, "") });
+    if (more === "") this.prompt.calls.print(say.stopsAlways(id));
+  }
+
+  /** @param {string} rest */
+  async ignore(rest) {
+    const { breakpoint: { id, hits }, more } = this.named(rest, say.IGNORE_FORM);
+    const count = /^\d{1,9}$/.test(more) ? Number(more) : -1;
+    if (count < 0) refuse(say.ignoredIs(MOST_IGNORED.toLocaleString("en"), more || say.NOTHING));
+    await this.prompt.breakpoints.change(id, { from: count === 0 ? 1 : hits + count + 1 });
+    this.prompt.calls.print(say.willPass(id, count));
+  }
+
+  // --- commands at a stop ---
+
+  /** @param {string} rest */
+  open(rest) {
+    const { breakpoint: { id }, more } = this.named(rest || LAST, say.COMMANDS_FORM);
+    if (more !== "") refuse(say.COMMANDS_FORM);
+    this.opened = { id, lines: [] };
+  }
+
+  /**
+   * Takes a line of the commands that are being typed; false if there are too many.
+   * @param {string} line
+   */
+  take(line) {
+    const { id, lines } = /** @type {NonNullable<StopCommands["opened"]>} */ (this.opened);
+    if (line.trim() === END) {
+      this.change(id, { commands: lines });
+      this.opened = null;
+    } else if (lines.length === MOST_COMMANDS) {
+      this.opened = null;
+      refuse(say.tooManyCommands(MOST_COMMANDS));
+    } else if (line.trim() !== "") lines.push(line.trim());
+  }
+
+  /** Drops the commands that are being typed; returns words of that. */
+  drop() {
+    const { opened } = this;
+    this.opened = null;
+    return opened ? say.commandsDropped(opened.id) : "";
+  }
+
+  /**
+   * What the breakpoint asks for that ended the last move: a temporary one is deleted.
+   * @returns {Promise<{ commands: string[], isSilent: boolean, words: string }>}
+   */
+  async reached() {
+    const { ended: { reason, id }, session, breakpoints } = this.prompt;
+    const here = reason === "breakpoint" ? this.list.get(id) || this.list.atAddress(session.address) : undefined;
+    const { isTemporary, commands } = here ? this.of(here.id) : NOTHING;
+    if (here && isTemporary) await breakpoints.remove(String(here.id));
+    const isSilent = commands[0] === SILENT;
+    return { commands: isSilent ? commands.slice(1) : commands, isSilent, words: here && isTemporary ? say.temporaryGone(here.id) : "" };
+  }
+
+  // --- what is shown and saved ---
+
+  /**
+   * What info breakpoints adds to a breakpoint.
+   * @param {number} id
+   */
+  told(id) {
+    const { isTemporary, commands } = this.of(id);
+    return `${isTemporary ? say.TEMPORARY : ""}${commands.map((line) => `\n       ${line}`).join("")}`;
+  }
+
+  /** @param {string} rest */
+  save(rest) {
+    const [, word = "", name = ""] = /^(\S*)\s*(.*)$/.exec(rest) || [];
+    if (!/^b(r(e(akpoints?)?)?)?$/.test(word) || name === "") refuse(say.SAVE_FORM);
+    const watches = this.prompt.breakpoints.watchedPlaces.map((place) => `watch ${place}`);
+    const lines = [...this.list.all.flatMap((each) => this.linesOf(each)), ...watches];
+    this.prompt.calls.write(name, `${[say.SAVED_HEAD, ...lines].join("\n")}\n`);
+    this.prompt.calls.print(say.savedIn(name, this.list.all.length));
+  }
+
+  /** @param {Breakpoint} breakpoint */
+  linesOf({ id, line, address, isOn, from, hits, condition, note }) {
+    const { isTemporary, commands } = this.of(id);
+    const left = from - hits;
+    const where = line > 0 ? String(line) : `0x${hex(address, 3)}`;
+    const words = [isTemporary ? "tbreak" : "break", where, ...(left > 1 ? [`from ${left}`] : [])];
+    return [
+      `${words.join(" ")}${say.ifCondition(condition)}${say.logNote(note)}`, ...(isOn ? [] : [ofLast("disable")]),
+      ...(commands.length > 0 ? [ofLast("commands"), ...commands.map((each) => `  ${each}`), END] : []),
+    ];
+  }
+}

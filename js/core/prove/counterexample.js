@@ -1,0 +1,157 @@
+// A way that the prover found as a counterexample: it is run on the bench, made short, and written as a test.
+
+import { LONGEST_RUN } from "../engine/key_queue.js";
+import { linesOfFind, testOf } from "../explore/find_test.js";
+import { Shortening } from "../explore/shortening.js";
+import { Watcher } from "../explore/watching.js";
+import { downAtFirst, isSound } from "../explore/walks.js";
+import { allInputs, wayOf } from "./way.js";
+
+/**
+ * @typedef {import("../explore/campaign.js").Campaign} Campaign
+ * @typedef {import("../explore/inputs.js").Input} Input
+ * @typedef {import("../explore/search.js").Find} Find
+ * @typedef {import("../explore/subject.js").Subject} Subject
+ * @typedef {import("../explore/walks.js").WalkStep} WalkStep
+ *
+ * `isAllowed`: the text of properties allows these inputs; `text` is a test, or lines of a session if a key that is pressed has no name.
+ * @typedef {{ steps: number, cycles: number, isAllowed: boolean, isTest: boolean, text: string }} Counterexample
+ */
+
+/** So many cycles are looked at to make it short. */
+const PATIENCE = 10e6;
+
+/**
+ * The campaign in which one property is judged, and all inputs may change at any time.
+ * @param {Campaign} campaign
+ * @param {number} property
+ * @param {Input[]} inputs
+ * @returns {Campaign}
+ */
+function freeCampaign(campaign, property, inputs) {
+  return {
+    ...campaign, inputs, properties: [campaign.properties[property]], together: Infinity, held: Infinity, apart: 0, begin: 0, shortest: 1,
+    longest: LONGEST_RUN, from: null, before: [],
+  };
+}
+
+/**
+ * Returns waits that a run takes, where a change follows another one: it comes a cycle later, and the one before a cycle earlier.
+ * @param {WalkStep[]} steps
+ */
+function spread(steps) {
+  /** @type {WalkStep[]} */
+  const all = [];
+  let owed = 0;
+  for (const step of [...steps].reverse()) {
+    const wait = step.wait - owed;
+    owed = wait < 1 ? 1 - wait : 0;
+    all.unshift({ ...step, wait: Math.max(1, wait) });
+  }
+  return owed > 0 ? null : all.flatMap(cut);
+}
+
+/**
+ * Cuts a wait that is too long for one run.
+ * @param {WalkStep} step
+ * @returns {WalkStep[]}
+ */
+function cut(step) {
+  const waits = wholeRuns(step.wait);
+  const last = waits.pop() || 0;
+  return [...waits.map((wait) => ({ wait, kind: /** @type {const} */ ("none"), input: -1 })), { ...step, wait: last }];
+}
+
+/** @param {number} cycles */
+function wholeRuns(cycles) {
+  const waits = [];
+  for (let left = cycles; left > 0; left -= LONGEST_RUN) waits.push(Math.min(left, LONGEST_RUN));
+  return waits;
+}
+
+class Replay {
+  /**
+   * @param {Subject} subject
+   * @param {Campaign} campaign
+   * @param {number} property
+   */
+  constructor(subject, campaign, property) {
+    this.subject = subject;
+    this.allowed = campaign;
+    this.free = freeCampaign(campaign, property, allInputs(subject));
+    this.down = downAtFirst(this.free);
+  }
+
+  /**
+   * From where the property is judged.
+   * @param {Uint8Array} file
+   */
+  start(file) {
+    return { file, time: 0, down: this.down, memories: [this.free.properties[0].from(0, this.down.length)] };
+  }
+
+  /**
+   * Returns the find that some values lead to; null if the bench does not break the property there.
+   * @param {number[]} values
+   * @returns {Find | null}
+   */
+  find(values) {
+    const { subject, free } = this;
+    const { steps, time, file, rest } = wayOf(subject, free.inputs, values);
+    const watcher = new Watcher(subject, free, null);
+    const waits = wholeRuns(Math.max(1, rest)).map((wait) => ({ wait, kind: /** @type {const} */ ("none"), input: -1 }));
+    const { broken } = watcher.watch(this.start(file), waits, [0]);
+    return broken && { property: 0, steps, time: time + broken.time };
+  }
+
+  /**
+   * Makes a find short, if its changes can be made one after the other.
+   * @param {Find} find
+   * @param {() => Promise<void>} breathe
+   */
+  async short(find, breathe) {
+    const steps = spread(find.steps);
+    if (!steps) return find;
+    const { subject, free } = this;
+    return new Shortening(subject, free, this.start(subject.file), { ...find, steps }, PATIENCE, breathe).shorten();
+  }
+
+  /**
+   * Whether the text of properties allows these inputs at these times.
+   * @param {Find} find
+   */
+  isAllowed({ steps, time }) {
+    const { allowed, free } = this;
+    const numbers = free.inputs.map(({ down }) => allowed.inputs.findIndex((input) => input.down === down));
+    const own = steps.map((step) => ({ ...step, input: step.kind === "none" ? -1 : numbers[step.input] }));
+    const rest = own.reduce((left, { wait }) => left - wait, time);
+    return time > allowed.begin && own.every(({ kind, input }) => kind === "none" || input >= 0)
+      && isSound(allowed, [...own, { wait: rest, kind: "none", input: -1 }]);
+  }
+
+  /**
+   * @param {Find} find
+   * @returns {Counterexample}
+   */
+  written(find) {
+    const { subject, free } = this;
+    const isTest = find.steps.every(({ kind, input }) => kind === "none" || !/^press \d+ \d+$/.test(free.inputs[input].downWords));
+    const text = isTest ? testOf(subject, subject.file, free, find) : linesOfFind(free, find);
+    const steps = find.steps.filter(({ kind }) => kind !== "none").length;
+    return { steps, cycles: find.time, isAllowed: this.isAllowed(find), isTest, text };
+  }
+}
+
+/**
+ * Returns the counterexample that some values lead to, one after the other as they are read; null if the bench does not confirm it.
+ * @param {Subject} subject
+ * @param {Campaign} campaign
+ * @param {number} property its number
+ * @param {number[]} values
+ * @param {() => Promise<void>} breathe
+ */
+export async function counterexampleOf(subject, campaign, property, values, breathe) {
+  const replay = new Replay(subject, campaign, property);
+  const find = replay.find(values);
+  return find && replay.written(await replay.short(find, breathe));
+}

@@ -1,0 +1,183 @@
+// A condition as comparisons of cells, by what it says of all values of its places. A value is decided only when the condition looks at it:
+// then all values of that place are tried. So the condition itself says which places matter.
+
+import { OWED, fieldOf, outputLine } from "./cells.js";
+import { upTo } from "../bench/numbers.js";
+import * as say from "../../words/prove.js";
+
+/**
+ * @typedef {import("./cells.js").All} All
+ * @typedef {import("./cells.js").Field} Field
+ * @typedef {import("../bench/answers.js").Board} Board
+ * @typedef {import("../conditions/conditions.js").Condition} Condition
+ *
+ * What a condition says: that alone, or by the value of a field. Values that say the same follow each other in one range.
+ * @typedef {boolean | { field: Field, ranges: { low: number, high: number, said: Said }[] }} Said
+ */
+
+/** So often a condition is asked at most, and so many lists of comparisons can come of it. */
+const MOST_ASKED = 100000;
+const MOST_LISTS = 4000;
+
+/** A condition cannot be asked of the prover. */
+export class NotAsked extends Error {}
+
+/** A field was looked at whose value is not decided. */
+class Look extends Error {
+  /** @param {Field} field */
+  constructor(field) {
+    super("");
+    this.field = field;
+  }
+}
+
+/** Whether two values say the same, as far as that is simple. */
+function areSame(/** @type {Said} */ one, /** @type {Said} */ other) {
+  return typeof one === "boolean" ? one === other : JSON.stringify(one) === JSON.stringify(other);
+}
+
+class Asking {
+  /**
+   * @param {Condition} condition
+   * @param {Board} board
+   */
+  constructor(condition, board) {
+    this.condition = condition;
+    this.board = board;
+    this.asked = 0;
+    /** @type {Map<string, string>} the texts of the fields that are decided, by their names */
+    this.decided = new Map();
+    const input = (/** @type {string} */ name) => this.textOf(null, name);
+    const owed = () => this.textOf(OWED, OWED.name);
+    this.beside = {
+      get test() {
+        return input("TEST");
+      },
+      get owed() {
+        return owed();
+      },
+      get keys() {
+        return input("keys");
+      },
+      cycles: 0, seen: [], printed: [],
+    };
+  }
+
+  /**
+   * The text of a field; a look at one that is not decided breaks off.
+   * @param {Field | null} field null for an input
+   * @param {string} name
+   */
+  textOf(field, name) {
+    if (!field) throw new NotAsked(say.looksAtInput(name));
+    const text = this.decided.get(field.name);
+    if (text === undefined) throw new Look(field);
+    return text;
+  }
+
+  /**
+   * A text of marks, as that of all lamps, each of which is a line.
+   * @param {string[]} lines
+   * @param {[string, string]} marks of 0 and 1
+   */
+  marksOf(lines, marks) {
+    const markAt = (/** @type {number} */ at) => {
+      const text = this.textOf(outputLine(lines[at], this.board), lines[at]);
+      return marks[Number(text)];
+    };
+    const whole = function* each() {
+      for (const at of lines.keys()) yield markAt(at);
+    };
+    return new Proxy({}, {
+      get: (_, key) => {
+        if (key === Symbol.iterator) return whole;
+        if (key === "length") return lines.length;
+        return typeof key === "string" && /^\d+$/.test(key) && Number(key) < lines.length ? markAt(Number(key)) : undefined;
+      },
+    });
+  }
+
+  /** @param {string} place */
+  valueOf(place) {
+    const { board } = this;
+    if (place === "lamps") return board.lamps.length === 0 ? "-" : this.marksOf(board.lamps, [".", "*"]);
+    const [, chain] = /^chain(\d)$/.exec(place) || [];
+    if (chain) return this.marksOf(upTo(10 * board.chains[Number(chain)].chips).map((bit) => `chain${chain}.${bit}`), ["0", "1"]);
+    return this.textOf(fieldOf(place, board), place);
+  }
+
+  /** Asks the condition once. */
+  holds() {
+    this.asked += 1;
+    if (this.asked > MOST_ASKED) throw new NotAsked(say.LOOKS_AT_TOO_MUCH);
+    const { condition: { places, holds } } = this;
+    const values = new Proxy(/** @type {string[]} */ ([]), {
+      get: (_, key) => (typeof key === "string" && key in places ? this.valueOf(places[Number(key)]) : undefined),
+    });
+    return holds(values, this.beside);
+  }
+
+  /**
+   * Asks the condition about all values of what it looks at.
+   * @returns {Said}
+   */
+  ask() {
+    try {
+      return this.holds();
+    } catch (thrown) {
+      if (!(thrown instanceof Look)) throw thrown;
+      return this.askAbout(thrown.field);
+    }
+  }
+
+  /**
+   * @param {Field} field
+   * @returns {Said}
+   */
+  askAbout(field) {
+    /** @type {{ low: number, high: number, said: Said }[]} */
+    const ranges = [];
+    for (const number of upTo(field.count)) {
+      const texts = field.texts(number);
+      const [said, ...others] = texts.map((text) => {
+        this.decided.set(field.name, text);
+        return this.ask();
+      });
+      if (others.some((other) => !areSame(said, other))) throw new NotAsked(say.looksAtInput(field.name));
+      const last = ranges[ranges.length - 1];
+      if (said === undefined) continue;
+      if (last && last.high === number - 1 && areSame(last.said, said)) last.high = number;
+      else ranges.push({ low: number, high: number, said });
+    }
+    this.decided.delete(field.name);
+    return ranges.length === 1 ? ranges[0].said : { field, ranges };
+  }
+}
+
+/**
+ * The lists of comparisons of which one holds whole where a condition says this.
+ * @param {Said} said
+ * @param {boolean} wanted
+ * @returns {All[]}
+ */
+function listsOf(said, wanted) {
+  if (typeof said === "boolean") return said === wanted ? [[]] : [];
+  const { field } = said;
+  const lists = said.ranges.flatMap(({ low, high, said: then }) => {
+    const rest = listsOf(then, wanted);
+    return rest.length === 0 ? [] : field.between(low, high).flatMap((here) => rest.map((more) => [...here, ...more]));
+  });
+  if (lists.length > MOST_LISTS) throw new NotAsked(say.LOOKS_AT_TOO_MUCH);
+  return lists;
+}
+
+/**
+ * Returns lists of comparisons of which one holds whole exactly if the condition holds, or does not; throws NotAsked if it looks at inputs
+ * or at too much.
+ * @param {Condition} condition
+ * @param {boolean} wanted
+ * @param {Board} board
+ */
+export function comparisonsOf(condition, wanted, board) {
+  return listsOf(new Asking(condition, board).ask(), wanted);
+}

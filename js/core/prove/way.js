@@ -1,0 +1,164 @@
+// The way to where a property is broken, by what was read, as steps of keys and TEST: the bench runs it, and each read gets its keys.
+
+import { readCounter, readRun } from "../bench/answers.js";
+import { upTo } from "../bench/numbers.js";
+import { ADDRESSES } from "../bench/rom_bytes.js";
+import { portsOf, partsOfState } from "../bench/state_line.js";
+import { MOST_ON } from "../debug/breakpoints.js";
+import { LONGEST_RUN } from "../engine/key_queue.js";
+import { keysOf, pinOf } from "../explore/inputs.js";
+import { PAUSE } from "./question.js";
+
+/**
+ * @typedef {import("../explore/inputs.js").Input} Input
+ * @typedef {import("../explore/subject.js").Subject} Subject
+ * @typedef {import("../explore/walks.js").WalkStep} WalkStep
+ */
+
+const RDR = 0xEA;
+
+/** @param {number} code of a JCN with TEST among its conditions */
+const looksAtTest = (code) => (code & 0xF1) === 0x11;
+
+/**
+ * All that can change on a board: each key, by its name if it has one, and the TEST pin.
+ * @param {Subject} subject
+ * @returns {Input[]}
+ */
+export function allInputs({ names: { face, board } }) {
+  const named = new Map(keysOf(face).map((input) => [input.down, input]));
+  const keys = upTo(board.rows).flatMap((row) => upTo(board.columns).map((column) => {
+    const [down, up] = [`press ${row} ${column}`, `release ${row} ${column}`];
+    return named.get(down) || { name: `${row},${column}`, isKey: true, down, up, downWords: down, upWords: up, isDown: false };
+  }));
+  return [...keys, pinOf(face)];
+}
+
+class Way {
+  /**
+   * @param {Subject} subject
+   * @param {Input[]} inputs
+   */
+  constructor(subject, inputs) {
+    this.subject = subject;
+    this.inputs = inputs;
+    this.file = subject.file.slice();
+    this.down = inputs.map(({ isDown }) => isDown);
+    this.waited = 0;
+    /** @type {WalkStep[]} */
+    this.steps = [];
+    this.asking = upTo(ADDRESSES).filter((address) => this.asksBy(subject.codes[address]));
+  }
+
+  /** @param {number} code */
+  asksBy(code) {
+    return code === RDR || looksAtTest(code);
+  }
+
+  /**
+   * Serves lines, and returns their answers.
+   * @param {string} lines
+   */
+  serve(lines) {
+    return this.subject.engine.serve(this.file, lines, this.file).answers;
+  }
+
+  /** The code of the next cycle that asks; -1 if it asks nothing. */
+  asked() {
+    const { counter, owed } = readCounter(this.subject.engine.ask(this.file, "regs\n").answers[0]);
+    const code = this.subject.codes[parseInt(counter, 16)];
+    return owed === "1" || !this.asksBy(code) ? -1 : code;
+  }
+
+  /**
+   * Puts an input down or up.
+   * @param {number} at
+   * @param {boolean} isDown
+   */
+  put(at, isDown) {
+    if (this.down[at] === isDown) return;
+    this.down[at] = isDown;
+    this.serve(`${isDown ? this.inputs[at].down : this.inputs[at].up}\n`);
+    this.steps.push({ wait: this.waited, kind: isDown ? "down" : "up", input: at });
+    this.waited = 0;
+  }
+
+  /**
+   * Puts TEST at a level.
+   * @param {number} level
+   */
+  putTest(level) {
+    const pin = this.inputs.length - 1;
+    this.put(pin, this.inputs[pin].down === `test ${level}`);
+  }
+
+  /**
+   * Puts keys so that the selected port reads a value: of each line one key in a row that is driven, or none.
+   * @param {number} value
+   */
+  putKeys(value) {
+    const { board: { matrix, rows, columns } } = this.subject.names;
+    if (!matrix) return;
+    const { sources, chains } = portsOf(partsOfState(this.subject.engine.ask(this.file, "state\n").answers[0]).ports);
+    const port = `rom${parseInt(sources[0][0], 16)}`;
+    const driven = upTo(rows).filter((row) => chains[matrix.chain][matrix.first + row] === "1");
+    const wanted = new Set(upTo(4).filter((line) => Math.floor(value / 2 ** line) % 2 === 1));
+    for (const column of upTo(columns)) {
+      const [chip, line] = matrix.columns[column].split(".");
+      if (chip !== port) continue;
+      const isWanted = wanted.delete(Number(line));
+      driven.forEach((row, at) => this.put(row * columns + column, isWanted && at === 0));
+    }
+  }
+
+  /**
+   * Runs some cycles, and returns why the run stopped.
+   * @param {number} count
+   */
+  run(count) {
+    const [answer] = this.serve(`run ${count}\n`);
+    const { cycles, end } = readRun(answer) || { cycles: 0, end: "" };
+    this.waited += cycles;
+    return { cycles, end };
+  }
+
+  /** Runs to where the next cycle asks, or to where a pause is cut; false if no cycle can follow. */
+  runOn() {
+    for (let left = PAUSE; left > 0 && this.asked() < 0;) {
+      const { cycles, end } = this.run(Math.min(left, this.asking.length <= MOST_ON ? LONGEST_RUN : 1));
+      left -= cycles;
+      if (end === "code" || end === "") return false;
+    }
+    return true;
+  }
+
+  /** @param {number} value that the next cycle reads, 0 if it reads nothing */
+  putFor(value) {
+    const code = this.asked();
+    if (code === RDR) this.putKeys(value);
+    else if (code >= 0) this.putTest(value);
+  }
+}
+
+/**
+ * Returns the steps by which these values are read, one after the other; the state after the last of them, and the cycles up to the next
+ * read, in which something is to be broken.
+ * @param {Subject} subject
+ * @param {Input[]} inputs all that can change
+ * @param {number[]} values
+ * @returns {{ steps: WalkStep[], time: number, file: Uint8Array, rest: number }} `time` is the sum of the waits
+ */
+export function wayOf(subject, inputs, values) {
+  const way = new Way(subject, inputs);
+  if (way.asking.length <= MOST_ON) way.serve(way.asking.map((address) => `break ${address}\n`).join(""));
+  let file = way.file.slice();
+  values.every((value) => {
+    const { length } = way.steps;
+    way.putFor(value);
+    if (way.steps.length > length) file = way.file.slice();
+    way.run(1);
+    return way.runOn();
+  });
+  if (way.asking.length <= MOST_ON) subject.engine.serve(file, way.asking.map((address) => `unbreak ${address}\n`).join(""), file);
+  return { steps: way.steps, time: way.steps.reduce((sum, { wait }) => sum + wait, 0), file, rest: way.waited };
+}

@@ -1,0 +1,141 @@
+// What an editor asks of a text of tests or of properties, which stands beside those of a board and a program and has their names.
+
+import { Face } from "../board/face.js";
+import { prepare } from "../testing/prepared.js";
+import { namesOf, partsOf } from "../text/assembly.js";
+import { definitionOf } from "../text/references.js";
+import { wordsUpTo } from "../text/test_words.js";
+import { asMarkdown } from "./markdown.js";
+import { rangeOf } from "./protocol.js";
+import { inColumn } from "../../words/conditions.js";
+import * as say from "../../words/server.js";
+
+/**
+ * @typedef {import("../engine/engine_host.js").EngineHost} Engine
+ * @typedef {import("../testing/prepared.js").Texts} Texts
+ * @typedef {import("../text/test_words.js").TestNames} TestNames
+ * @typedef {import("./diagnostics.js").ShownFault} ShownFault
+ * @typedef {import("./open_text.js").OpenText} OpenText
+ * @typedef {import("./protocol.js").Position} Position
+ *
+ * A text with its address; the text is null if it cannot be read.
+ * @typedef {{ uri: string, text: string | null }} NamedText
+ *
+ * What a text stands beside: a board, a program, and the texts of tests up to it.
+ * @typedef {{ board: NamedText, program: NamedText, tests: NamedText[] }} BesideTexts
+ */
+
+/** Kinds of what completes a word. */
+const OF_KEYWORD = 14;
+const OF_VALUE = 12;
+
+/**
+ * Returns a fault as an editor shows it: at the word at a column, which the words need not name then, or in the whole line.
+ * @param {string[]} lines
+ * @param {{ line: number, column: number, words: string }} fault its line from 1, its column from 0, -1 if none is known
+ * @returns {ShownFault}
+ */
+export function faultInLine(lines, { line, column, words: whole }) {
+  const words = column < 0 ? whole : whole.replace(inColumn("", column), "");
+  const text = lines[line - 1] || "";
+  const end = text.trimEnd().length;
+  const begin = Math.min(end, text.length - text.trimStart().length);
+  if (column < 0 || column >= end) return { number: 0, line, from: begin, to: end, words, isError: true };
+  const [word = ""] = /^\S+/.exec(text.slice(column)) || [];
+  return { number: 0, line, from: column, to: column + Math.max(1, word.length), words, isError: true };
+}
+
+/** @param {string} uri */
+export function fileNameOf(uri) {
+  const name = uri.replace(/^.*\//, "");
+  try {
+    return decodeURIComponent(name);
+  } catch {
+    return name;
+  }
+}
+
+export class BesideLanguage {
+  /**
+   * @param {Engine} engine
+   * @param {(uri: string) => BesideTexts} besideOf
+   */
+  constructor(engine, besideOf) {
+    this.engine = engine;
+    this.besideOf = besideOf;
+    /** @type {{ texts: Texts, prepared: ReturnType<typeof prepare> } | null} what was prepared last */
+    this.last = null;
+  }
+
+  /**
+   * Board and program at work, with their names, or what is wrong with them.
+   * @param {Texts} texts
+   */
+  prepared(texts) {
+    const isKnown = this.last && this.last.texts.boardText === texts.boardText && this.last.texts.programText === texts.programText;
+    if (!this.last || !isKnown) this.last = { texts, prepared: prepare(this.engine, texts) };
+    return this.last.prepared;
+  }
+
+  /**
+   * Why a text cannot be read with names of its board and program; null if it can.
+   * @param {BesideTexts} beside
+   * @returns {ShownFault | null}
+   */
+  hindrance({ board, program }) {
+    const lacking = [board, program].find(({ text }) => text === null);
+    const note = (/** @type {string} */ words) => ({ number: 0, line: 1, from: 0, to: 0, words });
+    if (lacking) return note(say.nothingBeside(fileNameOf(lacking.uri)));
+    const { faults } = this.prepared({ boardText: board.text || "", programText: program.text || "" });
+    if (faults.length === 0) return null;
+    const [{ text, line }] = faults;
+    return note(say.besideIsWrong(fileNameOf(text === "board" ? board.uri : program.uri), line));
+  }
+
+  /**
+   * The names of board and program; also while these have errors.
+   * @param {OpenText} open
+   * @returns {TestNames}
+   */
+  names({ uri }) {
+    const { board, program } = this.besideOf(uri);
+    const face = new Face(board.text || "");
+    const keys = [...face.keys.values()].map(({ text }) => text).filter((name) => name !== "");
+    const lines = (program.text || "").split("\n");
+    const labels = [...namesOf(lines)].filter(([, line]) => !partsOf(lines[line - 1]).defines).map(([name]) => name);
+    return { keys: face.test ? [...keys, face.test.name] : keys, lamps: [...face.lampNumbers.keys()], labels };
+  }
+
+  /**
+   * @param {import("../text/completion.js").Completion} completion
+   */
+  shown({ from, to, list }) {
+    return { from, to, list: list.map((each) => ({ ...each, kind: each.what ? OF_KEYWORD : OF_VALUE })) };
+  }
+
+  /**
+   * @param {string} words
+   * @param {string[]} lines
+   * @param {Position} position
+   */
+  helpAt(words, lines, { line, character }) {
+    if (words === "") return null;
+    const before = wordsUpTo(lines[line], character);
+    const word = before[before.length - 1] || "";
+    const from = lines[line].lastIndexOf(word, character);
+    return { words, markdown: asMarkdown(words), range: rangeOf(line + 1, from, from + word.length) };
+  }
+
+  /**
+   * The definition of a label of the program.
+   * @param {OpenText} open
+   * @param {Position} position
+   */
+  labelAt({ uri, lines }, { line, character }) {
+    const words = wordsUpTo(lines[line], character);
+    const name = (words[words.length - 1] || "").replace(/^[(!]*@?|[,)]+$/g, "");
+    const { program } = this.besideOf(uri);
+    const found = definitionOf((program.text || "").split("\n"), name);
+    return found ? { uri: program.uri, range: rangeOf(found.line, found.from, found.to) } : null;
+  }
+}

@@ -1,0 +1,24 @@
+// The stretches of lines that fold away below a line, as editors take them.
+
+import { lastFolded } from "../text/folding.js";
+
+/**
+ * @typedef {import("../text/folding.js").Parts} Parts
+ * @typedef {{ startLine: number, endLine: number, kind?: "comment" }} Fold
+ */
+
+/**
+ * Returns what folds away in a text.
+ * @param {string[]} lines
+ * @param {Parts} parts
+ * @returns {Fold[]}
+ */
+export function foldsOf(lines, parts) {
+  const lineAt = (/** @type {number} */ line) => lines[line];
+  return lines.flatMap((text, startLine) => {
+    const endLine = lastFolded(lineAt, startLine, parts);
+    if (endLine === startLine) return [];
+    const isComment = text.trimStart().startsWith(parts.mark);
+    return [isComment ? { startLine, endLine, kind: /** @type {const} */ ("comment") } : { startLine, endLine }];
+  });
+}

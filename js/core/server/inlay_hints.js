@@ -1,0 +1,55 @@
+// Hints among the words of a program: the address and the cycles of a line, at its end, and the values of names.
+
+import { hex } from "../bench/numbers.js";
+import { partsOf } from "../text/assembly.js";
+import * as say from "../../words/server.js";
+
+/**
+ * @typedef {import("../machine/source_map.js").SourceMap} SourceMap
+ * @typedef {import("./language.js").InlayHint} InlayHint
+ * @typedef {import("./protocol.js").Range} Range
+ */
+
+/**
+ * Returns the value of a name as a hint shows it; "" for another word.
+ * @param {SourceMap} map
+ * @param {string} word
+ */
+function valueOf(map, word) {
+  const name = map.names.get(word);
+  if (!name) return "";
+  return `= ${name.isLabel ? `0x${hex(name.value, 3)}` : name.value}`;
+}
+
+/**
+ * Returns the hints of one line.
+ * @param {string} text
+ * @param {number} line from 0
+ * @param {SourceMap} map
+ * @param {(mnemonic: string) => string} cyclesOf an instruction, "" for another word
+ * @returns {InlayHint[]}
+ */
+function hintsOfLine(text, line, map, cyclesOf) {
+  const { head, operands, defines } = partsOf(text);
+  if (defines) return [];
+  const hintAt = (/** @type {number} */ character, /** @type {string} */ label) => (
+    { position: { line, character }, label, paddingLeft: true });
+  const values = operands.map(({ text: word, to }) => hintAt(to, valueOf(map, word))).filter(({ label }) => label !== "");
+  const address = map.addressOf(line + 1);
+  if (address === undefined || !head) return values;
+  const cycles = cyclesOf(head.text.toUpperCase());
+  const words = cycles ? say.hintOfInstruction(hex(address, 3), cycles) : say.hintOfData(hex(address, 3), map.sizes[line + 1]);
+  return [...values, hintAt(text.length, words)];
+}
+
+/**
+ * Returns the hints of the lines of a range.
+ * @param {string[]} lines
+ * @param {SourceMap} map
+ * @param {(mnemonic: string) => string} cyclesOf an instruction, "" for another word
+ * @param {Range} range
+ * @returns {InlayHint[]}
+ */
+export function hintsOf(lines, map, cyclesOf, { start, end }) {
+  return lines.slice(start.line, end.line + 1).flatMap((text, at) => hintsOfLine(text, start.line + at, map, cyclesOf));
+}

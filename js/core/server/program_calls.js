@@ -1,0 +1,97 @@
+// The routines of a program as editors show them: a call hierarchy, and above each label how often it is called.
+
+import { Routines } from "../text/routines.js";
+import { rangeOf } from "./protocol.js";
+import * as say from "../../words/server.js";
+
+/**
+ * @typedef {import("../machine/source_map.js").SourceMap} SourceMap
+ * @typedef {import("../text/routines.js").CallPlace} CallPlace
+ * @typedef {import("./language.js").Call} Call
+ * @typedef {import("./language.js").Lens} Lens
+ * @typedef {import("./language.js").Routine} Routine
+ * @typedef {import("./protocol.js").Range} Range
+ */
+
+/** @param {CallPlace} place */
+const rangeOfPlace = ({ line, from, to }) => rangeOf(line + 1, from, to);
+
+export class ProgramCalls {
+  /**
+   * @param {string[]} lines
+   * @param {SourceMap | null} map null if the program has errors
+   */
+  constructor(lines, map) {
+    this.lines = lines;
+    this.map = map;
+    this.routines = new Routines(lines);
+  }
+
+  /**
+   * @param {import("../text/routines.js").Routine} routine
+   * @returns {Routine}
+   */
+  shown({ name, line, from, to, last }) {
+    const selectionRange = rangeOf(line + 1, from, to);
+    const range = { start: { line, character: 0 }, end: { line: last, character: this.lines[last].length } };
+    return { name: name || say.PROGRAM_BEGIN, detail: name && this.map ? this.map.meaningOf(name) : "", range, selectionRange };
+  }
+
+  /**
+   * @param {{ routine: import("../text/routines.js").Routine, places: CallPlace[] }[]} calls
+   * @returns {Call[]}
+   */
+  shownCalls(calls) {
+    return calls.map(({ routine, places }) => ({ routine: this.shown(routine), ranges: places.map(rangeOfPlace) }));
+  }
+
+  /**
+   * Returns the routine that a name begins, else the one that comes to a line; null if none does.
+   * @param {string} name "" for none
+   * @param {number} line from 0
+   */
+  find(name, line) {
+    return this.routines.routineOf(name) || this.routines.routineAt(line);
+  }
+
+  /**
+   * @param {string} name
+   * @param {number} line
+   */
+  routine(name, line) {
+    const found = this.find(name, line);
+    return found && this.shown(found);
+  }
+
+  /**
+   * @param {string} name
+   * @param {number} line
+   */
+  callers(name, line) {
+    const found = this.find(name, line);
+    return found ? this.shownCalls(this.routines.callers(found)) : [];
+  }
+
+  /**
+   * @param {string} name
+   * @param {number} line
+   */
+  called(name, line) {
+    const found = this.find(name, line);
+    return found ? this.shownCalls(this.routines.called(found)) : [];
+  }
+
+  /**
+   * Returns how often each label is called and named.
+   * @param {(name: string) => Range[]} usesOf gives the places of a name but its definition
+   * @returns {Lens[]}
+   */
+  lenses(usesOf) {
+    return [...this.routines.uses()].map(([name, { calls, others }]) => {
+      const line = /** @type {number} */ (this.routines.names.get(name));
+      const { label } = this.routines.parts[line - 1];
+      const { from, to } = label || { from: 0, to: 0 };
+      return { range: rangeOf(line, from, to), title: say.usesOf(calls, others), references: usesOf(name), test: null };
+    });
+  }
+}

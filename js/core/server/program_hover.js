@@ -1,0 +1,86 @@
+// Help at a word of a program: what the manual's table says of an instruction, what a name is, with the comment above it, and where the
+// line is in ROM.
+
+import { NUMBER, namesOf, partsOf, wordAt } from "../text/assembly.js";
+import { operandsOfForm } from "../text/program_words.js";
+import { doesOf, helpForProgram } from "../text/text_help.js";
+import { asBlock, asCode, asMarkdown, asTable } from "./markdown.js";
+import { rangeOf } from "./protocol.js";
+import * as say from "../../words/server.js";
+
+/**
+ * @typedef {import("../help/manual.js").Instruction} Instruction
+ * @typedef {import("../text/assembly.js").Word} Word
+ * @typedef {import("./language.js").Hover} Hover
+ * @typedef {import("./protocol.js").Position} Position
+ *
+ * What is known: the instructions and the conditions of JCN by the manual, what a name is, its value, and where a line is ("" if that is
+ * not known).
+ * @typedef {{ instructions: Map<string, Instruction>, conditions: Map<number, string>, meaningOf: (name: string) => string,
+ *   valueOf: (name: string) => number | undefined, wordsOfLine: (line: number) => string }} Known
+ */
+
+/** As many lines of the comment above a name are shown. */
+const MOST_LINES = 12;
+
+/**
+ * Returns the comment of a name: the lines above a label, and what stands behind the definition.
+ * @param {string[]} lines
+ * @param {string} name
+ * @returns {string[]}
+ */
+export function commentOf(lines, name) {
+  const line = namesOf(lines).get(name);
+  if (line === undefined) return [];
+  const { comment, defines } = partsOf(lines[line - 1]);
+  let begin = line - 1;
+  while (!defines && begin > 0 && line - begin <= MOST_LINES && lines[begin - 1].trimStart().startsWith(";")) begin -= 1;
+  const all = [...lines.slice(begin, line - 1), lines[line - 1].slice(comment)].map((each) => each.trim().replace(/^;+ ?/, ""));
+  return all[all.length - 1] === "" ? all.slice(0, -1) : all;
+}
+
+/**
+ * Returns what the condition of a JCN asks for, if a word is one; "" if not.
+ * @param {string} text of the line
+ * @param {Word} word
+ * @param {Known} known
+ */
+function wordsOfCondition(text, word, { instructions, conditions, valueOf }) {
+  const { head, operands } = partsOf(text);
+  const instruction = head && instructions.get(head.text.toUpperCase());
+  const place = operands.findIndex(({ from }) => from === word.from);
+  if (!instruction || operandsOfForm(instruction.form)[place] !== "c") return "";
+  const value = NUMBER.test(word.text) ? Number(word.text) : valueOf(word.text);
+  const words = value === undefined ? undefined : conditions.get(value);
+  return words && value !== undefined ? say.conditionIs(value, words) : "";
+}
+
+/** @param {Instruction} instruction */
+function rowOf(instruction) {
+  const { form, code, words, cycles } = instruction;
+  return asTable(say.HEAD_OF_INSTRUCTIONS, [[asCode(form), asCode(code), words, cycles, asMarkdown(doesOf(instruction))]]);
+}
+
+/**
+ * @param {string[]} lines
+ * @param {Position} position
+ * @param {Known} known
+ * @returns {Hover | null}
+ */
+export function hoverOfProgram(lines, { line, character }, known) {
+  const text = lines[line];
+  if (character > partsOf(text).comment) return null;
+  const words = helpForProgram(lines, line, character, known.instructions, known.meaningOf);
+  const word = wordAt(text, character);
+  const condition = word ? wordsOfCondition(text, word, known) : "";
+  const place = known.wordsOfLine(line + 1);
+  const instruction = word && known.instructions.get(word.text.toUpperCase());
+  const comment = word && !instruction ? commentOf(lines, word.text) : [];
+  const markdown = [
+    instruction ? rowOf(instruction) : asMarkdown(words), asMarkdown(condition), comment.length > 0 ? asBlock(comment) : "",
+    asMarkdown(place),
+  ].filter((each) => each !== "").join("\n\n");
+  const range = word && (words !== "" || condition !== "") ? { range: rangeOf(line + 1, word.from, word.to) } : {};
+  const plain = [words, condition, comment.join("\n"), place].filter((each) => each !== "");
+  return plain.length === 0 ? null : { words: plain.join("\n\n"), markdown, ...range };
+}

@@ -1,0 +1,52 @@
+// What an editor asks of a project file: its errors, and links to the files that it names.
+
+import { filesNamed } from "../project/project_toml.js";
+import { PARTS } from "../text/folding.js";
+import { faultsOfProject, folderOf, readProject, within } from "./kinds.js";
+import { rangeOf } from "./protocol.js";
+
+/**
+ * @typedef {import("./kinds.js").TextOf} TextOf
+ * @typedef {import("./language.js").DocumentLink} DocumentLink
+ * @typedef {import("./open_text.js").OpenText} OpenText
+ */
+
+const FILE = 1;
+
+export class ProjectLanguage {
+  /** @param {TextOf} textOf */
+  constructor(textOf) {
+    this.parts = PARTS.board;
+    this.textOf = textOf;
+  }
+
+  /** @param {OpenText} open */
+  async faults({ uri, text }) {
+    return { faults: faultsOfProject(uri, text, this.textOf), areAll: true };
+  }
+
+  /** @param {OpenText} open */
+  named({ text }) {
+    const { names } = readProject(text);
+    return names ? filesNamed(names) : [];
+  }
+
+  /** @param {OpenText} open */
+  symbols(open) {
+    return this.named(open).map(({ path, key, line, from, to }) => {
+      const range = rangeOf(line, from, to);
+      return { name: path, kind: FILE, detail: key, range, selectionRange: range };
+    });
+  }
+
+  /**
+   * The files that are there; a device or a link out of the folder is none.
+   * @param {OpenText} open
+   * @returns {DocumentLink[]}
+   */
+  links(open) {
+    const folder = folderOf(open.uri);
+    return this.named(open).filter(({ path }) => this.textOf(within(folder, path), folder) !== null).map(({ path, line, from, to }) => (
+      { range: rangeOf(line, from, to), target: within(folder, path), tooltip: path }));
+  }
+}

@@ -1,0 +1,116 @@
+// What an editor asks of a text of properties: read by the one reader of properties, with the names of the board and the program.
+
+import { readCampaign } from "../explore/campaign.js";
+import { subjectOf } from "../explore/subject.js";
+import { COLOURS } from "../text/test_colours.js";
+import { PARTS } from "../text/folding.js";
+import { completeProperty, helpForProperty, propertyForms } from "../text/property_words.js";
+import { BesideLanguage, faultInLine } from "./beside_language.js";
+import { folderOf, within } from "./kinds.js";
+import { rangeOf } from "./protocol.js";
+import { colouredWords } from "./token_codes.js";
+
+/**
+ * @typedef {import("./language.js").DocumentLink} DocumentLink
+ * @typedef {import("./open_text.js").OpenText} OpenText
+ * @typedef {import("./protocol.js").Position} Position
+ */
+
+const PROPERTY = 7;
+/** Lines that say what must hold. */
+const MUST_HOLD = /^(never|always|at|after|every|reach|model|while|once|@\S+|.*\bonly after)\b/;
+/** `from STATE of FILE`. */
+const OF_FILE = /^([ \t]*from[ \t]+\S+[ \t]+of[ \t]+)(\S.*)$/;
+
+export class PropertyLanguage extends BesideLanguage {
+  /**
+   * @param {import("../engine/engine_host.js").EngineHost} engine
+   * @param {import("../help/manual.js").ManualSection[]} manual
+   * @param {(uri: string) => import("./beside_language.js").BesideTexts} besideOf
+   * @param {(uri: string, folder: string) => string | null} textOf
+   */
+  constructor(engine, manual, besideOf, textOf) {
+    super(engine, besideOf);
+    this.parts = { ...PARTS.tests, head: /(?!)/ };
+    this.forms = propertyForms(manual);
+    this.textOf = textOf;
+  }
+
+  /** @param {OpenText} open */
+  async faults({ uri, lines, text }) {
+    const beside = this.besideOf(uri);
+    const hindrance = this.hindrance(beside);
+    if (hindrance) return { faults: [hindrance], areAll: true };
+    if (text.trim() === "") return { faults: [], areAll: true };
+    const { faults } = readCampaign(text, this.subject(beside.board.text || "", beside.program.text || ""));
+    return { faults: faults.map((fault) => faultInLine(lines, fault)), areAll: true };
+  }
+
+  /**
+   * Board and program, as a search has them.
+   * @param {string} boardText
+   * @param {string} programText
+   */
+  subject(boardText, programText) {
+    if (!this.known || this.known.boardText !== boardText || this.known.programText !== programText) {
+      this.known = { boardText, programText, subject: subjectOf(this.engine, boardText, programText) };
+    }
+    return this.known.subject;
+  }
+
+  /**
+   * @param {OpenText} open
+   * @param {Position} position
+   */
+  hover({ lines }, position) {
+    return this.helpAt(helpForProperty(lines, position.line, position.character, this.forms), lines, position);
+  }
+
+  /**
+   * @param {OpenText} open
+   * @param {Position} position
+   * @param {string} trigger
+   */
+  completion(open, { line, character }, trigger) {
+    if (trigger !== "" && open.lines[line].slice(0, character).trim() === "") return { from: character, to: character, list: [] };
+    return this.shown(completeProperty(open.lines, line, character, this.names(open), this.forms));
+  }
+
+  /**
+   * A label of the program.
+   * @param {OpenText} open
+   * @param {Position} position
+   */
+  definition(open, position) {
+    return this.labelAt(open, position);
+  }
+
+  /** @param {OpenText} open */
+  symbols({ lines }) {
+    return lines.flatMap((text, line) => {
+      if (!MUST_HOLD.test(text.trim())) return [];
+      const range = rangeOf(line + 1, text.length - text.trimStart().length, text.trimEnd().length);
+      return [{ name: text.trim(), kind: PROPERTY, detail: "", range, selectionRange: range }];
+    });
+  }
+
+  /** @param {OpenText} open */
+  colours({ lines }) {
+    return colouredWords(lines, COLOURS.properties);
+  }
+
+  /**
+   * @param {OpenText} open
+   * @returns {DocumentLink[]}
+   */
+  links({ uri, lines }) {
+    const folder = folderOf(uri);
+    return lines.flatMap((text, line) => {
+      const [, before, path] = OF_FILE.exec(text.trimEnd()) || [];
+      const isInside = path !== undefined && !path.startsWith("/") && !path.split("/").includes("..");
+      const target = isInside ? within(folder, path) : "";
+      if (target === "" || this.textOf(target, folder) === null) return [];
+      return [{ range: rangeOf(line + 1, before.length, before.length + path.length), target, tooltip: path }];
+    });
+  }
+}

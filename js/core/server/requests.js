@@ -1,0 +1,277 @@
+// The requests of editors, each by its method: what they ask is checked, asked of the language of the text, and put into the form of the
+// protocol.
+
+import { capabilitiesFor, clientOf, RUN_TEST } from "./capabilities.js";
+import { codeLensOf } from "./code_lens.js";
+import { cures } from "./diagnostics.js";
+import { foldsOf } from "./folding_ranges.js";
+import { fieldOf } from "./framing.js";
+import { INVALID_PARAMS, ProtocolError, needPosition, needRange, needText } from "./protocol.js";
+import { selectionAt } from "./selection_ranges.js";
+import { TokenMemory } from "./token_memory.js";
+import { workspaceSymbols } from "./workspace_symbols.js";
+import * as say from "../../words/server.js";
+
+/**
+ * @typedef {import("./connection.js").Act} Act
+ * @typedef {import("./language.js").Language} Language
+ * @typedef {import("./language.js").Routine} Routine
+ * @typedef {import("./language_server.js").LanguageServer} LanguageServer
+ * @typedef {import("./open_text.js").OpenText} OpenText
+ * @typedef {import("./protocol.js").Position} Position
+ */
+
+const FUNCTION = 12;
+const WHOLE = { start: { line: 0, character: 0 }, end: { line: Number.MAX_SAFE_INTEGER, character: 0 } };
+const LARGEST_TAB = 16;
+
+/**
+ * Returns how gaps are filled, as an editor asks for it.
+ * @param {any} options
+ */
+function layoutOf(options) {
+  const tabSize = fieldOf(options, "tabSize");
+  const isSize = Number.isInteger(tabSize) && tabSize >= 1 && tabSize <= LARGEST_TAB;
+  return { tabSize: isSize ? tabSize : 8, insertSpaces: fieldOf(options, "insertSpaces") !== false };
+}
+
+/**
+ * Returns a list of a request.
+ * @param {any} value
+ * @param {string} what
+ * @returns {any[]}
+ */
+function needList(value, what) {
+  if (!Array.isArray(value)) throw new ProtocolError(INVALID_PARAMS, say.isList(what));
+  return value;
+}
+
+export class Requests {
+  /** @param {LanguageServer} server */
+  constructor(server) {
+    this.server = server;
+    this.tokens = new TokenMemory();
+  }
+
+  /** @returns {Record<string, Act>} */
+  table() {
+    return { ...this.ofServer(), ...this.ofPlaces(), ...this.ofTexts(), ...this.ofCalls() };
+  }
+
+  // --- of the server
+
+  /** @returns {Record<string, Act>} */
+  ofServer() {
+    return {
+      "initialize": (params) => this.initialize(params),
+      "shutdown": () => null,
+      "workspace/symbol": (params) => workspaceSymbols(this.server, needText(fieldOf(params, "query"), "query")),
+      "workspace/executeCommand": (params) => this.execute(params),
+    };
+  }
+
+  /** @param {any} params */
+  initialize(params) {
+    this.server.client = clientOf(params);
+    return { capabilities: capabilitiesFor(this.server.client), serverInfo: { name: "mcs4 lsp" } };
+  }
+
+  /** @param {any} params */
+  execute(params) {
+    const command = needText(fieldOf(params, "command"), "command");
+    if (command !== RUN_TEST) throw new ProtocolError(INVALID_PARAMS, say.noCommand(command));
+    const [uri, test] = needList(fieldOf(params, "arguments"), "arguments");
+    return this.server.runTest(needText(uri, "arguments[0]"), needText(test, "arguments[1]"));
+  }
+
+  // --- of a text
+
+  /**
+   * @template Result
+   * @param {any} params
+   * @param {(language: Language, open: OpenText) => Result} ask
+   * @returns {Result | null} null for a text in another language
+   */
+  of(params, ask) {
+    const { open } = this.server.textIn(params);
+    const language = this.server.languageOf(open);
+    return language && ask(language, open);
+  }
+
+  /** @returns {Record<string, Act>} */
+  ofTexts() {
+    return {
+      "textDocument/documentSymbol": (params) => this.of(params, (language, open) => (language.symbols ? language.symbols(open) : [])),
+      "textDocument/codeAction": (params) => this.codeAction(params),
+      "textDocument/codeLens": (params) => this.of(params, (language, open) => (
+        (language.lenses ? language.lenses(open) : []).map((lens) => codeLensOf(lens, open.uri, this.server.client.commands)))),
+      "textDocument/formatting": (params) => this.format(params, WHOLE),
+      "textDocument/rangeFormatting": (params) => this.format(params, needRange(fieldOf(params, "range"))),
+      "textDocument/documentLink": (params) => this.of(params, (language, open) => (language.links ? language.links(open) : [])),
+      "textDocument/foldingRange": (params) => this.of(params, (language, open) => foldsOf(open.lines, language.parts)),
+      "textDocument/inlayHint": (params) => this.hints(params),
+      "textDocument/semanticTokens/full": (params) => this.colours(params, (open, words) => this.tokens.all(open, words)),
+      "textDocument/semanticTokens/full/delta": (params) => this.colours(params, (open, words) => (
+        this.tokens.since(open, words, fieldOf(params, "previousResultId")))),
+      "textDocument/semanticTokens/range": (params) => this.colours(params, (open, words) => (
+        this.tokens.within(words, needRange(fieldOf(params, "range"))))),
+      "textDocument/diagnostic": (params) => this.diagnostic(params),
+    };
+  }
+
+  /**
+   * @param {any} params
+   * @param {(open: OpenText, words: import("./token_codes.js").ColouredWord[]) => object} ask
+   */
+  colours(params, ask) {
+    return this.of(params, (language, open) => ask(open, language.colours ? language.colours(open) : []));
+  }
+
+  /**
+   * @param {any} params
+   * @param {import("./protocol.js").Range} range
+   */
+  format(params, range) {
+    const layout = layoutOf(fieldOf(params, "options"));
+    return this.of(params, (language, open) => (language.format ? language.format(open, range, layout) : null));
+  }
+
+  /** @param {any} params */
+  hints(params) {
+    const range = needRange(fieldOf(params, "range"));
+    return this.of(params, (language, open) => (language.hints ? language.hints(open, range) : []));
+  }
+
+  /** @param {any} params */
+  async codeAction(params) {
+    const text = this.server.textIn(params);
+    const range = needRange(fieldOf(params, "range"));
+    await this.server.untilLookedAt(text);
+    return cures(text.open.uri, text.faults, range);
+  }
+
+  /** @param {any} params */
+  async diagnostic(params) {
+    const text = this.server.textIn(params);
+    await this.server.untilLookedAt(text);
+    const resultId = JSON.stringify(text.diagnostics);
+    if (fieldOf(params, "previousResultId") === resultId) return { kind: "unchanged", resultId };
+    return { kind: "full", resultId, items: text.diagnostics };
+  }
+
+  // --- of a place in a text
+
+  /**
+   * @template Result
+   * @param {any} params
+   * @param {(language: Language, open: OpenText, position: Position) => Result} ask
+   */
+  at(params, ask) {
+    const position = needPosition(fieldOf(params, "position"));
+    return this.of(params, (language, open) => ask(language, open, open.inside(position)));
+  }
+
+  /** @returns {Record<string, Act>} */
+  ofPlaces() {
+    return {
+      "textDocument/hover": (params) => this.hover(params),
+      "textDocument/definition": (params) => this.at(params, (language, open, position) => {
+        const found = language.definition ? language.definition(open, position) : null;
+        return found && ("uri" in found ? found : { uri: open.uri, range: found });
+      }),
+      "textDocument/references": (params) => this.references(params),
+      "textDocument/documentHighlight": (params) => this.at(params, (language, open, position) => (
+        (language.references ? language.references(open, position, true) : []).map((range) => ({ range })))),
+      "textDocument/prepareRename": (params) => this.at(params, (language, open, position) => (
+        language.renamed ? language.renamed(open, position) : null)),
+      "textDocument/rename": (params) => this.rename(params),
+      "textDocument/completion": (params) => this.completion(params),
+      "textDocument/signatureHelp": (params) => this.at(params, (language, open, position) => (
+        language.signature ? language.signature(open, position) : null)),
+      "textDocument/selectionRange": (params) => this.selections(params),
+    };
+  }
+
+  /** @param {any} params */
+  hover(params) {
+    const found = this.at(params, (language, open, position) => (language.hover ? language.hover(open, position) : null));
+    if (!found) return null;
+    const { words, markdown, ...rest } = found;
+    const contents = this.server.client.showsMarkdown ? { kind: "markdown", value: markdown } : { kind: "plaintext", value: words };
+    return { contents, ...rest };
+  }
+
+  /** @param {any} params */
+  references(params) {
+    const withDefinition = fieldOf(fieldOf(params, "context"), "includeDeclaration") !== false;
+    return this.at(params, (language, open, position) => (
+      (language.references ? language.references(open, position, withDefinition) : []).map((range) => ({ uri: open.uri, range }))));
+  }
+
+  /** @param {any} params */
+  rename(params) {
+    const wanted = needText(fieldOf(params, "newName"), "newName");
+    return this.at(params, (language, open, position) => (
+      language.rename ? { changes: { [open.uri]: language.rename(open, position, wanted) } } : null));
+  }
+
+  /** @param {any} params */
+  completion(params) {
+    const trigger = String(fieldOf(fieldOf(params, "context"), "triggerCharacter") || "");
+    return this.at(params, (language, open, position) => {
+      if (!language.completion) return [];
+      const { from, to, list } = language.completion(open, position, trigger);
+      const range = { start: { ...position, character: from }, end: { ...position, character: to } };
+      return list.map(({ text, what, kind, documentation }) => (
+        { label: text.split("\n")[0], kind, ...(what ? { detail: what.trim() } : {}), ...(documentation ? { documentation } : {}),
+          textEdit: { range, newText: text } }));
+    });
+  }
+
+  /** @param {any} params */
+  selections(params) {
+    const positions = needList(fieldOf(params, "positions"), "positions").map(needPosition);
+    return this.of(params, (language, open) => positions.map((position) => {
+      const inside = open.inside(position);
+      return selectionAt(open.lines, inside, language.stretches ? language.stretches(open, inside) : [], language.parts);
+    }));
+  }
+
+  // --- of routines
+
+  /** @returns {Record<string, Act>} */
+  ofCalls() {
+    return {
+      "textDocument/prepareCallHierarchy": (params) => this.at(params, (language, open, position) => {
+        const routine = language.routine ? language.routine(open, position) : null;
+        return routine && [this.item(routine, open.uri)];
+      }),
+      "callHierarchy/incomingCalls": (params) => this.atItem(params, (language, open, position) => (
+        (language.callers ? language.callers(open, position) : []).map(({ routine, ranges }) => (
+          { from: this.item(routine, open.uri), fromRanges: ranges })))),
+      "callHierarchy/outgoingCalls": (params) => this.atItem(params, (language, open, position) => (
+        (language.called ? language.called(open, position) : []).map(({ routine, ranges }) => (
+          { to: this.item(routine, open.uri), fromRanges: ranges })))),
+    };
+  }
+
+  /**
+   * @param {Routine} routine
+   * @param {string} uri
+   */
+  item(routine, uri) {
+    return { ...routine, kind: FUNCTION, uri };
+  }
+
+  /**
+   * Asks about the routine of an item of a call hierarchy.
+   * @template Result
+   * @param {any} params
+   * @param {(language: Language, open: OpenText, position: Position) => Result} ask
+   */
+  atItem(params, ask) {
+    const item = fieldOf(params, "item");
+    const { start } = needRange(fieldOf(item, "selectionRange"));
+    return this.at({ textDocument: { uri: fieldOf(item, "uri") }, position: start }, ask);
+  }
+}

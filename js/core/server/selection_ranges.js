@@ -1,0 +1,65 @@
+// What a selection grows to, step by step: the word, larger stretches of its line, the line, the parts of the text that have it, all of it.
+
+import { wordAt } from "../text/assembly.js";
+import { foldsOf } from "./folding_ranges.js";
+
+/**
+ * @typedef {import("../text/folding.js").Parts} Parts
+ * @typedef {import("./protocol.js").Position} Position
+ * @typedef {import("./protocol.js").Range} Range
+ * @typedef {{ range: Range, parent?: SelectionRange }} SelectionRange
+ */
+
+/**
+ * Whether a range has all of another one, and more.
+ * @param {Range} outer
+ * @param {Range} inner
+ */
+function isLarger(outer, inner) {
+  const before = (/** @type {Position} */ one, /** @type {Position} */ other) => (
+    one.line < other.line || (one.line === other.line && one.character <= other.character));
+  const isSame = before(inner.start, outer.start) && before(outer.end, inner.end);
+  return before(outer.start, inner.start) && before(inner.end, outer.end) && !isSame;
+}
+
+/**
+ * Returns the parts of a text that have a line, the smallest first.
+ * @param {string[]} lines
+ * @param {number} line from 0
+ * @param {Parts} parts
+ * @returns {Range[]}
+ */
+function partsWith(lines, line, parts) {
+  const folds = foldsOf(lines, parts).filter(({ startLine, endLine }) => startLine <= line && line <= endLine);
+  const all = [...folds, { startLine: 0, endLine: lines.length - 1 }];
+  return all.sort((one, other) => one.endLine - one.startLine - other.endLine + other.startLine).map(({ startLine, endLine }) => (
+    { start: { line: startLine, character: 0 }, end: { line: endLine, character: lines[endLine].length } }));
+}
+
+/**
+ * Returns the ranges round a position, each one in the next.
+ * @param {string[]} lines
+ * @param {Position} position
+ * @param {[number, number][]} stretches of the line, which a language knows
+ * @param {Parts} parts
+ * @returns {SelectionRange}
+ */
+export function selectionAt(lines, { line, character }, stretches, parts) {
+  const text = lines[line];
+  const word = wordAt(text, character);
+  const inLine = [...(word ? [[word.from, word.to]] : []), ...stretches, [text.length - text.trimStart().length, text.trimEnd().length],
+    [0, text.length]];
+  const inside = inLine.filter(([from, to]) => from < to && from <= character && character <= to)
+    .sort((one, other) => one[1] - one[0] - other[1] + other[0])
+    .map(([from, to]) => ({ start: { line, character: from }, end: { line, character: to } }));
+  /** @type {Range[]} */
+  const rising = [];
+  for (const range of [...inside, ...partsWith(lines, line, parts)]) {
+    if (rising.length === 0 || isLarger(range, rising[rising.length - 1])) rising.push(range);
+  }
+  const [outermost, ...inner] = rising.reverse();
+  /** @type {SelectionRange} */
+  let selection = { range: outermost };
+  for (const range of inner) selection = { range, parent: selection };
+  return selection;
+}

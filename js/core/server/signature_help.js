@@ -1,0 +1,71 @@
+// The form of a statement while its operands are typed, and which one is next.
+
+import { partsOf } from "../text/assembly.js";
+import { operandsOfForm, wordsOfOperand } from "../text/program_words.js";
+import { wordsOfDirective, wordsOfInstruction } from "../text/text_help.js";
+
+/**
+ * @typedef {import("../help/manual.js").Instruction} Instruction
+ * @typedef {import("./language.js").Signature} Signature
+ * @typedef {import("./language.js").SignatureHelp} SignatureHelp
+ */
+
+/**
+ * Returns a form with the places of its operands.
+ * @param {string} label
+ * @param {string} documentation
+ * @param {{ operand: string, words: string }[]} operands
+ * @returns {Signature}
+ */
+function signatureOf(label, documentation, operands) {
+  let at = label.indexOf(" ");
+  const parameters = operands.map(({ operand, words }) => {
+    const from = label.indexOf(operand, at + 1);
+    at = from + operand.length;
+    return { label: /** @type {[number, number]} */ ([from, at]), documentation: words };
+  });
+  return { label, documentation, parameters };
+}
+
+/**
+ * Returns the signature of a directive, whose words begin with its form.
+ * @param {string} words
+ * @param {string} kind of its operands, as the manual's table has them
+ */
+function signatureOfDirective(words, kind) {
+  const form = words.split(":")[0];
+  return signatureOf(form, words, [{ operand: form.slice(form.indexOf(" ") + 1), words: wordsOfOperand(kind) }]);
+}
+
+/**
+ * Returns the signature of a statement; null for one without operands, and for another word.
+ * @param {string} head in upper case
+ * @param {Map<string, Instruction>} instructions
+ */
+function signatureOfHead(head, instructions) {
+  if (wordsOfDirective(head)) return signatureOfDirective(wordsOfDirective(head), head === "ORG" ? "t" : "b");
+  const instruction = instructions.get(head);
+  const kinds = instruction ? operandsOfForm(instruction.form) : [];
+  if (!instruction || kinds.length === 0) return null;
+  const operands = kinds.map((operand) => ({ operand, words: wordsOfOperand(operand) }));
+  return signatureOf(instruction.form, wordsOfInstruction(instruction), operands);
+}
+
+/**
+ * Returns the signature of the statement in a line up to a place, and which operand is at the place.
+ * @param {string} line
+ * @param {number} at
+ * @param {Map<string, Instruction>} instructions
+ * @returns {SignatureHelp | null}
+ */
+export function signatureAt(line, at, instructions) {
+  const before = line.slice(0, at);
+  const { head, comment } = partsOf(before);
+  if (!head || head.to === at || comment < before.length) return null;
+  const signature = signatureOfHead(head.text.toUpperCase(), instructions);
+  if (!signature) return null;
+  const commas = before.slice(head.to).split(",").length - 1;
+  const isList = head.text.toUpperCase() === "DB";
+  if (commas >= signature.parameters.length && !isList) return null;
+  return { signatures: [signature], activeSignature: 0, activeParameter: isList ? 0 : commas };
+}

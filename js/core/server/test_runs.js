@@ -1,0 +1,91 @@
+// Tests that an editor has run: one test, after those that save the states that it goes on from, on board and program as they are in the
+// editor.
+
+import { Cancelled } from "../bench/faults.js";
+import { runTests } from "../testing/testing.js";
+import { faultInLine, fileNameOf } from "./beside_language.js";
+import { CANCELLED, ProtocolError } from "./protocol.js";
+import { IT_WAS_CANCELLED } from "../../words/bench.js";
+import * as say from "../../words/server.js";
+
+/**
+ * @typedef {import("./beside_language.js").BesideTexts} BesideTexts
+ * @typedef {import("./diagnostics.js").ShownFault} ShownFault
+ * @typedef {import("./open_text.js").OpenText} OpenText
+ *
+ * What came of a test in words, whether it passed, and the line that failed with the address of its text, if one did.
+ * @typedef {{ words: string, hasPassed: boolean, failure: { uri: string, fault: ShownFault } | null }} Ran
+ */
+
+/**
+ * @param {string} words say why
+ * @returns {Ran}
+ */
+const notRun = (words) => ({ words, hasPassed: false, failure: null });
+
+export class TestRuns {
+  /**
+   * @param {import("../engine/engine_host.js").EngineHost} engine
+   * @param {(number: number) => string} wordsOf gives the words of a refusal
+   * @param {(uri: string) => BesideTexts} besideOf
+   * @param {() => Promise<void>} pause lets others have their turn
+   */
+  constructor(engine, wordsOf, besideOf, pause) {
+    this.engine = engine;
+    this.wordsOf = wordsOf;
+    this.besideOf = besideOf;
+    this.pause = pause;
+    /** How many runs have begun: a new one ends the one before it. */
+    this.begun = 0;
+  }
+
+  /**
+   * @param {OpenText} open
+   * @param {string} name of the test
+   * @returns {Promise<Ran>}
+   */
+  async run({ uri, lines, text }, name) {
+    this.begun += 1;
+    const { begun } = this;
+    const { board, program, tests } = this.besideOf(uri);
+    const lacking = [board, program].find((each) => each.text === null);
+    if (lacking) return notRun(say.noFileBeside(fileNameOf(lacking.uri)));
+    const sources = tests.map((each) => ({ name: each.uri, text: each.uri === uri ? text : each.text || "" }));
+    const goesOn = async () => {
+      await this.pause();
+      return begun === this.begun;
+    };
+    const texts = { boardText: board.text || "", programText: program.text || "", sources };
+    const { faults, outcomes } = await this.outcomesOf(texts, goesOn, { name, source: uri });
+    if (faults.length > 0) return notRun(this.wordsOfFault(faults[0], { board, program, tests }));
+    const failed = outcomes.find(({ failure }) => failure !== null);
+    if (outcomes.length === 0) return notRun(say.noTest(name));
+    if (!failed || !failed.failure) return { words: say.testPassed(name), hasPassed: true, failure: null };
+    const { source, line, words } = failed.failure;
+    const shown = say.testFailed(failed.name, line, words);
+    return { words: shown, hasPassed: false, failure: { uri: source, fault: faultInLine(lines, { line, column: -1, words: shown }) } };
+  }
+
+  /**
+   * Runs one test; a run that another one ends is a cancelled request.
+   * @param {import("../testing/testing.js").TestedTexts} texts
+   * @param {() => Promise<boolean>} goesOn
+   * @param {{ name: string, source: string }} only
+   */
+  async outcomesOf(texts, goesOn, only) {
+    try {
+      return await runTests(this.engine, texts, goesOn, { only });
+    } catch (thrown) {
+      throw thrown instanceof Cancelled ? new ProtocolError(CANCELLED, IT_WAS_CANCELLED) : thrown;
+    }
+  }
+
+  /**
+   * @param {import("../testing/prepared.js").TextFault} fault
+   * @param {BesideTexts} beside
+   */
+  wordsOfFault({ text, file = "", line, number, words }, { board, program }) {
+    const name = text === "board" ? board.uri : text === "program" ? program.uri : file;
+    return say.notRun(fileNameOf(name), line, words || this.wordsOf(number));
+  }
+}

@@ -1,0 +1,97 @@
+// A project as the files of a folder, which other programs edit, and the texts of such files as parts of a project.
+
+import { breakpointOfLine, linesOfBreakpoints } from "../debug/breakpoint_lines.js";
+import { MOST_BREAKPOINTS } from "../debug/breakpoints.js";
+import { NotAProject } from "./project_file.js";
+import * as say from "../../words/session.js";
+
+/**
+ * @typedef {import("../debug/breakpoints.js").KeptBreakpoint} KeptBreakpoint
+ * @typedef {import("./project_file.js").Project} Project
+ *
+ * A file of the folder; it has a text, or bytes.
+ * @typedef {{ name: string, content: string | Uint8Array }} ProjectPart
+ */
+
+/** The names of the files. Without a project file, those of texts are read. */
+export const PART_NAMES = {
+  project: "mcs4.toml", board: "board.toml", program: "program.asm", tests: "program.test", properties: "program.props",
+  breakpoints: "breakpoints", values: "values", session: "session.mcs", name: "name",
+};
+
+/** @param {string[]} lines */
+function textOfLines(lines) {
+  return lines.map((line) => `${line}\n`).join("");
+}
+
+/**
+ * Returns the project file of such a folder.
+ * @param {Project} project
+ */
+function projectFileOf({ testText, propertiesText }) {
+  const { board, program, tests, properties } = PART_NAMES;
+  const values = {
+    board, program, ...(testText ? { tests: [tests] } : {}), ...(propertiesText ? { properties: [properties] } : {}),
+  };
+  return textOfLines([say.ABOUT_PROJECT_FILE, ...Object.entries(values).map(([key, value]) => [key, JSON.stringify(value)].join(" = "))]);
+}
+
+/**
+ * Returns the files of a project; those that would be empty are left out, but for the board and the program.
+ * @param {Project} project
+ * @returns {ProjectPart[]}
+ */
+export function partsOfProject(project) {
+  const { name, boardText, programText, testText = "", propertiesText = "", breakpoints = [], watched = [], file } = project;
+  const texts = [
+    { name: PART_NAMES.tests, content: testText },
+    { name: PART_NAMES.properties, content: propertiesText },
+    { name: PART_NAMES.breakpoints, content: textOfLines(linesOfBreakpoints(breakpoints)) },
+    { name: PART_NAMES.values, content: textOfLines(watched) },
+  ];
+  return [
+    { name: PART_NAMES.project, content: projectFileOf(project) },
+    { name: PART_NAMES.board, content: boardText },
+    { name: PART_NAMES.program, content: programText },
+    ...texts.filter(({ content }) => content !== ""),
+    { name: PART_NAMES.session, content: file },
+    { name: PART_NAMES.name, content: `${name || say.UNNAMED}\n` },
+  ];
+}
+
+/**
+ * Returns the lines of a text that has one thing on each line.
+ * @param {string} text
+ */
+function linesIn(text) {
+  const lines = text.split("\n").map((line) => line.replace(/\r$/, ""));
+  if (lines[lines.length - 1] === "") lines.pop();
+  return lines;
+}
+
+/**
+ * Reads a text of breakpoints; a line that is none is an error.
+ * @param {string} text
+ * @returns {KeptBreakpoint[]}
+ */
+export function breakpointsIn(text) {
+  const breakpoints = linesIn(text).map((line, at) => {
+    const breakpoint = breakpointOfLine(line);
+    if (!breakpoint) throw new NotAProject(say.noBreakpoint(at + 1));
+    return breakpoint;
+  });
+  const { length } = breakpoints;
+  if (length > MOST_BREAKPOINTS) throw new NotAProject(say.tooManyBreakpoints(length, MOST_BREAKPOINTS));
+  return breakpoints;
+}
+
+/**
+ * Reads a text of values; an empty line is an error.
+ * @param {string} text
+ */
+export function valuesIn(text) {
+  const values = linesIn(text);
+  const empty = values.findIndex((line) => line.trim() === "");
+  if (empty >= 0) throw new NotAProject(say.emptyValue(empty + 1));
+  return values;
+}

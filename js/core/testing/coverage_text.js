@@ -1,0 +1,80 @@
+// Coverage for a terminal, the source with the counts of its lines, and for other programs, LCOV's format.
+
+import { wordsOfCoverage } from "./coverage.js";
+import * as say from "../../words/testing.js";
+
+/**
+ * @typedef {import("./coverage.js").Coverage} Coverage
+ * @typedef {import("./coverage.js").Covered} Covered
+ *
+ * The text of a program, and how many lines of its file stand before it.
+ * @typedef {{ text: string, before: number }} ProgramText
+ */
+
+const TAB = 8;
+const COUNT_WIDTH = 10;
+const WAYS_WIDTH = 13;
+
+/**
+ * Returns a line with blanks in the place of tabs.
+ * @param {string} text
+ */
+function expanded(text) {
+  let line = "";
+  for (const letter of text) line = letter === "\t" ? line.padEnd(line.length + TAB - (line.length % TAB)) : line + letter;
+  return line;
+}
+
+/** @type {(jump: Covered) => boolean} whether a conditional jump was run, and went one way each time */
+const isOneWay = ({ isJump, count, taken }) => isJump && count > 0 && (taken === 0 || taken === count);
+
+/**
+ * Returns a line of the report.
+ * @param {string} source
+ * @param {Covered | undefined} covered undefined for a line without an instruction
+ */
+function rowOf(source, covered) {
+  const count = covered ? covered.count || say.NEVER : "";
+  const ways = covered && covered.isJump ? `${covered.taken}/${covered.count - covered.taken}` : "";
+  return `${String(count).padStart(COUNT_WIDTH)} ${ways.padEnd(WAYS_WIDTH)}  ${expanded(source)}`.replace(/ +$/, "");
+}
+
+/**
+ * Returns the source with its counts, then a summary, the lines that were never run, and the jumps that went one way each time.
+ * @param {Coverage} coverage
+ * @param {ProgramText} program
+ */
+export function coverageText(coverage, { text, before }) {
+  const covered = new Map(coverage.lines.map((each) => [each.line, each]));
+  const rows = text.replace(/\n$/, "").split("\n").map((source, at) => rowOf(source, covered.get(at + 1)));
+  const never = coverage.never.map(({ from, to }) => (from === to ? `${from + before}` : say.fromTo(from + before, to + before)));
+  const oneWay = coverage.lines.filter(isOneWay).map(({ line, taken }) => say.wayOf(line + before, taken > 0));
+  const ends = [
+    "", wordsOfCoverage(coverage),
+    ...(never.length > 0 ? [say.neverRun(never.join(", "), never.length > 1 || never[0].includes(" "))] : []),
+    ...(oneWay.length > 0 ? [say.oneWayAlone(oneWay.join(", "), oneWay.length > 1)] : []),
+  ];
+  return `${[...rows, ...ends].join("\n")}\n`;
+}
+
+/** @type {(name: string, values: (string | number)[]) => string} */
+const record = (name, values) => `${name}:${values.join(",")}`;
+
+/**
+ * Returns the coverage in LCOV's format; its functions are the labels that a JMS goes to.
+ * @param {Coverage} coverage
+ * @param {{ name: string, before: number }} program its file, and how many lines of it stand before the text
+ */
+export function lcovOf({ lines, subroutines, instructions, run, ways, waysRun }, { name, before }) {
+  const branches = lines.filter(({ isJump }) => isJump).flatMap(({ line, count, taken }) => (
+    [taken, count - taken].map((times, way) => record("BRDA", [line + before, 0, way, count > 0 ? times : "-"]))));
+  return `${[
+    "TN:", `SF:${name}`,
+    ...subroutines.map(({ line, label }) => record("FN", [line + before, label])),
+    ...subroutines.map(({ count, label }) => record("FNDA", [count, label])),
+    record("FNF", [subroutines.length]), record("FNH", [subroutines.filter(({ count }) => count > 0).length]),
+    ...branches, record("BRF", [ways]), record("BRH", [waysRun]),
+    ...lines.map(({ line, count }) => record("DA", [line + before, count])),
+    record("LF", [instructions]), record("LH", [run]), "end_of_record",
+  ].join("\n")}\n`;
+}

@@ -1,0 +1,36 @@
+// Lines that press keys of a board by their names, one after the other.
+
+import { SEEN_QUESTION, hasScannedDisplay } from "../engine/seen_text.js";
+import { keysOf } from "./test_text.js";
+
+/**
+ * @typedef {import("../board/face.js").Face} Face
+ *
+ * How long each key is down, and how long it is up behind that, in cycles.
+ * @typedef {{ down: number, up: number }} Pace
+ *
+ * The lines, the last of which asks what the lamps show; or the first name that no key has.
+ * @typedef {{ lines: string[], unknown: string | null }} PressLines
+ */
+
+/** The same as 43 ms and 173 ms: programs that poll their keys see each of them. */
+export const USUAL_PACE = { down: 4000, up: 16000 };
+
+/**
+ * Returns lines for keys. A word that is no name is taken letter by letter.
+ * @param {Face} face
+ * @param {string} text names with blanks between them
+ * @param {Pace} pace
+ * @returns {PressLines}
+ */
+export function pressLines(face, text, { down, up }) {
+  const keys = keysOf(face);
+  const names = text.split(/[ \t\n]+/).filter((word) => word !== "").flatMap((word) => (keys.has(word) ? [word] : [...word]));
+  const unknown = names.find((name) => !keys.has(name));
+  if (unknown !== undefined) return { lines: [], unknown };
+  const lines = names.flatMap((name) => {
+    const { press, release } = /** @type {import("./test_text.js").Key} */ (keys.get(name));
+    return [press, `run ${down}`, release, `run ${up}`];
+  });
+  return { lines: [...lines, hasScannedDisplay(face) ? SEEN_QUESTION.trim() : "lamps"], unknown: null };
+}

@@ -1,0 +1,57 @@
+// A profile as a table for a terminal: a row for each label, and one for each key that was pressed.
+
+import { hex, withTenths } from "../bench/numbers.js";
+import { CYCLE_TIME } from "../time/cycles.js";
+import * as say from "../../words/testing.js";
+
+/**
+ * @typedef {import("./profile.js").Profile} Profile
+ * @typedef {import("./profile.js").ProfileRow} ProfileRow
+ */
+
+const LABEL_WIDTH = 17;
+/** A label with its address. */
+const PLACE_WIDTH = 22;
+
+/** @type {(value: string | number, width: number) => string} */
+const right = (value, width) => String(value).padStart(width);
+
+/** @param {number} cycles */
+const milliseconds = (cycles) => say.inMilliseconds(withTenths(cycles * CYCLE_TIME));
+
+/** @type {(own: number, total: number) => string} */
+const share = (own, total) => `${right(own, 10)} ${right(withTenths((100 * own) / total), 6)}`;
+
+/**
+ * Returns the row of a label.
+ * @param {ProfileRow} row
+ * @param {number} total
+ */
+function rowOf({ label, address, own, calls }, total) {
+  const place = `${(label || say.NO_LABEL).padEnd(LABEL_WIDTH)} ${(address < 0 ? "" : hex(address, 3)).padEnd(4)}`;
+  const called = calls && calls.times > 0 ? ` ${right(calls.times, 9)} ${right(calls.withCalls, 10)} ${right(calls.longest, 10)}` : "";
+  return `${place} ${share(own, total)}${called}`;
+}
+
+/**
+ * Returns the row of a key.
+ * @param {Profile["keys"][number]} times
+ */
+function keyRow({ key, presses, answered, first, last }) {
+  const times = [first, last].map((cycles) => ` ${right(cycles, 10)}, ${right(milliseconds(cycles), 12)}`).join("");
+  return `${key.padEnd(LABEL_WIDTH)} ${right(presses, 9)} ${right(answered, 9)}${answered > 0 ? times : ""}`;
+}
+
+/** @param {Profile} profile */
+export function profileText({ total, rows, begunBefore, keys }) {
+  const [label, at, own, percent, calls, withCalls, longest] = say.PROFILE_HEAD;
+  const head = [label.padEnd(LABEL_WIDTH), at.padEnd(4), right(own, 10), right(percent, 6), right(calls, 9), right(withCalls, 10),
+    right(longest, 10)].join(" ");
+  const [key, presses, answered, first, last] = say.KEYS_HEAD;
+  const keysHead = `${key.padEnd(LABEL_WIDTH)} ${right(presses, 9)} ${right(answered, 9)} ${right(first, 24)} ${right(last, 24)}`;
+  return `${[
+    say.cyclesInTime(total, milliseconds(total)), "", head, ...rows.map((row) => rowOf(row, total)),
+    ...(begunBefore > 0 ? [`${say.BEGUN_BEFORE.padEnd(PLACE_WIDTH)} ${share(begunBefore, total)}`] : []),
+    ...(keys.length > 0 ? ["", keysHead, ...keys.map(keyRow)] : []),
+  ].join("\n")}\n`;
+}

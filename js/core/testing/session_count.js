@@ -1,0 +1,44 @@
+// Counts the next cycles of a session: which lines of its program are run, and where the cycles go.
+
+import { romCodes } from "../engine/rom_codes.js";
+import { sessionProgram } from "../engine/session_program.js";
+import { withoutStops } from "../engine/wave_recorder.js";
+import { Account } from "./account.js";
+import { coverageOf } from "./coverage.js";
+import { profileOf } from "./profile.js";
+import { TestSession } from "./test_session.js";
+
+/**
+ * @typedef {import("../engine/engine_host.js").EngineHost} EngineHost
+ * @typedef {import("../engine/engine_host.js").State} State
+ * @typedef {import("../engine/session_program.js").OtherByte} OtherByte
+ * @typedef {import("./coverage.js").Coverage} Coverage
+ * @typedef {import("./prepared.js").TextFault} TextFault
+ * @typedef {import("./profile.js").Profile} Profile
+ *
+ * What the cycles were, after how many of them the session stopped, and why ("end" where nothing stopped it).
+ * @typedef {{ coverage: Coverage, profile: Profile, elapsed: number, stop: string }} Counted
+ * @typedef {{ faults: TextFault[], other: OtherByte | null, counted: Counted | null }} SessionCount without `counted` nothing was run
+ */
+
+/**
+ * Counts the cycles that come next on a session; the state stays as it is. Breakpoints and watches do not matter.
+ * @param {EngineHost} engine
+ * @param {State} state
+ * @param {string} programText
+ * @param {number} cycles
+ * @param {typeof Account} [Counting]
+ * @returns {Promise<SessionCount>}
+ */
+export async function countSession(engine, state, programText, cycles, Counting = Account) {
+  const begun = withoutStops(engine, state);
+  const codes = romCodes(engine, begun);
+  const { faults, other, map } = sessionProgram(engine, codes, programText);
+  if (faults.length > 0 || other) return { faults, other, counted: null };
+  const account = new Counting(codes);
+  const session = new TestSession(engine, begun, account, async () => {});
+  const stop = await session.run(cycles);
+  session.end();
+  const { elapsed } = session;
+  return { faults: [], other, counted: { coverage: coverageOf(account, map), profile: profileOf(account, map), elapsed, stop } };
+}

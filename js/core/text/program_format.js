@@ -1,0 +1,164 @@
+// The layout of a program's text: labels at the margin, then columns of instructions, operands and comments. Only blanks change, in lines
+// whose form is right, so each line keeps its words, and the program its bytes.
+
+import { LONGEST_LINE } from "../bench/inputs.js";
+import { LONGEST_KEPT, LONGEST_TEXT, bare, sentText } from "./text_fault.js";
+import * as say from "../../words/text.js";
+
+/**
+ * How a gap is filled: by blanks, or by tabs as far as they go, with a stop at each multiple of `tabSize`.
+ * @typedef {{ tabSize: number, insertSpaces: boolean }} Layout
+ *
+ * A line, cut: the name that it defines by `=` with its value, or a label and a statement; "" for what it lacks.
+ * @typedef {{ name: string, value: string, label: string, head: string, operands: string, comment: string, indent: number }} CutLine
+ *
+ * The place of a new text in a line, from 0.
+ * @typedef {{ line: number, from: number, to: number, text: string }} Change
+ */
+
+const STATEMENT = 8;
+const OPERANDS = 12;
+const COMMENT = 24;
+/** A comment that has no room in its column begins at the next multiple of this. */
+const STEP = 8;
+/** A comment without code that is indented by less belongs to the statements, else to the comments. */
+const HALF = 16;
+const DEFINITION = /^([A-Za-z_]\w*)[ \t]*=[ \t]*(\w+)$/;
+const CODE = /^(?:([A-Za-z_]\w*)[ \t]*:[ \t]*)?(?:([A-Za-z]\w*)(?:[ \t]+(\w+(?:[ \t]*,[ \t]*\w+)*))?)?$/;
+
+/**
+ * Returns the column that a text ends at.
+ * @param {string} text
+ * @param {number} column of its beginning
+ * @param {Layout} layout
+ */
+function columnAfter(text, column, { tabSize }) {
+  let at = column;
+  for (const letter of text) at = letter === "\t" ? (Math.floor(at / tabSize) + 1) * tabSize : at + 1;
+  return at;
+}
+
+/**
+ * Returns the gap between two columns.
+ * @param {number} from
+ * @param {number} to
+ * @param {Layout} layout
+ */
+function gap(from, to, { tabSize, insertSpaces }) {
+  if (insertSpaces || to - from < 2) return " ".repeat(to - from);
+  const lastStop = Math.floor(to / tabSize);
+  const tabs = Math.max(0, lastStop - Math.floor(from / tabSize));
+  return "\t".repeat(tabs) + " ".repeat(to - (tabs > 0 ? lastStop * tabSize : from));
+}
+
+/**
+ * Cuts a line; null if its form is not right.
+ * @param {string} line
+ * @param {(word: string) => boolean} isHead whether a statement can begin with a word in upper case
+ * @param {Layout} layout
+ * @returns {CutLine | null}
+ */
+function cut(line, isHead, layout) {
+  const mark = line.indexOf(";");
+  const code = bare(mark < 0 ? line : line.slice(0, mark));
+  const none = { name: "", value: "", label: "", head: "", operands: "" };
+  const rest = { comment: mark < 0 ? "" : bare(line.slice(mark)), indent: mark < 0 ? 0 : columnAfter(line.slice(0, mark), 0, layout) };
+  const definition = DEFINITION.exec(code);
+  if (definition) return { ...none, ...rest, name: definition[1], value: definition[2] };
+  const found = CODE.exec(code);
+  if (!found || (found[2] && !isHead(found[2].toUpperCase()))) return null;
+  const operands = (found[3] || "").split(",").map(bare).join(", ");
+  return { ...none, ...rest, label: found[1] || "", head: found[2] || "", operands };
+}
+
+/**
+ * Returns the length of the longest name among the definitions that follow each other with each line; 0 for any other line.
+ * @param {(CutLine | null)[]} lines
+ */
+function widthsOf(lines) {
+  const widths = lines.map((each) => (each ? each.name.length : 0));
+  for (let at = 1; at < widths.length; at++) if (widths[at] > 0) widths[at] = Math.max(widths[at], widths[at - 1]);
+  for (let at = widths.length - 2; at >= 0; at--) if (widths[at] > 0) widths[at] = Math.max(widths[at], widths[at + 1]);
+  return widths;
+}
+
+/**
+ * Returns the code of a line in its columns.
+ * @param {CutLine} line
+ * @param {number} width of the names of its definitions
+ * @param {Layout} layout
+ */
+function codeOf({ name, value, label, head, operands }, width, layout) {
+  if (name) return `${name}${gap(name.length, width + 1, layout)}= ${value}`;
+  let code = label && `${label}:`;
+  const add = (/** @type {string} */ word, /** @type {number} */ column) => {
+    const end = columnAfter(code, 0, layout);
+    code += gap(end, end < column ? column : end + (code ? 1 : 0), layout) + word;
+  };
+  if (head) add(head, STATEMENT);
+  if (operands) add(operands, OPERANDS);
+  return code;
+}
+
+/**
+ * Returns the column of a comment.
+ * @param {number} end of the code before it, 0 for none
+ * @param {number} indent of the comment as it is
+ * @param {number} last column of the comment in the line before, 0 if that begins in no column of comments
+ */
+function columnOfComment(end, indent, last) {
+  if (end > 0) return Math.max(COMMENT, Math.ceil((end + 2) / STEP) * STEP);
+  if (indent === 0) return 0;
+  return indent < HALF ? STATEMENT : last || COMMENT;
+}
+
+/**
+ * Returns the lines of a program in their columns.
+ * @param {string[]} lines
+ * @param {(word: string) => boolean} isHead whether a statement can begin with a word in upper case
+ * @param {Layout} layout
+ * @returns {string[]}
+ */
+export function formattedLines(lines, isHead, layout) {
+  const all = lines.map((line) => cut(line, isHead, layout));
+  const widths = widthsOf(all);
+  let last = 0;
+  return all.map((line, at) => {
+    const code = line ? codeOf(line, widths[at], layout) : "";
+    const end = columnAfter(code, 0, layout);
+    const column = line && line.comment ? columnOfComment(end, line.indent, last) : 0;
+    last = column >= COMMENT ? column : 0;
+    // A line is sent whole, and must not become too long for that.
+    if (!line || code.length > LONGEST_LINE) return lines[at];
+    return line.comment ? code + gap(end, column, layout) + line.comment : code;
+  });
+}
+
+/**
+ * Returns why a text in its columns would not be accepted; "" if it would.
+ * @param {string[]} lines
+ */
+export function faultOfLayout(lines) {
+  const text = lines.join("\n");
+  const sent = sentText(text, ";").length;
+  if (sent > LONGEST_TEXT) return say.layoutTooLong(LONGEST_TEXT.toLocaleString("en"), sent.toLocaleString("en"));
+  return text.length > LONGEST_KEPT ? say.layoutTooLong(LONGEST_KEPT.toLocaleString("en"), text.length.toLocaleString("en")) : "";
+}
+
+/**
+ * Returns what changes from some lines to others, a change for each line that differs: the characters between those that stay.
+ * @param {string[]} before
+ * @param {string[]} after as many lines
+ * @returns {Change[]}
+ */
+export function changesOf(before, after) {
+  return before.flatMap((old, line) => {
+    const text = after[line];
+    if (old === text) return [];
+    const least = Math.min(old.length, text.length);
+    let [from, behind] = [0, 0];
+    while (from < least && old[from] === text[from]) from += 1;
+    while (behind < least - from && old[old.length - 1 - behind] === text[text.length - 1 - behind]) behind += 1;
+    return [{ line, from, to: old.length - behind, text: text.slice(from, text.length - behind) }];
+  });
+}

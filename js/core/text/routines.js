@@ -1,0 +1,206 @@
+// The routines of a program: which lines each one can come to, which routines it calls by JMS, and from where it is called. The first
+// statement begins one, and so does each label that a JMS names. A way ends at BBL, at JIN (where it leads to is not in the text), at data
+// and at ORG.
+
+import { namesOf, partsOf } from "./assembly.js";
+
+/**
+ * A routine, by the label that begins it ("" for none), with its first and last line, from 0; the last one is that up to which it goes on
+ * without a line of another one.
+ * @typedef {{ name: string, line: number, from: number, to: number, last: number }} Routine `from` and `to` are the characters of its label
+ *
+ * A statement: its word in upper case, and the line that its target begins at, -1 for none.
+ * @typedef {{ head: string, target: number }} Statement
+ *
+ * The place of the target in a line that calls.
+ * @typedef {{ line: number, from: number, to: number }} CallPlace
+ */
+
+const ENDS = new Set(["BBL", "JIN", "JUN", "DB", "ORG"]);
+const JUMPS = new Set(["JUN", "JCN", "ISZ"]);
+
+export class Routines {
+  /** @param {string[]} lines */
+  constructor(lines) {
+    this.parts = lines.map(partsOf);
+    this.names = namesOf(lines);
+    this.statements = this.parts.map((parts) => this.statementOf(parts));
+    /** @type {Map<number, Set<number>>} what each routine comes to, by its first line */
+    this.reached = new Map();
+    this.routines = this.findRoutines();
+  }
+
+  /**
+   * @param {import("./assembly.js").Parts} parts
+   * @returns {Statement | null}
+   */
+  statementOf({ head, operands }) {
+    if (!head) return null;
+    const last = operands[operands.length - 1];
+    const line = last ? this.names.get(last.text) : undefined;
+    return { head: head.text.toUpperCase(), target: line === undefined || this.parts[line - 1].defines ? -1 : line - 1 };
+  }
+
+  /** @returns {Routine[]} by their lines */
+  findRoutines() {
+    const first = this.statements.findIndex((statement) => statement !== null && statement.head !== "ORG");
+    const called = this.statements.map((statement) => (statement && statement.head === "JMS" ? statement.target : -1));
+    const begins = new Set([first, ...called].filter((line) => line >= 0));
+    return [...begins].sort((one, other) => one - other).map((line) => {
+      const { label, head } = this.parts[line];
+      const { from, to } = label || head || { from: 0, to: 0 };
+      return { name: label ? label.text : "", line, from, to, last: this.lastOf(line) };
+    });
+  }
+
+  /**
+   * Returns the line of the next statement; -1 if there is none.
+   * @param {number} line
+   */
+  statementFrom(line) {
+    for (let at = line; at < this.statements.length; at++) if (this.statements[at]) return at;
+    return -1;
+  }
+
+  /**
+   * Returns the lines of the statements that can come after one.
+   * @param {number} line
+   */
+  after(line) {
+    const { head, target } = /** @type {Statement} */ (this.statements[line]);
+    const next = ENDS.has(head) ? [] : [this.statementFrom(line + 1)];
+    return JUMPS.has(head) && target >= 0 ? [...next, this.statementFrom(target)] : next;
+  }
+
+  /**
+   * Returns the lines of the statements that a routine comes to.
+   * @param {number} begin its line
+   * @returns {Set<number>}
+   */
+  linesOf(begin) {
+    const known = this.reached.get(begin);
+    if (known) return known;
+    const reached = new Set();
+    const waiting = [this.statementFrom(begin)];
+    while (waiting.length > 0) {
+      const line = /** @type {number} */ (waiting.pop());
+      if (line < 0 || reached.has(line)) continue;
+      reached.add(line);
+      waiting.push(...this.after(line));
+    }
+    this.reached.set(begin, reached);
+    return reached;
+  }
+
+  /**
+   * Returns the last line up to which all statements are of one routine.
+   * @param {number} begin its line
+   */
+  lastOf(begin) {
+    const reached = this.linesOf(begin);
+    let last = begin;
+    for (let at = this.statementFrom(begin); at >= 0 && reached.has(at); at = this.statementFrom(at + 1)) last = at;
+    return last;
+  }
+
+  /**
+   * Returns the routine that a line begins, or one that comes to it; null if none does.
+   * @param {number} line
+   */
+  routineAt(line) {
+    const own = this.routines.find((each) => each.line === line);
+    const inside = this.routines.filter((each) => this.linesOf(each.line).has(line));
+    // The nearest one above it, if it is one of several.
+    return own || inside.filter((each) => each.line <= line).pop() || inside[0] || null;
+  }
+
+  /**
+   * Returns the routine that a label begins, whether it is called or not.
+   * @param {string} name
+   * @returns {Routine | null}
+   */
+  routineOf(name) {
+    const line = (this.names.get(name) || 0) - 1;
+    const { label, defines } = this.parts[line] || { label: null, defines: true };
+    if (!label || defines) return null;
+    return this.routines.find((each) => each.line === line) || { name, line, from: label.from, to: label.to, last: this.lastOf(line) };
+  }
+
+  /**
+   * Returns the JMS of some lines.
+   * @param {Iterable<number>} lines
+   */
+  callsIn(lines) {
+    return [...lines].filter((line) => this.isCall(line)).sort((one, other) => one - other).map((line) => {
+      const { operands, head } = this.parts[line];
+      const { from, to } = operands[operands.length - 1] || head || { from: 0, to: 0 };
+      return { line, from, to, target: /** @type {Statement} */ (this.statements[line]).target };
+    });
+  }
+
+  /** @param {number} line */
+  isCall(line) {
+    const statement = this.statements[line];
+    return Boolean(statement && statement.head === "JMS" && statement.target >= 0);
+  }
+
+  /**
+   * Returns the routines that a routine calls, each with the places of the calls.
+   * @param {Routine} routine
+   * @returns {{ routine: Routine, places: CallPlace[] }[]}
+   */
+  called(routine) {
+    const calls = this.callsIn(this.linesOf(routine.line));
+    return this.routines.map((each) => ({ routine: each, places: calls.filter(({ target }) => target === each.line) }))
+      .filter(({ places }) => places.length > 0);
+  }
+
+  /**
+   * Returns the routine that a call is in: each one that comes to it, else that of the nearest label above it.
+   * @param {number} line
+   * @returns {Routine[]}
+   */
+  routinesWith(line) {
+    const inside = this.routines.filter((each) => this.linesOf(each.line).has(line));
+    if (inside.length > 0) return inside;
+    const above = [...this.names].filter(([, at]) => at - 1 <= line && !this.parts[at - 1].defines).pop();
+    const routine = above ? this.routineOf(above[0]) : null;
+    return routine ? [routine] : [];
+  }
+
+  /**
+   * Returns the routines that call a routine, each with the places of the calls.
+   * @param {Routine} routine
+   * @returns {{ routine: Routine, places: CallPlace[] }[]}
+   */
+  callers({ line: callee }) {
+    /** @type {Map<number, { routine: Routine, places: CallPlace[] }>} */
+    const found = new Map();
+    for (const call of this.callsIn(this.statements.keys())) {
+      if (call.target !== callee) continue;
+      for (const routine of this.routinesWith(call.line)) {
+        const known = found.get(routine.line) || { routine, places: [] };
+        known.places.push(call);
+        found.set(routine.line, known);
+      }
+    }
+    return [...found.values()].sort((one, other) => one.routine.line - other.routine.line);
+  }
+
+  /**
+   * Returns how often each label is called, and how often it is named otherwise.
+   * @returns {Map<string, { calls: number, others: number }>}
+   */
+  uses() {
+    const labels = [...this.names].filter(([, line]) => !this.parts[line - 1].defines);
+    const uses = new Map(labels.map(([name]) => [name, { calls: 0, others: 0 }]));
+    this.parts.forEach(({ operands }, line) => {
+      for (const { text } of operands) {
+        const use = uses.get(text);
+        if (use && this.isCall(line)) use.calls += 1;
+        else if (use) use.others += 1;
+      }
+    });
+    return uses;
+  }
+}

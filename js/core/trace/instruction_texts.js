@@ -1,0 +1,144 @@
+// The lines of a trace for an instruction, up to what it does: its label, the cycles before it, its address, bytes and text.
+
+import { hex } from "../bench/numbers.js";
+import { ADDRESSES } from "../bench/rom_bytes.js";
+import { linesOf } from "../bench/inputs.js";
+import { wordsOf } from "../engine/rom_codes.js";
+
+/**
+ * @typedef {import("../engine/engine_host.js").EngineHost} EngineHost
+ * @typedef {import("../engine/engine_host.js").State} State
+ * @typedef {import("../machine/source_map.js").SourceMap} SourceMap
+ *
+ * The names of a program, with the lines of its source if they are wanted; `before` is how many lines of its file come before them.
+ * @typedef {{ map: SourceMap, source: { lines: string[], before: number } | null }} TraceNames
+ */
+
+const WIDTH = 25;
+const WIDTH_OF_SOURCE = 42;
+const TAB = 8;
+/** JUN, JMS, JCN and ISZ of two words in a line of the listing; their target comes last. */
+const JUMP = /^(?=.{10}(?:JUN|JMS|JCN|ISZ) )(.{7}[^ ].*)0x([0-9A-F]{3})$/;
+const LAST_ADDRESS = ADDRESSES - 1;
+
+/**
+ * Returns the cycles before an instruction, as a line of a trace begins.
+ * @param {number} cycles
+ */
+function cyclesText(cycles) {
+  return `${String(cycles).padStart(8)}  `;
+}
+
+/**
+ * Returns a line of a source without its comment and with blanks for its tabs.
+ * @param {string} line
+ */
+function codeOfLine(line) {
+  const parts = line.split("\t");
+  const expanded = parts.reduce((text, part) => text.padEnd((Math.floor(text.length / TAB) + 1) * TAB) + part);
+  return expanded.replace(/;.*/, "").replace(/ +$/, "");
+}
+
+/** @type {Record<number, [string, (operand: number, digits: string) => string]>} instructions of two words by their first digit */
+const TWO_WORDS = {
+  0x1: ["JCN", (operand, digits) => `${operand}, 0x0${digits}`],
+  0x2: ["FIM", (operand, digits) => `P${operand >> 1}, 0x${digits}`],
+  0x4: ["JUN", (operand, digits) => `0x${hex(operand, 1)}${digits}`],
+  0x5: ["JMS", (operand, digits) => `0x${hex(operand, 1)}${digits}`],
+  0x7: ["ISZ", (operand, digits) => `R${operand}, 0x0${digits}`],
+};
+
+/**
+ * Returns the line of a listing for an instruction at the last address, whose second word is at address 0.
+ * @param {number} code
+ * @param {number} second
+ */
+function textRoundTheEnd(code, second) {
+  const digits = hex(second, 2);
+  const [name, operandsOf] = TWO_WORDS[code >> 4];
+  return [hex(LAST_ADDRESS, 3), hex(code, 2), digits, name, operandsOf(code % 16, digits)].join(" ");
+}
+
+export class InstructionTexts {
+  /**
+   * @param {Uint8Array} codes the bytes in ROM
+   * @param {TraceNames | null} names
+   */
+  constructor(codes, names) {
+    this.codes = codes;
+    this.names = names;
+    this.width = names && names.source ? WIDTH_OF_SOURCE : WIDTH;
+    /** @type {Map<number, { label: string, text: string }>} by address */
+    this.known = new Map();
+  }
+
+  /**
+   * Reads the texts of the instructions at some addresses.
+   * @param {EngineHost} engine
+   * @param {State} state
+   * @param {number[]} addresses
+   */
+  read(engine, state, addresses) {
+    const news = addresses.filter((address) => !this.known.has(address));
+    if (news.length === 0) return;
+    const { answers } = engine.ask(state, linesOf(news.map((address) => `list 0x${hex(address, 3)} 1`)));
+    news.forEach((address, at) => this.known.set(address, this.linesAt(address, answers[at])));
+  }
+
+  /**
+   * @param {number} address
+   * @param {string} listed
+   */
+  linesAt(address, listed) {
+    const { codes, names } = this;
+    const isCut = address === LAST_ADDRESS && wordsOf(codes[address]) === 2;
+    const whole = isCut ? textRoundTheEnd(codes[address], codes[0]) : listed;
+    if (!names) return { label: "", text: `${whole.padEnd(this.width)}  ` };
+    const text = this.sourceText(this.withTarget(whole), address);
+    const [label = ""] = names.map.labelsAt(address);
+    const isInSource = names.source && names.map.beginsInstruction(address) && names.map.lineOfLabel(label) === names.map.lineOf(address);
+    return { label: label === "" || isInSource ? "" : `          ${label}:\n`, text: `${text.padEnd(this.width)}  ` };
+  }
+
+  /**
+   * Puts the label of a jump's target in the place of its address.
+   * @param {string} text
+   */
+  withTarget(text) {
+    const [, before = "", target = ""] = JUMP.exec(text) || [];
+    const [label] = this.names && target ? this.names.map.labelsAt(parseInt(target, 16)) : [];
+    return label ? `${before}${label}` : text;
+  }
+
+  /**
+   * Puts the line of the source that begins at an address, with its number, in the place of a text.
+   * @param {string} text
+   * @param {number} address
+   */
+  sourceText(text, address) {
+    const { map, source = null } = this.names || {};
+    const line = map ? map.lineOf(address) : 0;
+    if (!map || !source || line === 0) return text;
+    const code = map.beginsInstruction(address) ? codeOfLine(source.lines[line - 1]) : text.slice(10);
+    return `${text.slice(0, 9)}${String(line + source.before).padStart(5)}  ${code}`;
+  }
+
+  /**
+   * Returns the lines of an instruction whose text was read, up to what it does.
+   * @param {number} cycles before it
+   * @param {number} address
+   */
+  at(cycles, address) {
+    const { label, text } = /** @type {{ label: string, text: string }} */ (this.known.get(address));
+    return `${label}${cyclesText(cycles)}${text}`;
+  }
+
+  /**
+   * Returns such a line with other words in the place of an instruction.
+   * @param {number} cycles
+   * @param {string} words
+   */
+  line(cycles, words) {
+    return `${cyclesText(cycles)}${words.padEnd(this.width)}  `;
+  }
+}

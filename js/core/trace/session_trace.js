@@ -1,0 +1,108 @@
+// The trace of a session from here on, piece by piece, on a copy of its state.
+
+import { readBoard, readRun } from "../bench/answers.js";
+import { LONGEST_RUN } from "../engine/key_queue.js";
+import { romCodes } from "../engine/rom_codes.js";
+import { withoutStops } from "../engine/wave_recorder.js";
+import { InstructionTexts } from "./instruction_texts.js";
+import { TraceLines } from "./trace_lines.js";
+import * as say from "../../words/trace.js";
+
+/**
+ * @typedef {import("../engine/engine_host.js").EngineHost} EngineHost
+ * @typedef {import("../engine/engine_host.js").State} State
+ * @typedef {import("./instruction_texts.js").TraceNames} TraceNames
+ *
+ * Is called between pieces of long work.
+ * @typedef {() => Promise<any>} Breathe
+ */
+
+/** The first lines come soon, however many cycles there are. */
+const FIRST_PIECE = 500;
+const PIECE = 10000;
+const NO_STOP = "end";
+
+/**
+ * Runs a state; returns after how many cycles it stopped, and why.
+ * @param {EngineHost} engine
+ * @param {State} state is moved on
+ * @param {number} cycles
+ * @param {Breathe} breathe
+ */
+async function runOn(engine, state, cycles, breathe) {
+  for (let done = 0; done < cycles;) {
+    const [answer] = engine.serve(state, `run ${Math.min(LONGEST_RUN, cycles - done)}\n`, state).answers;
+    const ran = readRun(answer);
+    if (!ran) throw new Error(`the bench answered a run by: ${answer}`);
+    done += ran.cycles;
+    if (ran.end !== NO_STOP) return { cycles: done, end: ran.end };
+    await breathe();
+  }
+  return { cycles, end: NO_STOP };
+}
+
+export class SessionTrace {
+  /**
+   * @param {EngineHost} engine
+   * @param {State} state
+   * @param {Breathe} breathe
+   */
+  constructor(engine, state, breathe) {
+    this.engine = engine;
+    this.begun = state;
+    this.breathe = breathe;
+    this.codes = romCodes(engine, state);
+    this.board = readBoard(engine.ask(state, "board\n").answers);
+  }
+
+  /**
+   * Yields the lines of the next cycles, whatever breakpoints and watches there are.
+   * @param {number} cycles
+   * @param {TraceNames | null} names
+   */
+  async* next(cycles, names) {
+    const state = withoutStops(this.engine, this.begun);
+    yield* this.lines(state, { from: 0, to: cycles, end: NO_STOP }, names);
+  }
+
+  /**
+   * Yields the lines of the last instructions before the first stop.
+   * @param {number} count of the instructions
+   * @param {number} cycles the most up to the stop
+   * @param {TraceNames | null} names
+   */
+  async* last(count, cycles, names) {
+    const { engine, breathe } = this;
+    const stop = await runOn(engine, this.begun.slice(), cycles, breathe);
+    // An instruction takes two cycles at most, and the session may begin within one.
+    const from = Math.max(0, stop.cycles - 2 * count - 2);
+    const state = withoutStops(engine, this.begun);
+    await runOn(engine, state, from, breathe);
+    /** @type {string[]} */
+    const lines = [];
+    for await (const piece of this.lines(state, { from, to: stop.cycles, end: stop.end }, names)) lines.push(...piece);
+    const isStopped = stop.end !== NO_STOP;
+    yield lines.slice(-count - Number(isStopped));
+  }
+
+  /**
+   * Yields the lines of a range of cycles; behind them, that of the instruction before which the session stops.
+   * @param {State} state is moved on
+   * @param {{ from: number, to: number, end: string }} range and why the session stops at its end
+   * @param {TraceNames | null} names
+   */
+  async* lines(state, { from, to, end }, names) {
+    const { engine, board, codes } = this;
+    const trace = new TraceLines(engine, board, new InstructionTexts(codes, names));
+    let stop = { at: from, end };
+    yield trace.secondCycle(state, from);
+    for (let piece = FIRST_PIECE; stop.at < to && stop.end === end; piece = PIECE) {
+      const some = Math.min(piece, to - stop.at);
+      yield trace.ofRun(state, some, stop.at);
+      const ran = await runOn(engine, state, some, this.breathe);
+      const at = stop.at + ran.cycles;
+      stop = { at, end: at < to ? ran.end : end };
+    }
+    if (stop.end !== NO_STOP) yield [`${trace.next(state, stop.at)}${say.stopsBefore(stop.end)}`];
+  }
+}

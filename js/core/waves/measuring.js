@@ -1,0 +1,47 @@
+// What is measured of a line at a moment: for how long it has its value, and of a bit the time from an edge to the next one of its kind.
+
+import { wordsOfCycles } from "../time/cycles.js";
+import { isText } from "./wave_lines.js";
+import * as say from "../../words/waves.js";
+
+/**
+ * @typedef {import("./waves.js").Waves} Waves
+ *
+ * The line has its value from one moment to another one; `isWhole`: both are changes of the line, not ends of the recording. `period`: from
+ * the edge before to the next one of its kind, 0 if there is none.
+ * @typedef {{ from: number, to: number, isWhole: boolean, period: number }} Measure
+ */
+
+/** Cycles of 10.8 microseconds in a second. */
+const RATE = 1e6 / 10.8;
+const DIGITS = 4;
+
+/**
+ * @param {Waves} waves
+ * @param {number} line
+ * @param {number} moment
+ * @returns {Measure}
+ */
+export function measureAt(waves, line, moment) {
+  const before = waves.changeBefore(line, moment + 1);
+  const after = waves.changeAfter(line, moment);
+  const again = after === undefined || isText(waves.lines[line]) ? undefined : waves.changeAfter(line, after);
+  const [from, to] = [before === undefined ? waves.from : before, after === undefined ? waves.cycles : after];
+  return { from, to, isWhole: before !== undefined && after !== undefined,
+    period: before === undefined || again === undefined ? 0 : again - before };
+}
+
+/** @param {number} period in cycles */
+export function frequencyText(period) {
+  const hertz = RATE / period;
+  return hertz < 1000 ? say.inHertz(hertz.toPrecision(DIGITS)) : say.inKilohertz((hertz / 1000).toPrecision(DIGITS));
+}
+
+/**
+ * @param {string} value
+ * @param {Measure} measure
+ */
+export function measureText(value, { from, to, isWhole, period }) {
+  const told = say.hasValueFor(value, isWhole, wordsOfCycles(to - from));
+  return period === 0 ? told : say.withPeriod(told, wordsOfCycles(period), frequencyText(period));
+}

@@ -1,0 +1,127 @@
+// A picture as the text of an SVG file: it is drawn on as on the context of a canvas, as far as waves need it.
+
+/** How wide a character of the font is, in pixels: all are alike. */
+const CHARACTER = 7.25;
+/** @type {Record<string, string>} where a text begins, by the words of a canvas */
+const ANCHORS = { left: "start", center: "middle", right: "end" };
+
+/** @param {number} number */
+const short = (number) => String(Math.round(number * 100) / 100);
+
+/** @param {string} text */
+const escaped = (text) => text.replace(/[&<>"]/g, (letter) => `&#${letter.charCodeAt(0)};`);
+
+/**
+ * The begin of an element.
+ * @param {string} name
+ * @param {Record<string, string | number>} attributes
+ */
+function begun(name, attributes) {
+  return [name, ...Object.entries(attributes).map(([key, value]) => `${key}="${escaped(String(value))}"`)].join(" ");
+}
+
+/**
+ * An element.
+ * @param {string} name
+ * @param {Record<string, string | number>} attributes
+ * @param {string} [content] what is in it, as it is written
+ */
+function tag(name, attributes, content) {
+  return content === undefined ? `<${begun(name, attributes)}/>` : `<${begun(name, attributes)}>${content}</${name}>`;
+}
+
+export class SvgContext {
+  /**
+   * @param {number} width
+   * @param {number} height
+   * @param {string} ground its colour
+   */
+  constructor(width, height, ground) {
+    this.size = [width, height];
+    /** @type {string[]} */
+    this.parts = [tag("rect", { width: "100%", height: "100%", fill: ground })];
+    this.fillStyle = this.strokeStyle = "#000";
+    this.lineWidth = 1;
+    this.font = "";
+    this.textAlign = "left";
+    this.textBaseline = "";
+    this.path = "";
+    /** @type {Record<string, string>} */
+    this.dash = {};
+    /** @type {Record<string, string>} */
+    this.box = {};
+    this.clips = 0;
+  }
+
+  save() {}
+
+  restore() {
+    this.parts.push("</g>");
+  }
+
+  clearRect() {}
+
+  beginPath() {
+    this.path = "";
+  }
+
+  /** @param {number[]} point */
+  moveTo(...point) {
+    this.path += `M${point.map(short).join()}`;
+  }
+
+  /** @param {number[]} point */
+  lineTo(...point) {
+    this.path += `${this.path === "" ? "M" : "L"}${point.map(short).join()}`;
+  }
+
+  /** @param {number[]} box */
+  rect(...box) {
+    const [x, y, width, height] = box.map(short);
+    this.box = { x, y, width, height };
+  }
+
+  clip() {
+    this.clips += 1;
+    const id = `clip${this.clips}`;
+    this.parts.push(tag("clipPath", { id }, tag("rect", this.box)), `<${begun("g", { "clip-path": `url(#${id})` })}>`);
+  }
+
+  stroke() {
+    const look = { "fill": "none", "stroke": this.strokeStyle, "stroke-width": this.lineWidth, ...this.dash };
+    this.parts.push(tag("path", { d: this.path, ...look }));
+  }
+
+  /** @param {number[]} box */
+  fillRect(...box) {
+    this.rect(...box);
+    this.parts.push(tag("rect", { ...this.box, fill: this.fillStyle }));
+  }
+
+  /**
+   * @param {string} text
+   * @param {number} x
+   * @param {number} y of its middle
+   */
+  fillText(text, x, y) {
+    const look = { "dy": ".35em", "text-anchor": ANCHORS[this.textAlign], "fill": this.fillStyle };
+    this.parts.push(tag("text", { x: short(x), y: short(y), ...look }, escaped(text)));
+  }
+
+  /** @param {string} text */
+  measureText(text) {
+    return { width: text.length * CHARACTER };
+  }
+
+  /** @param {number[]} lengths */
+  setLineDash(lengths) {
+    this.dash = lengths.length === 0 ? {} : { "stroke-dasharray": lengths.join(" ") };
+  }
+
+  /** The text of the file. */
+  get text() {
+    const [width, height] = this.size;
+    const look = { width, height, "font-family": "monospace", "font-size": 12 };
+    return `${tag("svg", { xmlns: "http://www.w3.org/2000/svg", ...look }, `\n${this.parts.join("\n")}\n`)}\n`;
+  }
+}

@@ -1,0 +1,55 @@
+// The sound of a line as a WAV file: 16 bits, one channel, a sample for each cycle.
+
+/** Samples in a second: a cycle is 10.8 microseconds. */
+const RATE = 92593;
+const SAMPLE_BYTES = 2;
+const HEAD_BYTES = 44;
+const FORMAT_BYTES = 16;
+/** The samples of a line that is 1 and 0. */
+const LEVELS = { high: 0x2020, low: -0x2020 };
+const LETTERS = { riff: 0, kind: 8, format: 12, data: 36 };
+const PCM = 1;
+const CHANNELS = 1;
+
+/**
+ * Writes the letters of a name.
+ * @param {Uint8Array} bytes
+ * @param {number} at
+ * @param {string} letters
+ */
+function putLetters(bytes, at, letters) {
+  [...letters].forEach((letter, offset) => {
+    bytes[at + offset] = letter.charCodeAt(0);
+  });
+}
+
+/**
+ * Returns the file of a line.
+ * @param {number} level at the beginning
+ * @param {number[]} edges the cycles before each change
+ * @param {number} cycles
+ */
+export function wavOf(level, edges, cycles) {
+  const size = cycles * SAMPLE_BYTES;
+  const bytes = new Uint8Array(HEAD_BYTES + size);
+  const view = new DataView(bytes.buffer);
+  putLetters(bytes, LETTERS.riff, "RIFF");
+  view.setUint32(4, HEAD_BYTES - 8 + size, true);
+  putLetters(bytes, LETTERS.kind, "WAVE");
+  putLetters(bytes, LETTERS.format, "fmt".padEnd(4));
+  view.setUint32(16, FORMAT_BYTES, true);
+  view.setUint16(20, PCM, true);
+  view.setUint16(22, CHANNELS, true);
+  view.setUint32(24, RATE, true);
+  view.setUint32(28, RATE * SAMPLE_BYTES, true);
+  view.setUint16(32, SAMPLE_BYTES, true);
+  view.setUint16(34, 8 * SAMPLE_BYTES, true);
+  putLetters(bytes, LETTERS.data, "data");
+  view.setUint32(40, size, true);
+  let [from, isHigh] = [0, level === 1];
+  for (const edge of [...edges, cycles]) {
+    for (let at = from; at < edge; at++) view.setInt16(HEAD_BYTES + at * SAMPLE_BYTES, isHigh ? LEVELS.high : LEVELS.low, true);
+    [from, isHigh] = [edge, !isHigh];
+  }
+  return bytes;
+}

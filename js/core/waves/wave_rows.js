@@ -1,0 +1,118 @@
+// How the rows of the waves are arranged: their order, their own names and colours, and groups of them. All of it is kept by the names of
+// the lines, so that it holds for the next recording, too.
+
+/**
+ * @typedef {import("./wave_lines.js").WaveLine} WaveLine
+ * @typedef {typeof ROW_COLOURS[number]} RowColour
+ * @typedef {{ title?: string, colour?: RowColour | "", group?: string }} RowLook
+ * @typedef {{ order: string[], looks: Record<string, RowLook>, folded: string[] }} KeptRows
+ *
+ * A row: a line by its number and name, or, with the number -1, the heading of a group. `title` is what is shown.
+ * @typedef {{ line: number, name: string, title: string, colour: RowColour | "", group: string, isFolded: boolean }} WaveRow
+ */
+
+export const ROW_COLOURS = /** @type {const} */ (["red", "amber", "green", "blue", "violet"]);
+
+export class WaveRows {
+  /** @param {Partial<KeptRows>} [kept] */
+  constructor(kept = {}) {
+    const { order = [], looks = {}, folded = [] } = kept;
+    /** The names of lines in the order of their rows, as far as somebody has chosen it. */
+    this.order = order;
+    this.looks = new Map(Object.entries(looks));
+    this.folded = new Set(folded);
+  }
+
+  /** @returns {KeptRows} */
+  get kept() {
+    return { order: this.order, looks: Object.fromEntries(this.looks), folded: [...this.folded] };
+  }
+
+  /**
+   * @param {string} name
+   * @returns {RowLook}
+   */
+  lookOf(name) {
+    return this.looks.get(name) || {};
+  }
+
+  /** @param {string} name */
+  groupOf(name) {
+    return this.lookOf(name).group || "";
+  }
+
+  /**
+   * @param {string} name of a line
+   * @param {RowLook} look what of it becomes another one
+   */
+  change(name, look) {
+    this.looks.set(name, { ...this.lookOf(name), ...look });
+  }
+
+  /**
+   * Returns names in the order of their rows: one that has no place yet is behind the one that it is behind on the board.
+   * @param {string[]} names in the order of the board
+   */
+  ordered(names) {
+    const wanted = new Set(names);
+    const found = this.order.filter((name) => wanted.has(name));
+    const placed = new Set(found);
+    names.forEach((name, at) => {
+      if (!placed.has(name)) found.splice(at === 0 ? 0 : found.indexOf(names[at - 1]) + 1, 0, name);
+    });
+    // A group is where its first row is.
+    const groups = [...new Set(found.map((name) => this.groupOf(name) || ` ${name}`))];
+    const members = new Map(groups.map((group) => [group, /** @type {string[]} */ ([])]));
+    for (const name of found) (members.get(this.groupOf(name) || ` ${name}`) || []).push(name);
+    return [...members.values()].flat();
+  }
+
+  /**
+   * Returns the rows of the lines that are shown.
+   * @param {WaveLine[]} lines all lines of the recording
+   * @param {number[]} chosen those that are shown, by their numbers
+   * @returns {WaveRow[]}
+   */
+  arrange(lines, chosen) {
+    const numbers = new Map(chosen.map((line) => [lines[line].name, line]));
+    /** @type {WaveRow[]} */
+    const rows = [];
+    let last = "";
+    for (const name of this.ordered([...numbers.keys()])) {
+      const { title = "", colour = "", group = "" } = this.lookOf(name);
+      const isFolded = this.folded.has(group);
+      if (group !== "" && group !== last) rows.push({ line: -1, name: "", title: group, colour: "", group, isFolded });
+      if (group === "" || !isFolded) rows.push({ line: numbers.get(name) || 0, name, title, colour, group, isFolded: false });
+      last = group;
+    }
+    return rows;
+  }
+
+  /**
+   * Moves a row, or a group by its heading, to where another row is. A row that comes into a group becomes part of it.
+   * @param {WaveRow[]} rows
+   * @param {string[]} names of all lines that are shown, in the order of their rows
+   * @param {number} at
+   * @param {number} to
+   */
+  move(rows, names, at, to) {
+    const [moved, target] = [rows[at], rows[to]];
+    if (!moved || !target || moved === target || (moved.line < 0 && target.group === moved.group)) return;
+    const isDown = to > at;
+    const own = moved.line < 0 ? names.filter((name) => this.groupOf(name) === moved.group) : [moved.name];
+    const rest = names.filter((name) => !own.includes(name));
+    const isWhole = target.group !== "" && (moved.line < 0 || target.line < 0);
+    const near = isWhole ? rest.filter((name) => this.groupOf(name) === target.group) : [target.name];
+    const joins = moved.line >= 0 && target.group !== "" && (target.line >= 0 || (isDown && !target.isFolded));
+    if (moved.line >= 0) this.change(moved.name, { group: joins ? target.group : "" });
+    const isBehind = isDown && !(joins && target.line < 0);
+    const place = near.length === 0 ? rest.length : rest.indexOf(near[isBehind ? near.length - 1 : 0]) + Number(isBehind);
+    rest.splice(place, 0, ...own);
+    this.order = [...rest, ...this.order.filter((name) => !rest.includes(name))];
+  }
+
+  /** @param {string} group */
+  fold(group) {
+    if (!this.folded.delete(group)) this.folded.add(group);
+  }
+}

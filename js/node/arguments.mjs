@@ -1,0 +1,79 @@
+// What commands ask of their arguments: how many there are, numbers, and the files of a project where they are left out.
+import { existsSync } from "node:fs";
+import * as say from "../words/commands.js";
+import { CommandError, UsageError } from "./output.mjs";
+
+const PROJECT_FILE = "mcs4.toml";
+/** Arguments that name no file. */
+const NO_FILES = new Set(["CYCLES", "N", "KEYS", "FIRST", "LAST", "COUNT"]);
+
+/**
+ * Rejects too few and too many arguments, and empty ones.
+ * @param {string[]} words
+ * @param {string[]} names of those that are needed; one that may be left out ends with a question mark
+ * @param {number} most
+ * @param {boolean} [hasProject] whether a project could name what is missing
+ */
+export function needWords(words, names, most = names.length, hasProject = false) {
+  const lack = names.slice(words.length).filter((name) => !name.endsWith("?"));
+  if (lack.length > 0) throw new UsageError(say.missing(lack, hasProject && words.length === 0 && !existsSync(PROJECT_FILE)));
+  if (words.length > most) throw new UsageError(say.oneTooMany(words[most]));
+  if (words.some((word, at) => word === "" && !NO_FILES.has((names[at] || "").replace("?", "")))) throw new UsageError(say.EMPTY_ARGUMENT);
+}
+
+/**
+ * Returns a decimal number from 1 to a limit.
+ * @param {string} name what help calls it
+ * @param {string} word
+ * @param {number} most
+ */
+export function needCount(name, word, most) {
+  const number = /^[1-9]\d{0,8}$/.test(word) ? Number(word) : 0;
+  if (number < 1 || number > most) throw new UsageError(say.notInRange(name, most));
+  return number;
+}
+
+/**
+ * Returns the project that a command uses: that of the folder (`-C`), or of this folder if fewer arguments are given than it needs; else null.
+ * @param {string | undefined} folder
+ * @param {string[]} words
+ * @param {number} fewest
+ */
+export async function projectFor(folder, words, fewest) {
+  if (folder === undefined && (words.length >= fewest || !existsSync(PROJECT_FILE))) return null;
+  const [{ projectIn }, { ProjectFault }] = await Promise.all([import("./project_folder.mjs"), import("../core/project/project_folder.js")]);
+  try {
+    return projectIn(folder === undefined ? "." : folder);
+  } catch (thrown) {
+    throw thrown instanceof ProjectFault ? new CommandError(thrown.message) : thrown;
+  }
+}
+
+/**
+ * Returns files that a project names, of which a command needs some.
+ * @param {import("./project_folder.mjs").DiskProject} project
+ * @param {"tests" | "properties"} what
+ */
+export function needNamed(project, what) {
+  if (project[what].length === 0) throw new CommandError(say.namesNone(project.file, what));
+  return project[what];
+}
+
+/**
+ * Returns the names of board, program and properties: those that are given, and those of the project.
+ * @param {string | undefined} folder
+ * @param {string[]} words
+ */
+export async function namesWithProperties(folder, words) {
+  const project = await projectFor(folder, words, 3);
+  if (!project) return words;
+  if (words.length > 0) return [project.board, project.program, ...words];
+  const properties = needNamed(project, "properties");
+  if (properties.length > 1) throw new CommandError(say.oneText(project.file, properties));
+  return [project.board, project.program, ...properties];
+}
+
+/** Waits for the end of a command that ends the process itself. */
+export function untilItEnds() {
+  return new Promise(() => {});
+}

@@ -1,0 +1,38 @@
+// The text of a board for commands: what the bench says of it, and its face. A rejected text is an error that names its file and line.
+import { readBoard } from "../core/bench/answers.js";
+import { Face } from "../core/board/face.js";
+import { faultsOfNames, wiredBoard } from "../core/testing/prepared.js";
+import { pressLines } from "../core/testing/press_lines.js";
+import { keysWithoutNames, noKeyOnBoard } from "../words/commands.js";
+import { errorOfTexts } from "./native_program.mjs";
+import { CommandError } from "./output.mjs";
+
+/** @typedef {import("./given_texts.mjs").GivenText} GivenText */
+
+/**
+ * Reads a board and its face; returns them with the answers to `board`.
+ * @param {import("../core/engine/engine_host.js").EngineHost} engine
+ * @param {GivenText} given
+ */
+export async function boardAndFace(engine, given) {
+  const { faults, answers } = wiredBoard(engine, given.text);
+  const face = new Face(given.text);
+  const board = readBoard(answers);
+  const found = faults.length > 0 ? faults : faultsOfNames(face, board);
+  if (found.length > 0) throw await errorOfTexts(engine, { board: given }, found);
+  return { board, face, answers };
+}
+
+/**
+ * Returns lines that press keys.
+ * @param {Face} face
+ * @param {string} boardName
+ * @param {string} keys
+ * @param {import("../core/testing/press_lines.js").Pace} pace
+ */
+export function keyLines(face, boardName, keys, pace) {
+  const { lines, unknown } = pressLines(face, keys, pace);
+  if (unknown === null) return lines;
+  const hasNames = face.test !== null || [...face.keys.values()].some(({ text }) => text !== "");
+  throw new CommandError(hasNames ? noKeyOnBoard(boardName, unknown) : keysWithoutNames(boardName));
+}

@@ -1,0 +1,114 @@
+// Commands that a tool by node starts: each has a process group of its own, so that a signal to the tool ends all that it started.
+import { spawn } from "node:child_process";
+
+/** The most bytes that a command may print. */
+const MOST_OUTPUT = 1048576;
+/** A command that ignores the signal is killed after this time, in milliseconds; this tool itself, which ends what it has started, later. */
+const PATIENCE = { command: 1000, tool: 10000 };
+
+/** @type {Map<number, { child: import("node:child_process").ChildProcess, hasGroup: boolean }>} those that run, by their process ids */
+const running = new Map();
+let isEnding = false;
+
+/** Waits forever: the process is ending. */
+const never = () => new Promise(() => {});
+
+/**
+ * Sends a signal to a command, and to all that it has started if it has a group of its own.
+ * @param {number} pid
+ * @param {NodeJS.Signals} signal
+ */
+function send(pid, signal) {
+  const { hasGroup = false } = running.get(pid) || {};
+  try {
+    process.kill(hasGroup ? -pid : pid, signal);
+  } catch {
+    // It has ended.
+  }
+}
+
+/**
+ * Notes a command that runs, up to its end.
+ * @param {import("node:child_process").ChildProcess} child
+ * @param {boolean} hasGroup
+ */
+function follow(child, hasGroup) {
+  const { pid } = child;
+  if (pid !== undefined) running.set(pid, { child, hasGroup });
+  return new Promise((settle) => {
+    const over = (result) => {
+      if (pid !== undefined) running.delete(pid);
+      settle(result);
+    };
+    child.on("error", ({ message }) => over({ status: null, signal: null, words: message }));
+    child.on("close", (status, signal) => over({ status, signal, words: "" }));
+  });
+}
+
+/**
+ * Runs a command with an input; its status or its signal, and what it has printed. One that prints too much is ended.
+ * @param {string} command
+ * @param {string[]} words
+ * @param {string} [input]
+ */
+export async function runCommand(command, words, input = "") {
+  const child = spawn(command, words, { detached: true, stdio: ["pipe", "pipe", "pipe"] });
+  const ended = follow(child, true);
+  const printed = [child.stdout, child.stderr].map((stream) => {
+    const taken = { text: "" };
+    stream.setEncoding("utf8");
+    stream.on("data", (text) => {
+      taken.text += text;
+      if (taken.text.length > MOST_OUTPUT && child.pid !== undefined) send(child.pid, "SIGTERM");
+    });
+    return taken;
+  });
+  child.stdin.on("error", () => {});
+  child.stdin.end(input);
+  const { status, signal, words: fault } = await ended;
+  if (isEnding) await never();
+  return { status, signal, stdout: printed[0].text, stderr: printed[1].text || fault };
+}
+
+/**
+ * Runs this command again, without its arguments, in a process of its own, which gets the same Ctrl-C; its status, null if a signal ended it.
+ * @param {Record<string, string | undefined>} env
+ */
+export async function runAgain(env) {
+  const child = spawn(process.execPath, process.argv.slice(1, 3), { env, stdio: ["ignore", "ignore", "inherit"] });
+  const { status } = await follow(child, false);
+  if (isEnding) await never();
+  return status;
+}
+
+/** Ends the commands that have a group of their own, which Ctrl-C does not reach. */
+export function interrupt() {
+  for (const [pid, { hasGroup }] of running) if (hasGroup) send(pid, "SIGINT");
+}
+
+/** Lets others have their turn, and never comes back if the process is ending. */
+export function breathe() {
+  return new Promise((resume) => {
+    setImmediate(() => {
+      if (!isEnding) resume(undefined);
+    });
+  });
+}
+
+/**
+ * Ends all commands, then the process.
+ * @param {number} status
+ */
+async function end(status) {
+  if (isEnding) return;
+  isEnding = true;
+  await Promise.all([...running].map(([pid, { child, hasGroup }]) => new Promise((settle) => {
+    child.on("close", settle);
+    send(pid, "SIGTERM");
+    setTimeout(() => send(pid, "SIGKILL"), hasGroup ? PATIENCE.command : PATIENCE.tool);
+  })));
+  process.exit(status);
+}
+
+process.on("SIGTERM", () => end(143));
+process.on("SIGHUP", () => end(129));

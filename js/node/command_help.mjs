@@ -1,0 +1,97 @@
+// The help of commands for a terminal, from their table and their words.
+import { folded as foldedTo } from "../core/text/folded.js";
+import * as say from "../words/commands.js";
+import { COMMANDS } from "./commands/table.mjs";
+
+const WIDTH = 79;
+const INDENT = "  ";
+const DEEP = INDENT.repeat(3);
+
+/** @type {(text: string, first?: string, others?: string) => string} */
+const folded = (text, first = "", others = first) => foldedTo(text, WIDTH, first, others);
+
+/**
+ * Returns the paragraphs of a text.
+ * @param {string} text
+ */
+export function paragraphsOf(text) {
+  return text.split(/\n[ ]*\n/).map((paragraph) => paragraph.trim().replace(/\s+/g, " "));
+}
+
+/**
+ * Returns how a command is called, each form on its own.
+ * @param {string} name
+ */
+export function formsOf(name) {
+  return COMMANDS[name].usage.map((form) => `mcs4 ${name}${form && ` ${form}`}`);
+}
+
+/**
+ * Returns the use of a command.
+ * @param {string} name
+ */
+export function usageLines(name) {
+  return say.usageOf(formsOf(name));
+}
+
+/** Returns the use of mcs4. */
+export function usageOfAll() {
+  return say.usageOf(say.MCS4_FORMS.map(([form]) => form).filter((form) => !form.endsWith("refusals")));
+}
+
+/**
+ * Returns the options of a command as they are typed, each with what it does.
+ * @param {string} name
+ */
+export function optionsOf(name) {
+  /** @type {Record<string, string>} */
+  const words = say.COMMAND_WORDS[name].options;
+  const rows = Object.entries(COMMANDS[name].options).map(([option, { short, value }]) => (
+    [`${short ? `-${short}, ` : ""}--${option}${value ? ` ${value}` : ""}`, words[option]]));
+  return [...rows, ["-h, --help", say.HELP_OPTION]];
+}
+
+/** @type {(head: string, rows: string[][]) => string} a list of words, each with what they mean */
+const listed = (head, rows) => `${head}\n${rows.map(([word, does]) => `${INDENT}${word}\n${folded(does, DEEP)}`).join("\n")}`;
+
+/** @type {(head: string, lines: string[]) => string} */
+const itemized = (head, lines) => `${head}\n${lines.map((line) => folded(line, INDENT, DEEP)).join("\n")}`;
+
+/**
+ * Returns the help of a command.
+ * @param {string} name
+ */
+export function helpOf(name) {
+  const { text, examples, status } = say.COMMAND_WORDS[name];
+  return `${[
+    usageLines(name),
+    ...paragraphsOf(text).map((paragraph) => folded(paragraph)),
+    listed(say.OPTIONS_HEAD, optionsOf(name)),
+    listed(say.EXAMPLES_HEAD, examples),
+    itemized(say.STATUS_HEAD, status),
+  ].join("\n\n")}\n`;
+}
+
+/** Returns all commands by their groups: the title of each group, and names with what they do. */
+export function commandsByGroup() {
+  const all = Object.entries(COMMANDS).map(([name, { group }]) => ({ name, group, does: say.COMMAND_WORDS[name].summary }));
+  return Object.entries(say.GROUPS).map(([each, title]) => ({ title, commands: all.filter(({ group }) => group === each) }));
+}
+
+/**
+ * Returns the help of mcs4 itself.
+ * @param {string} top where it stands
+ */
+export function helpOfAll(top) {
+  const width = Math.max(...say.MCS4_FORMS.map(([form]) => form.length));
+  const groups = commandsByGroup().map(({ title, commands }) => (
+    `${title}:\n${commands.map(({ name, does }) => folded(does, `${INDENT}${name.padEnd(9)} `, " ".repeat(12))).join("\n")}`));
+  return `${[
+    `usage:\n${say.MCS4_FORMS.map(([form, does]) => `${INDENT}${form.padEnd(width)}  ${does}`).join("\n")}`,
+    ...paragraphsOf(say.MCS4_TEXT).map((paragraph) => folded(paragraph)),
+    ...groups,
+    itemized(say.STATUS_HEAD, say.MCS4_STATUS),
+    itemized(say.ENVIRONMENT_HEAD, say.MCS4_ENVIRONMENT),
+    ...(top === "" ? [] : [say.whereManualIs(top)]),
+  ].join("\n\n")}\n`;
+}

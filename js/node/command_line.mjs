@@ -1,0 +1,169 @@
+// Reads the arguments of a command by the table, runs it, and reports errors: the exit status is 0 if all was done, 1 for an error or a failed
+// test, 2 for wrong arguments.
+import { parseArgs } from "node:util";
+import * as say from "../words/commands.js";
+import { COMMANDS } from "./commands/table.mjs";
+import { CommandError, UsageError, print, printError } from "./output.mjs";
+
+/**
+ * @typedef {import("./commands/table.mjs").Command} Command
+ * @typedef {import("./commands/table.mjs").Values} Values
+ */
+
+const FAILED = 1;
+const WRONG_ARGUMENTS = 2;
+/** @type {import("./commands/table.mjs").Option} */
+const HELP = { type: "boolean", short: "h" };
+
+/**
+ * Returns the words that a mistyped one may stand for. (They are looked for only then.)
+ * @param {string} word
+ * @param {string[]} words
+ */
+async function meantBy(word, words) {
+  const { mostAlike } = await import("../core/text/alike.js");
+  return mostAlike(word, words);
+}
+
+/**
+ * Returns the error of an option that a command lacks.
+ * @param {string} word as it was typed
+ * @param {Command["options"]} options
+ */
+async function noOption(word, options) {
+  const isLong = word.startsWith("--");
+  const meant = isLong ? await meantBy(word.slice(2), Object.keys(options)) : [];
+  return new UsageError(say.noOption(word, meant.map((name) => `--${name}`)));
+}
+
+/** @type {(value: string | undefined, isInline: boolean) => boolean} whether a value is none: the next option stands in its place */
+const isMissing = (value, isInline) => value === undefined || value === "" || (!isInline && /^-[^\d]/.test(value));
+
+/**
+ * Throws what is wrong with an option.
+ * @param {{ name: string, rawName: string, value?: string, inlineValue?: boolean }} token
+ * @param {Command["options"]} options
+ */
+async function needOption({ name, rawName, value, inlineValue }, options) {
+  const option = options[name];
+  if (!option) throw await noOption(rawName, options);
+  if (option.type === "boolean" && value !== undefined) throw new UsageError(say.noValue(rawName));
+  if (option.type === "string" && isMissing(value, inlineValue === true)) {
+    throw new UsageError(say.valueMissing(option.value || name.toUpperCase(), rawName));
+  }
+}
+
+/**
+ * Parses the arguments of a command.
+ * @param {Command} command
+ * @param {string[]} words
+ * @returns {Promise<{ values: Values, positionals: string[] }>}
+ */
+async function parsed(command, words) {
+  const options = { help: HELP, ...command.options };
+  const { values, positionals, tokens } = parseArgs({ args: words, options, strict: false, allowPositionals: true, tokens: true });
+  const seen = new Set();
+  for (const token of tokens) {
+    if (token.kind !== "option") continue;
+    await needOption(token, options);
+    if (seen.has(token.name) && !options[token.name].multiple) throw new UsageError(say.optionTwice(token.rawName));
+    seen.add(token.name);
+  }
+  return { values, positionals };
+}
+
+/**
+ * Prints an error, each of its lines behind the command's name.
+ * @param {string} name
+ * @param {string} message
+ */
+function complain(name, message) {
+  printError(message.split("\n").map((line) => `${name}: ${line}\n`).join(""));
+}
+
+/**
+ * Reports an error; returns the exit status. What nobody expects goes on its way.
+ * @param {string} name
+ * @param {unknown} thrown
+ */
+async function report(name, thrown) {
+  if (thrown instanceof UsageError) {
+    const { usageLines } = await import("./command_help.mjs");
+    complain(name, thrown.message);
+    printError(`${usageLines(name)}\n`);
+    return WRONG_ARGUMENTS;
+  }
+  const { lackOfRoom } = await import("./native_program.mjs");
+  const lack = lackOfRoom();
+  if (!lack && !(thrown instanceof CommandError)) throw thrown;
+  complain(name, lack || thrown.message);
+  return FAILED;
+}
+
+/**
+ * Runs a command with its arguments; returns the exit status.
+ * @param {string} name
+ * @param {string[]} words
+ * @param {Command["load"]} [load]
+ */
+export async function runCommand(name, words, load = COMMANDS[name].load) {
+  const command = COMMANDS[name];
+  try {
+    const { values, positionals } = await parsed(command, words);
+    if (values.help) {
+      const { helpOf } = await import("./command_help.mjs");
+      print(helpOf(name));
+      return 0;
+    }
+    const { run } = await load();
+    return await run(values, positionals);
+  } catch (thrown) {
+    return report(name, thrown);
+  }
+}
+
+/**
+ * Reports a command that is not there.
+ * @param {string} word
+ */
+async function refuseCommand(word) {
+  const names = [...Object.keys(COMMANDS), ...Object.keys(say.MCS4_COMPLETED)];
+  complain("mcs4", say.noCommand(word, await meantBy(word, names)));
+  return WRONG_ARGUMENTS;
+}
+
+/**
+ * Prints help; returns the exit status.
+ * @param {string[]} words
+ */
+async function help([name, ...others]) {
+  const { helpOf, helpOfAll, usageOfAll } = await import("./command_help.mjs");
+  if (others.length > 0) {
+    complain("mcs4", say.tooMuchBehind("help"));
+    printError(`${usageOfAll()}\n`);
+    return WRONG_ARGUMENTS;
+  }
+  const isOfAll = name === undefined || Object.hasOwn(say.MCS4_COMPLETED, name);
+  if (!isOfAll && !Object.hasOwn(COMMANDS, name)) return refuseCommand(name);
+  const { TOP } = await import("./top.mjs");
+  try {
+    print(isOfAll ? helpOfAll(TOP) : helpOf(name));
+    return 0;
+  } catch (thrown) {
+    return report("mcs4", thrown);
+  }
+}
+
+/**
+ * Runs what `mcs4` was called with; returns the exit status.
+ * @param {string[]} words
+ */
+export async function runLine([name = "", ...words]) {
+  if (Object.hasOwn(COMMANDS, name)) return runCommand(name, words);
+  if (name === "help") return help(words);
+  if (name !== "" && name !== "version") return refuseCommand(name);
+  const { usageOfAll } = await import("./command_help.mjs");
+  if (name === "version") complain("mcs4", say.tooMuchBehind(name));
+  printError(`${usageOfAll()}\n`);
+  return WRONG_ARGUMENTS;
+}

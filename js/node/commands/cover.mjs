@@ -1,0 +1,25 @@
+// `mcs4 cover`: prints which lines of a program were run, and how often.
+import { LineAccount } from "../../core/testing/account.js";
+import { coverageText, lcovOf } from "../../core/testing/coverage_text.js";
+import { NO_LCOV } from "../../words/commands.js";
+import { print } from "../output.mjs";
+import { testOrCount } from "../testing.mjs";
+import { needOwnFile, writeUserFile } from "../user_files.mjs";
+
+/** Begins a file in LCOV's format. */
+const LCOV_BEGIN = "TN:";
+
+/** @type {import("./table.mjs").CommandModule["run"]} */
+export function run({ folder, lcov, session }, positionals) {
+  return testOrCount({
+    name: "cover",
+    Counting: LineAccount,
+    checkNames: (names) => {
+      if (lcov !== undefined) needOwnFile(lcov, LCOV_BEGIN, NO_LCOV, names);
+    },
+    report: ({ coverage }, program) => {
+      print(coverageText(coverage, program));
+      if (lcov !== undefined) writeUserFile(lcov, lcovOf(coverage, program));
+    },
+  }, { folder, session }, positionals);
+}

@@ -1,0 +1,39 @@
+// `mcs4 cycles`: prints how long the runs in some answers took.
+import { linesOf } from "../../core/bench/inputs.js";
+import { runTimes } from "../../core/time/run_times.js";
+import { FIRST_AND_LAST, notALine } from "../../words/commands.js";
+import { needWords } from "../arguments.mjs";
+import { GivenTexts } from "../given_texts.mjs";
+import { placesOf, startEngine } from "../native_program.mjs";
+import { CommandError, UsageError, print } from "../output.mjs";
+
+const LINE = /^\d{1,9}$/;
+
+/**
+ * Returns the lines that count; `last` is 0 for all from the first one on.
+ * @param {string[]} words
+ */
+function linesThatCount(words) {
+  if (words.length === 0) return { first: 1, last: 0 };
+  needWords(words, ["FIRST", "LAST"]);
+  const strange = words.find((word) => !LINE.test(word));
+  if (strange !== undefined) throw new UsageError(notALine(strange));
+  const [first, last] = words.map(Number);
+  if (first < 1 || last < first) throw new UsageError(FIRST_AND_LAST);
+  return { first, last };
+}
+
+/** @type {import("./table.mjs").CommandModule["run"]} */
+export async function run({ source }, positionals) {
+  if (source !== undefined) needWords([source, ...positionals], ["PROGRAM", "SESSION"], Infinity);
+  const [session, words] = source === undefined ? ["", positionals] : [positionals[0], positionals.slice(1)];
+  const { first, last } = linesThatCount(words);
+  const texts = new GivenTexts();
+  const answers = texts.answers("cycles");
+  const placeOf = source === undefined ? null : await placesOf(texts, startEngine(), source, session);
+  const byCounter = placeOf && ((counter) => placeOf(parseInt(counter, 16)));
+  const { runs, sum, words: wrong } = runTimes(answers, first, last, byCounter);
+  if (wrong !== "") throw new CommandError(wrong);
+  print(linesOf(placeOf ? [...runs, sum] : [sum]));
+  return 0;
+}

@@ -1,0 +1,111 @@
+// `mcs4 debug`: the prompt of js/core/prompt on the bench that is in the page, at a terminal, or with commands from standard input.
+import { createInterface } from "node:readline";
+import { Prompt } from "../../core/prompt/prompt.js";
+import { launch } from "../../core/adapter/launching.js";
+import { Words } from "../../core/bench/words.js";
+import { escaped } from "../../core/text/escaped.js";
+import { Engine } from "../../core/engine/engine.js";
+import { needWords, projectFor } from "../arguments.mjs";
+import { host } from "../debug_host.mjs";
+import { fileNames, withoutTilde } from "../file_names.mjs";
+import { MOST_GIVEN, decodedFile } from "../given_texts.mjs";
+import { CommandError } from "../output.mjs";
+import { dataOfPage, moduleOfPage } from "../page_parts.mjs";
+import { TerminalPrompt } from "../terminal_prompt.mjs";
+import { needOwnFile, writeUserFile } from "../user_files.mjs";
+import { ViewOnTerminal } from "../view_on_terminal.mjs";
+import { SAVED_HEAD } from "../../words/prompt.js";
+import { NO_BREAKPOINTS_FILE } from "../../words/commands.js";
+
+const isByHand = process.stdin.isTTY === true && process.stdout.isTTY === true;
+
+/** The commands of a script: which line is refused is told with its number. */
+async function runScript(prompt, at) {
+  let isRefused = false;
+  for await (const line of createInterface({ input: process.stdin, crlfDelay: Infinity })) {
+    at.line += 1;
+    if (!(await prompt.take(line))) isRefused = true;
+    if (prompt.isEnded) break;
+  }
+  return isRefused ? 1 : 0;
+}
+
+/** The view as the commands of the prompt have it, once it is there. */
+const views = { toggle: () => views.own.toggle(), turn: (isOn) => views.own.turn(isOn), own: null };
+
+/** Serves lines of a terminal; Ctrl-L and another size draw the view again. Returns the exit status. */
+async function runByHand(prompt, holder) {
+  const terminal = new TerminalPrompt(prompt, {
+    output: process.stdout, served: () => view.draw(), left: () => view.leave(), entered: () => view.again(),
+  });
+  const view = new ViewOnTerminal(prompt, process.stdout, process.env, () => {
+    if (!prompt.machine.isMoving) terminal.show();
+  });
+  holder.terminal = terminal;
+  views.own = view;
+  process.stdout.on("resize", () => view.again());
+  terminal.keys.on("keypress", (_, key) => {
+    if (key && key.ctrl && key.name === "l") setImmediate(() => view.again());
+  });
+  await prompt.begin();
+  const status = await terminal.run();
+  prompt.interrupt();
+  await prompt.machine.move;
+  return status;
+}
+
+/** Debugs what is given: the names of files, undefined for none; returns the exit status. */
+async function serve(given) {
+  const engine = await Engine.load(moduleOfPage());
+  const data = dataOfPage();
+  const launched = await launch(engine, { ...given, cwd: process.cwd() }, host, new Words(data.refusals));
+  const at = { line: 0 };
+  const holder = { terminal: null };
+  const prompt = new Prompt(launched, data, {
+    print: (words) => process.stdout.write(`${escaped(words)}\n`),
+    complain: (words) => (isByHand ? holder.terminal.complain(words) : process.stderr.write(`debug: line ${at.line}: ${escaped(words)}\n`)),
+    pause: host.pause,
+    read: (name) => decodedFile(withoutTilde(name), MOST_GIVEN).text,
+    write: (name, text) => {
+      const file = withoutTilde(name);
+      needOwnFile(file, SAVED_HEAD, NO_BREAKPOINTS_FILE, [given.board, given.program, given.session].filter(Boolean));
+      writeUserFile(file, text);
+    },
+    files: fileNames,
+    source: () => (launched.program === "" ? null : host.read(launched.program)),
+    isByHand,
+    view: isByHand ? views : null,
+  });
+  try {
+    if (isByHand) return await runByHand(prompt, holder);
+    await prompt.begin();
+    return await runScript(prompt, at);
+  } finally {
+    if (launched.kept) await launched.kept.end();
+  }
+}
+
+/** Returns the names of board, program and session: those that are given, and those of the project. */
+async function namesOf(folder, words) {
+  if (words.length > 1 && folder !== undefined) needWords(words, [], 1);
+  const project = await projectFor(folder, words, 2);
+  if (project) return { board: project.board, program: project.program, session: words[0] };
+  if (words.length === 0) needWords(words, ["BOARD", "PROGRAM"], 3, true);
+  needWords(words, [], 3);
+  const [session, board, program] = words.length === 1 ? words : [words[2], words[0], words[1]];
+  return { board, program, session };
+}
+
+/** @type {import("./table.mjs").CommandModule["run"]} */
+export async function run({ folder }, positionals) {
+  needWords(positionals, [], 3);
+  const given = await namesOf(folder, positionals);
+  process.stdout.on("error", () => process.exit(1));
+  try {
+    return await serve(given);
+  } catch (fault) {
+    throw fault instanceof Error ? new CommandError(fault.message) : fault;
+  } finally {
+    process.stdin.destroy();
+  }
+}

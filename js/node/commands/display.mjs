@@ -1,0 +1,25 @@
+// `mcs4 display`: prints what a board's display shows, by answers about its lamps.
+import { linesOf } from "../../core/bench/inputs.js";
+import { shownAnswers } from "../../core/board/shown_answers.js";
+import { needWords, projectFor } from "../arguments.mjs";
+import { boardAndFace } from "../board_texts.mjs";
+import { GivenTexts } from "../given_texts.mjs";
+import { startEngine } from "../native_program.mjs";
+import { CommandError, print } from "../output.mjs";
+
+/** @type {import("./table.mjs").CommandModule["run"]} */
+export async function run({ folder }, positionals) {
+  const project = await projectFor(folder, positionals, 1);
+  const words = project ? [project.board, ...positionals] : positionals;
+  needWords(words, ["BOARD"], 1, true);
+  const [name] = words;
+  const texts = new GivenTexts();
+  const given = texts.text(name, "wire");
+  // While it waits for standard input a signal ends it at once: nothing is started yet.
+  const answers = texts.answers("display");
+  const { board, face } = await boardAndFace(startEngine(), given);
+  const { lines, words: wrong } = shownAnswers(face, board, name, answers);
+  if (wrong !== "") throw new CommandError(wrong);
+  print(linesOf(lines));
+  return 0;
+}

@@ -1,0 +1,26 @@
+// `mcs4 explain`: prints what was refused of a script, where, and why.
+import { answeredScript } from "../../core/bench/answered_script.js";
+import { linesOf } from "../../core/bench/inputs.js";
+import { otherAnswers } from "../../words/commands.js";
+import { needWords } from "../arguments.mjs";
+import { GivenTexts } from "../given_texts.mjs";
+import { placesOf, startEngine } from "../native_program.mjs";
+import { CommandError, print } from "../output.mjs";
+import { RefusedLines } from "../refused_lines.mjs";
+
+/** @type {import("./table.mjs").CommandModule["run"]} */
+export async function run({ source }, positionals) {
+  if (source === undefined) needWords(positionals, ["SCRIPT"]);
+  else needWords([source, ...positionals], ["PROGRAM", "SESSION", "SCRIPT"]);
+  const texts = new GivenTexts();
+  const script = texts.script(positionals[positionals.length - 1]);
+  const answers = texts.answers("explain");
+  const engine = startEngine();
+  const placeOf = source === undefined ? null : await placesOf(texts, engine, source, positionals[0]);
+  const { inputs, words } = answeredScript(script, answers);
+  if (words !== "") throw new CommandError(otherAnswers(words));
+  const lines = script.split("\n").map((line) => line.replace(/\r$/, ""));
+  const found = new RefusedLines(engine, lines, placeOf).all(inputs, answers[0]);
+  print(linesOf(found));
+  return found.length > 0 ? 1 : 0;
+}

@@ -1,0 +1,54 @@
+// `mcs4 explore`: searches for keys that break a property, by the modules of js/core/explore on the bench that is in the page.
+import { join } from "node:path";
+import { isRight, tapOf, testsOfReport } from "../../core/explore/report.js";
+import { namesWithProperties, needCount, needWords } from "../arguments.mjs";
+import { exploreAsJob, exploreTexts, jobOf, mergeReports } from "../exploring.mjs";
+import { GivenTexts, MOST_GIVEN } from "../given_texts.mjs";
+import { CommandError, print } from "../output.mjs";
+import { temporaryFolder } from "../temporary.mjs";
+import { needOwnFile, writeUserFile } from "../user_files.mjs";
+import { NO_FINDS, NO_REPORT } from "../../words/commands.js";
+
+/** Begin the files that are written. */
+const FINDS_BEGIN = "# Found by ";
+const REPORT_BEGIN = "{\"form\":\"explore 1\"";
+/** The most that options can be, and what they are if they are not given. */
+const SECONDS = { most: 86400, usual: 10 };
+const JOBS = { most: 64, usual: 1 };
+const SEED = { most: 99999999, usual: 1 };
+
+/** @type {(name: string, word: string | undefined, range: { most: number, usual: number }) => number} */
+const count = (name, word, { most, usual }) => (word === undefined ? usual : needCount(name, word, most));
+
+/** @type {import("./table.mjs").CommandModule["run"]} */
+export async function run(values, positionals) {
+  const job = jobOf();
+  if (job) return exploreAsJob(job);
+  const { folder, out, report: reportName, merge } = values;
+  const limits = {
+    seconds: count("SECONDS", values.seconds, SECONDS), jobs: count("JOBS", values.jobs, JOBS), seed: count("SEED", values.seed, SEED),
+  };
+  const names = merge ? positionals : await namesWithProperties(folder, positionals);
+  if (merge) needWords(names, ["REPORT"], Infinity);
+  else needWords(names, ["BOARD", "PROGRAM", "PROPERTIES"], 3, true);
+  if (out !== undefined) needOwnFile(out, FINDS_BEGIN, NO_FINDS, names);
+  if (reportName !== undefined) needOwnFile(reportName, REPORT_BEGIN, NO_REPORT, names);
+  const report = merge ? mergeReports(names) : await explore(names, { ...limits, allowsModel: Boolean(values["allow-model"]) });
+  if (reportName !== undefined) writeUserFile(reportName, `${JSON.stringify(report)}\n`);
+  if (out !== undefined) writeUserFile(out, testsOfReport(report));
+  print(tapOf(report));
+  return report.properties.every(isRight) ? 0 : 1;
+}
+
+/**
+ * Searches; returns the report.
+ * @param {string[]} names of board, program and properties
+ * @param {Omit<import("../exploring.mjs").Settings, "folder" | "texts">} limits
+ */
+function explore([board, program, properties], limits) {
+  const texts = new GivenTexts();
+  const given = { board: texts.text(board, "wire"), program: texts.text(program, "asm") };
+  const source = texts.source(properties);
+  const folder = temporaryFolder("explore");
+  return exploreTexts({ ...limits, folder: join(folder), texts: { ...given, properties: source } });
+}

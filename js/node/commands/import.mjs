@@ -1,0 +1,38 @@
+// `mcs4 import`: brings a program in the spelling of Intel's assembler or of AS into the bench's spelling.
+import { importProgram } from "../../core/import/program_import.js";
+import { readProgram } from "../../core/engine/program_check.js";
+import { faultsOfText } from "../../core/testing/prepared.js";
+import { sentText } from "../../core/text/text_fault.js";
+import { needWords } from "../arguments.mjs";
+import { GivenTexts, MOST_GIVEN } from "../given_texts.mjs";
+import { errorOfTexts, startEngine } from "../native_program.mjs";
+import { CommandError, printFile } from "../output.mjs";
+
+const MARK = /^\u00ef\u00bb\u00bf/;
+
+/**
+ * Rejects what the bench rejects; its lines are those of the source.
+ * @param {string} name
+ * @param {string} source
+ * @param {string} text
+ */
+async function tryOnBench(name, source, text) {
+  const engine = startEngine();
+  const unsent = faultsOfText("program", text);
+  const { refusal } = unsent.length > 0 ? { refusal: null } : readProgram(engine, sentText(text, ";"));
+  const faults = refusal ? [{ text: /** @type {const} */ ("program"), ...refusal, words: "" }] : unsent;
+  if (faults.length > 0) throw await errorOfTexts(engine, { program: { name, text: source, before: 0 } }, faults);
+}
+
+/** @type {import("./table.mjs").CommandModule["run"]} */
+export async function run(values, words) {
+  needWords(words, ["PROGRAM"]);
+  const [name] = words;
+  // A letter for each byte: comments keep theirs.
+  const source = new GivenTexts().read(name, MOST_GIVEN).toString("latin1").replace(MARK, "");
+  const { text, faults } = importProgram(source);
+  if (faults.length > 0) throw new CommandError(faults.map(({ line, words: why }) => `${name}:${line}: ${why}`).join("\n"));
+  await tryOnBench(name, source.replace(/\r(?=\n|$)/g, ""), text);
+  printFile(text, "latin1");
+  return 0;
+}

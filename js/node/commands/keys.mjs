@@ -1,0 +1,55 @@
+// `mcs4 keys`: prints lines that press keys by their names, or presses them on a session up to a stop.
+import { isStop, refusalOf } from "../../core/bench/answers.js";
+import { linesOf } from "../../core/bench/inputs.js";
+import { USUAL_PACE } from "../../core/testing/press_lines.js";
+import { benchRejected } from "../../words/commands.js";
+import { needCount, needWords, projectFor } from "../arguments.mjs";
+import { boardAndFace, keyLines } from "../board_texts.mjs";
+import { GivenTexts, MOST_GIVEN } from "../given_texts.mjs";
+import { startEngine } from "../native_program.mjs";
+import { CommandError, print, printFile } from "../output.mjs";
+
+const MOST_CYCLES = 100000;
+
+/**
+ * Presses keys on a session, and prints its answers, up to the first stop; returns the exit status.
+ * @param {string} session its file
+ * @param {string[]} lines
+ */
+async function pressOn(session, lines) {
+  const { openProgram } = await import("../session_program.mjs");
+  const program = await openProgram("open", session);
+  print(`${program.opened}\n`);
+  let answer = "";
+  for (const line of lines) {
+    [answer] = await program.ask(`${line}\n`, 1);
+    print(`${answer}\n`);
+    if (isStop(answer)) break;
+  }
+  await program.end();
+  const refusal = refusalOf(answer);
+  if (!refusal) return 0;
+  const { wordsOfRefusal } = await import("../refused_texts.mjs");
+  throw new CommandError(benchRejected(answer, wordsOfRefusal(refusal.number)));
+}
+
+/** @type {import("./table.mjs").CommandModule["run"]} */
+export async function run({ folder, down, up, "until-stop": session }, positionals) {
+  const pace = {
+    down: down === undefined ? USUAL_PACE.down : needCount("CYCLES of --down", down, MOST_CYCLES),
+    up: up === undefined ? USUAL_PACE.up : needCount("CYCLES of --up", up, MOST_CYCLES),
+  };
+  const project = positionals.length > 0 ? await projectFor(folder, positionals, 2) : null;
+  const words = project ? [project.board, ...positionals] : positionals;
+  needWords(words, ["BOARD", "KEYS"], 2, true);
+  const [boardName, keys] = words;
+  const texts = new GivenTexts();
+  const given = texts.text(boardName, "wire");
+  if (session !== undefined) texts.read(session, MOST_GIVEN);
+  const engine = startEngine();
+  const { face } = await boardAndFace(engine, given);
+  const lines = keyLines(face, boardName, keys, pace);
+  if (session !== undefined) return pressOn(session, lines);
+  printFile(linesOf(lines), "utf8");
+  return 0;
+}

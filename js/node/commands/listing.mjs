@@ -1,0 +1,22 @@
+// `mcs4 listing`: prints a program as assemblers print it, or its names.
+import { linesOf } from "../../core/bench/inputs.js";
+import { namesOfProgram, programListing } from "../../core/machine/program_listing.js";
+import { excludeEachOther } from "../../words/commands.js";
+import { needWords, projectFor } from "../arguments.mjs";
+import { GivenTexts } from "../given_texts.mjs";
+import { mappedProgram, startEngine } from "../native_program.mjs";
+import { UsageError, printFile } from "../output.mjs";
+
+/** @type {import("./table.mjs").CommandModule["run"]} */
+export async function run({ folder, names, labels }, positionals) {
+  if (names && labels) throw new UsageError(excludeEachOther("--names", "--labels"));
+  const project = await projectFor(folder, positionals, 1);
+  const words = project ? [project.program, ...positionals] : positionals;
+  needWords(words, ["PROGRAM"], 1, true);
+  const program = new GivenTexts().text(words[0], "asm");
+  const { map, bytes } = await mappedProgram(startEngine(), program);
+  const lines = names || labels ? namesOfProgram(map, Boolean(labels)).map(({ name, value }) => `${name} ${value}`)
+    : programListing(program.text, map, bytes);
+  printFile(linesOf(lines), program.encoding);
+  return 0;
+}

@@ -1,0 +1,21 @@
+// `mcs4 names`: puts the addresses of a program's names into lines.
+import { putNames } from "../../core/bench/names_in_lines.js";
+import { inLine } from "../../words/commands.js";
+import { needWords, projectFor } from "../arguments.mjs";
+import { GivenTexts } from "../given_texts.mjs";
+import { mappedProgram, startEngine } from "../native_program.mjs";
+import { CommandError, printFile } from "../output.mjs";
+
+/** @type {import("./table.mjs").CommandModule["run"]} */
+export async function run({ folder }, positionals) {
+  const project = await projectFor(folder, positionals, 1);
+  const words = project ? [project.program, ...positionals] : positionals;
+  needWords(words, ["PROGRAM"], 1, true);
+  const texts = new GivenTexts();
+  const { text, encoding } = texts.lines();
+  const { map } = await mappedProgram(startEngine(), texts.text(words[0], "asm"));
+  const { lines, line, words: wrong } = putNames(text, map);
+  if (wrong !== "") throw new CommandError(inLine(line, wrong));
+  printFile(lines === "" || lines.endsWith("\n") ? lines : `${lines}\n`, encoding);
+  return 0;
+}

@@ -1,0 +1,9 @@
+// `mcs4 new` at a terminal. (The starter runs the program itself where there is none.)
+import { needWords } from "../arguments.mjs";
+import { servePrompt } from "../session_prompt.mjs";
+
+/** @type {import("./table.mjs").CommandModule["run"]} */
+export function run(_, positionals) {
+  needWords(positionals, ["FILE"]);
+  return servePrompt("new", positionals[0]);
+}

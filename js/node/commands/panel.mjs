@@ -1,0 +1,158 @@
+// `mcs4 panel`: the front panel of a board in a terminal, with live keys. All that is done goes into the session's file, by the program itself.
+import { basename } from "node:path";
+import { readBoard } from "../../core/bench/answers.js";
+import { codesOf } from "../../core/engine/rom_codes.js";
+import { listsOf, PAGES } from "../../core/bench/rom_bytes.js";
+import { differences } from "../../core/bench/begun_script.js";
+import { missingOf } from "../../core/board/face_board.js";
+import { sorted } from "../../core/board/face.js";
+import { Panel } from "../../core/panel/panel.js";
+import { Screen, hasRoom, middleRows } from "../../core/panel/screen.js";
+import { otherBoard } from "../../words/commands.js";
+import { noteOfBoard } from "../../words/panel.js";
+import { needWords, projectFor } from "../arguments.mjs";
+import { boardAndFace } from "../board_texts.mjs";
+import { GivenTexts, MOST_GIVEN } from "../given_texts.mjs";
+import { endEngine, endOnSignals, programOf, startEngine } from "../native_program.mjs";
+import { CommandError } from "../output.mjs";
+import { PanelTerminal } from "../panel_terminal.mjs";
+import { wordsOfRefusal } from "../refused_texts.mjs";
+import { openProgram } from "../session_program.mjs";
+
+/**
+ * @typedef {import("../given_texts.mjs").GivenText} GivenText
+ * @typedef {import("../session_program.mjs").SessionProgram} SessionProgram
+ */
+
+const FAILED = 1;
+/** Between two pictures are so many milliseconds. */
+const FRAME = 100;
+
+/**
+ * Returns the names of board, session and program: those that are given, and those of the project.
+ * @param {import("./table.mjs").Values} values
+ * @param {string[]} words
+ */
+async function namesOf({ folder, source }, words) {
+  const project = await projectFor(folder, words, 2);
+  if (project) {
+    needWords(words, ["SESSION"]);
+    return { board: project.board, session: words[0], program: source ?? project.program };
+  }
+  needWords(words, ["BOARD", "SESSION"], 2, true);
+  return { board: words[0], session: words[1], program: source };
+}
+
+/**
+ * Serves lines; returns all their answers.
+ * @param {SessionProgram} session
+ * @param {string} lines
+ */
+async function answersOf(session, lines) {
+  /** @type {string[]} */
+  const answers = [];
+  await session.serve(lines, (line) => answers.push(line));
+  return answers;
+}
+
+/**
+ * Reads the texts, which have to be those of the session: its board and the bytes in its ROM.
+ * @param {SessionProgram} session
+ * @param {string} name of the session
+ * @param {{ board: GivenText, program: GivenText | null }} texts
+ */
+async function knowTexts(session, name, texts) {
+  const engine = startEngine();
+  const { board, face, answers } = await boardAndFace(engine, texts.board);
+  const differing = differences(await answersOf(session, "board\n"), answers);
+  if (differing.length > 0) throw new CommandError([`${otherBoard(texts.board.name)} (< ${name}, > ${texts.board.name})`, ...differing].join("\n"));
+  const { program } = texts;
+  const map = program && await programOf(engine, codesOf(await answersOf(session, listsOf(PAGES))), program);
+  endEngine();
+  return { board, face, source: map && { map, lines: program.text.split("\n"), before: program.before } };
+}
+
+/**
+ * Returns the first thing that the face tells and the board lacks, if nothing hangs on it; "" for none.
+ * @param {Awaited<ReturnType<typeof knowTexts>>} known
+ * @param {number} before the lines of the file before the text
+ */
+function noteOf({ board, face }, before) {
+  const [note] = sorted([...face.faults, ...missingOf(face, board)]);
+  return note ? noteOfBoard(note.line + before, note.words) : "";
+}
+
+/**
+ * Draws what is seen now.
+ * @param {PanelTerminal} terminal
+ * @param {Panel} panel
+ * @param {Screen} screen
+ */
+async function show(terminal, panel, screen) {
+  const { size } = terminal;
+  await panel.seen.take(hasRoom(size) ? middleRows(size) : 0);
+  if (hasRoom(terminal.size) && terminal.size.rows === size.rows) terminal.draw(screen.rows(terminal.size));
+  else if (!hasRoom(terminal.size)) terminal.drawLack();
+}
+
+/**
+ * Takes the keys that are typed until the next picture is due; if time is paused, each key has a picture of its own.
+ * @param {PanelTerminal} terminal
+ * @param {Panel} panel
+ * @param {number} next when that is
+ */
+async function takeKeys(terminal, panel, next) {
+  for (let isDrawn = false; !isDrawn && !panel.isEnded && !terminal.isGone;) {
+    const key = terminal.keys.shift();
+    if (key) await panel.type(key, performance.now());
+    else if (performance.now() < next && terminal.shown.length > 0) await terminal.wait(next - performance.now());
+    isDrawn = key ? panel.isPaused : performance.now() >= next || terminal.shown.length === 0;
+  }
+}
+
+/**
+ * Shows the panel until it is ended; returns the exit status.
+ * @param {PanelTerminal} terminal
+ * @param {Panel} panel
+ */
+async function live(terminal, panel) {
+  const screen = new Screen(panel);
+  terminal.begin(() => panel.seen.forgetListing());
+  await panel.begin();
+  for (let next = performance.now(); !panel.isEnded && !terminal.isGone;) {
+    await panel.keepTime(performance.now());
+    await show(terminal, panel, screen);
+    next = Math.max(next + FRAME, performance.now());
+    await takeKeys(terminal, panel, next);
+  }
+  return terminal.isGone ? FAILED : 0;
+}
+
+/** @type {import("./table.mjs").CommandModule["run"]} */
+export async function run(values, words) {
+  const names = await namesOf(values, words);
+  const texts = new GivenTexts();
+  const board = texts.text(names.board, "wire");
+  const program = names.program === undefined ? null : texts.text(names.program, "asm");
+  texts.read(names.session, MOST_GIVEN);
+  const terminal = new PanelTerminal();
+  const session = await openProgram("open", names.session);
+  try {
+    const known = await knowTexts(session, names.session, { board, program });
+    endOnSignals(() => {
+      terminal.leave();
+      session.close();
+    });
+    const panel = new Panel((lines) => answersOf(session, lines), {
+      ...known, name: basename(names.session), wordsOfRefusal, isPaused: values.stopped === true, note: noteOf(known, board.before),
+    }, performance.now());
+    return await live(terminal, panel);
+  } catch (thrown) {
+    if (terminal.isGone) return FAILED;
+    throw thrown;
+  } finally {
+    terminal.end();
+    await session.end();
+    terminal.hangUp();
+  }
+}

@@ -1,0 +1,11 @@
+// `mcs4 profile`: prints where the cycles of a program go.
+import { Account } from "../../core/testing/account.js";
+import { profileText } from "../../core/testing/profile_text.js";
+import { print } from "../output.mjs";
+import { testOrCount } from "../testing.mjs";
+
+/** @type {import("./table.mjs").CommandModule["run"]} */
+export function run({ folder, session }, positionals) {
+  const report = ({ profile }) => print(profileText(profile));
+  return testOrCount({ name: "profile", Counting: Account, report }, { folder, session }, positionals);
+}

@@ -1,0 +1,167 @@
+// `mcs4 project`: takes a project of the page apart into files of a folder, and puts such files together.
+import { existsSync, realpathSync, statSync } from "node:fs";
+import { basename, join } from "node:path";
+import { LONGEST_PROJECT, NotAProject, projectText, readProject, wordsOfLength } from "../../core/session/project_file.js";
+import { PART_NAMES, breakpointsIn, partsOfProject, valuesIn } from "../../core/session/project_parts.js";
+import { newSession } from "../../core/testing/prepared.js";
+import * as say from "../../words/commands.js";
+import { needWords, projectFor } from "../arguments.mjs";
+import { MOST_GIVEN } from "../given_texts.mjs";
+import { SESSION_BYTES } from "../native_engine.mjs";
+import { endOnSignals, errorOfTexts, startEngine } from "../native_program.mjs";
+import { CommandError, UsageError } from "../output.mjs";
+import { isInside, needOwnFile, readUserFile, writeNewFiles, writeUserFile } from "../user_files.mjs";
+
+const PROJECT_BEGINS = "fethsaim project ";
+const SESSION_BEGINS = "MCS4BEN1";
+/** The kinds of texts that a project of the page has one of. */
+const LISTED = /** @type {const} */ (["tests", "properties"]);
+
+/**
+ * Returns what an act returns; what is no project is an error with the name of its file.
+ * @template Result
+ * @param {string} name
+ * @param {() => Result} act
+ */
+function ofFile(name, act) {
+  try {
+    return act();
+  } catch (thrown) {
+    throw thrown instanceof NotAProject ? new CommandError(`${name}: ${thrown.message}`) : thrown;
+  }
+}
+
+/**
+ * Takes a project apart.
+ * @param {string} name
+ * @param {string} folder
+ */
+function split(name, folder) {
+  const project = ofFile(name, () => readProject(readUserFile(name, LONGEST_PROJECT), SESSION_BYTES, true));
+  writeNewFiles(folder, partsOfProject(project), Object.values(PART_NAMES));
+}
+
+// --- join ---
+
+/**
+ * Reads a file of a folder; a link must not lead out of it.
+ * @param {string} folder
+ * @param {string} name with the folder
+ */
+function readPart(folder, name) {
+  const bytes = readUserFile(name, MOST_GIVEN);
+  if (!isInside(name, folder)) throw new CommandError(say.leadsOutOf(name, folder));
+  return bytes;
+}
+
+/**
+ * Reads a text of a folder, which is UTF-8.
+ * @param {string} folder
+ * @param {string} name with the folder
+ */
+function readText(folder, name) {
+  const bytes = readPart(folder, name);
+  if (bytes.includes(0)) throw new CommandError(say.zeroBytes(name));
+  try {
+    return new TextDecoder("utf-8", { fatal: true }).decode(bytes);
+  } catch {
+    throw new CommandError(say.notUtf8(name));
+  }
+}
+
+/**
+ * Returns the names of the texts: those that the project file names, else those that are there.
+ * @param {string} folder
+ * @returns {Promise<{ board: string, program: string, tests: string, properties: string }>} "" for a text that there is not
+ */
+async function textNames(folder) {
+  const place = (/** @type {string} */ name) => join(folder, name);
+  if (!existsSync(place(PART_NAMES.project))) {
+    const [tests, properties] = LISTED.map((kind) => (existsSync(place(PART_NAMES[kind])) ? place(PART_NAMES[kind]) : ""));
+    return { board: place(PART_NAMES.board), program: place(PART_NAMES.program), tests, properties };
+  }
+  const project = await projectFor(folder, [], 0);
+  for (const kind of LISTED) if (project[kind].length > 1) throw new CommandError(say.tooManyTexts(project.file, project[kind].length, kind));
+  return { board: project.board, program: project.program, tests: project.tests[0] || "", properties: project.properties[0] || "" };
+}
+
+/**
+ * Returns the session of a folder; without one, a new session of the texts.
+ * @param {string} folder
+ * @param {{ board: string, program: string }} names of the texts
+ * @param {{ boardText: string, programText: string }} texts
+ */
+async function sessionOf(folder, names, texts) {
+  const name = join(folder, PART_NAMES.session);
+  if (existsSync(name)) {
+    const bytes = readPart(folder, name);
+    if (!bytes.equals(readPart(folder, name))) throw new CommandError(say.inUse(name));
+    if (bytes.length === SESSION_BYTES && bytes.toString("latin1").startsWith(SESSION_BEGINS)) return bytes;
+    throw new CommandError(say.noSessionFile(name));
+  }
+  const engine = startEngine();
+  const { file, faults } = newSession(engine, texts);
+  if (faults.length === 0) return engine.bytesOf(file);
+  const given = (/** @type {string} */ each, /** @type {string} */ text) => ({ name: each, text, before: 0 });
+  throw await errorOfTexts(engine, { board: given(names.board, texts.boardText), program: given(names.program, texts.programText) }, faults);
+}
+
+/**
+ * Returns the name of a folder's session.
+ * @param {string} folder
+ */
+function nameOf(folder) {
+  const file = join(folder, PART_NAMES.name);
+  if (!existsSync(file)) return basename(realpathSync(folder));
+  const [name] = readText(folder, file).split(/\r?\n/);
+  if (name.trim() === "") throw new CommandError(say.emptyName(file));
+  return name;
+}
+
+/**
+ * Reads what a text of a folder lists; nothing if it is not there.
+ * @template Item
+ * @param {string} folder
+ * @param {string} part
+ * @param {(text: string) => Item[]} read
+ */
+function listIn(folder, part, read) {
+  const name = join(folder, part);
+  return existsSync(name) ? ofFile(name, () => read(readText(folder, name))) : [];
+}
+
+/**
+ * Puts a project together.
+ * @param {string} folder
+ * @param {string} name of the project
+ */
+async function joinFiles(folder, name) {
+  if (!statSync(folder, { throwIfNoEntry: false })?.isDirectory()) throw new CommandError(say.noFolder(folder));
+  needOwnFile(name, PROJECT_BEGINS, say.NO_PROJECT, []);
+  const names = await textNames(folder);
+  const [boardText, programText, testText, propertiesText] = [names.board, names.program, names.tests, names.properties]
+    .map((each) => (each === "" ? "" : readText(folder, each)));
+  const words = wordsOfLength({ boardText, programText, testText, propertiesText });
+  if (words) throw new CommandError(`${folder}: ${words}`);
+  const project = {
+    name: nameOf(folder),
+    boardText, programText, testText, propertiesText,
+    breakpoints: listIn(folder, PART_NAMES.breakpoints, breakpointsIn),
+    watched: listIn(folder, PART_NAMES.values, valuesIn),
+    file: await sessionOf(folder, names, { boardText, programText }),
+  };
+  writeUserFile(name, projectText(project));
+}
+
+/** @type {import("./table.mjs").CommandModule["run"]} */
+export async function run(values, [action, ...words]) {
+  if (action === undefined) throw new UsageError(say.SPLIT_OR_JOIN);
+  if (action !== "split" && action !== "join") throw new UsageError(say.neitherSplitNorJoin(action));
+  needWords(words, action === "split" ? ["FILE", "FOLDER"] : ["FOLDER", "FILE"]);
+  const [from, to] = words;
+  // A signal must not leave a part of what is written.
+  endOnSignals();
+  if (action === "split") split(from, to);
+  else await joinFiles(from, to);
+  return 0;
+}

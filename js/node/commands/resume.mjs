@@ -1,0 +1,79 @@
+// `mcs4 resume`: goes on with a script that was killed.
+import { spawn } from "node:child_process";
+import { once } from "node:events";
+import { refusalOf } from "../../core/bench/answers.js";
+import { begunScript } from "../../core/bench/begun_script.js";
+import { changedMeanwhile, notBegun, sessionRefused, sessionWasRefused } from "../../words/commands.js";
+import { needWords } from "../arguments.mjs";
+import { GivenTexts, MOST_GIVEN, MOST_SCRIPT } from "../given_texts.mjs";
+import { breathe, openSession, programPath, startEngine } from "../native_program.mjs";
+import { CommandError, printBytes, printError } from "../output.mjs";
+import { wordsOfRefusal } from "../refused_texts.mjs";
+
+const OPENED = /^session \d+\n/;
+
+/**
+ * Prints answers as they come; returns the first line, if that says that the session is not open.
+ * @param {import("node:stream").Readable} stream
+ */
+async function printAnswers(stream) {
+  let first = Buffer.alloc(0);
+  let isOpen = false;
+  for await (const bytes of stream) {
+    if (!isOpen) first = Buffer.concat([first, bytes]);
+    if (!isOpen && !first.includes("\n")) continue;
+    if (!isOpen && !OPENED.test(first.toString("latin1"))) continue;
+    printBytes(isOpen ? bytes : first);
+    isOpen = true;
+  }
+  return isOpen ? null : first.toString("latin1").split("\n")[0];
+}
+
+/**
+ * Serves bytes on a session, and prints the answers; returns the exit status.
+ * @param {string} session its file
+ * @param {Buffer} bytes
+ */
+async function serveOn(session, bytes) {
+  const child = spawn(programPath(), ["open", session], { stdio: ["pipe", "pipe", "pipe"] });
+  const ended = once(child, "close");
+  child.stderr.setEncoding("utf8");
+  child.stderr.on("data", printError);
+  child.stdin.on("error", () => {});
+  child.stdin.end(bytes);
+  const refused = await printAnswers(child.stdout);
+  const [status] = await ended;
+  if (refused === null) return status ?? 1;
+  const refusal = refusalOf(refused);
+  throw new CommandError(refusal ? sessionRefused(session, refusal.number, wordsOfRefusal(refusal.number)) : sessionWasRefused(session, refused));
+}
+
+/**
+ * Returns the bytes behind some lines.
+ * @param {Buffer} bytes
+ * @param {number} lines
+ */
+function behindLines(bytes, lines) {
+  let at = 0;
+  for (let left = lines; left > 0 && at < bytes.length; left--) {
+    const feed = bytes.indexOf("\n", at);
+    at = feed < 0 ? bytes.length : feed + 1;
+  }
+  return bytes.subarray(at);
+}
+
+/** @type {import("./table.mjs").CommandModule["run"]} */
+export async function run(_, positionals) {
+  needWords(positionals, ["SCRIPT", "SESSION"]);
+  const [scriptName, session] = positionals;
+  const texts = new GivenTexts();
+  const bytes = texts.read(scriptName, MOST_SCRIPT);
+  const before = texts.read(session, MOST_GIVEN);
+  const engine = startEngine();
+  const { lines, words, differing } = await begunScript(
+    engine, await openSession(engine, texts, session), bytes.toString("latin1"), breathe,
+  );
+  if (words !== "") throw new CommandError(notBegun(session, scriptName, words, differing));
+  if (!texts.read(session, MOST_GIVEN).equals(before)) throw new CommandError(changedMeanwhile(session));
+  return serveOn(session, behindLines(bytes, lines));
+}

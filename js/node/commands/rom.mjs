@@ -1,0 +1,136 @@
+// `mcs4 rom`: images of ROM in and out, as lines for a session and from its answers.
+import { refusalOf } from "../../core/bench/answers.js";
+import { hex, numberOf } from "../../core/bench/numbers.js";
+import { ADDRESSES, MOST_LISTED, NONE, bytesOf } from "../../core/bench/rom_bytes.js";
+import { bnpfOf, formOf, readBnpf, readSRecords } from "../../core/bench/rom_formats.js";
+import { NotARecord, NotAnImage, hexOf, readBytes, readHex } from "../../core/bench/rom_image.js";
+import { textsOfBytes } from "../../core/text/assembling.js";
+import * as say from "../../words/commands.js";
+import { needWords } from "../arguments.mjs";
+import { GivenTexts, MOST_GIVEN } from "../given_texts.mjs";
+import { CommandError, UsageError, print, printBytes } from "../output.mjs";
+import { readStream } from "../user_files.mjs";
+
+/** @typedef {import("../../core/bench/rom_formats.js").ImageForm} ImageForm */
+
+const MOST_ANSWERS = 67108864;
+const STANDARD_INPUT = 0;
+/** @type {Record<string, ImageForm[]>} the forms that each action takes */
+const FORMS = { load: ["hex", "srec", "bnpf", "binary"], ask: [], save: ["hex", "bnpf"] };
+const READERS = { hex: readHex, srec: readSRecords, bnpf: readBnpf };
+
+/**
+ * Returns the form that the options say; null for none.
+ * @param {string} action
+ * @param {import("./table.mjs").Values} values
+ * @returns {ImageForm | null}
+ */
+function formGiven(action, values) {
+  const given = FORMS.load.filter((form) => values[form]);
+  if (given.length > 1) throw new UsageError(say.excludeEachOther(`--${given[0]}`, `--${given[1]}`));
+  const [form = null] = given;
+  if (form && !FORMS[action].includes(form)) throw new UsageError(say.noFormOf(action, form));
+  return form;
+}
+
+/**
+ * Returns the bytes of an image.
+ * @param {ImageForm} form
+ * @param {Buffer} file
+ * @param {number} address
+ */
+function bytesOfImage(form, file, address) {
+  return form === "binary" ? readBytes(file, address) : READERS[form](file.toString("latin1"), address);
+}
+
+/**
+ * Prints the lines that put an image into ROM.
+ * @param {ImageForm | null} given
+ * @param {string[]} words
+ */
+function load(given, words) {
+  needWords(words, ["IMAGE"], 2);
+  const [name, word = "0"] = words;
+  const address = numberOf(word);
+  if (!(address < ADDRESSES)) throw new UsageError(say.ADDRESS_RANGE);
+  const file = new GivenTexts().read(name, MOST_GIVEN);
+  const form = given || formOf(name, file);
+  if (!form) throw new CommandError(say.textNoImage(name));
+  try {
+    print(textsOfBytes(bytesOfImage(form, file, address)).map((text) => `asm\n${text}.\n`).join(""));
+  } catch (thrown) {
+    if (!(thrown instanceof NotAnImage)) throw thrown;
+    const hint = given === null && thrown instanceof NotARecord && thrown.message.startsWith("line 1:") ? say.IS_IT_BINARY : "";
+    throw new CommandError(`${name}: ${thrown.message}${hint}`);
+  }
+}
+
+/**
+ * Returns the first address of a range and how many bytes it has.
+ * @param {string[]} words
+ */
+function rangeOf(words) {
+  needWords(words, ["FIRST", "COUNT"]);
+  const [first, count] = words.map(numberOf);
+  if (Number.isNaN(first) || Number.isNaN(count)) throw new UsageError(say.NUMBERS_OF_RANGE);
+  if (first >= ADDRESSES || count < 1 || first + count > ADDRESSES) throw new UsageError(say.RANGE);
+  return { first, count };
+}
+
+/**
+ * Prints the questions for the bytes of a range.
+ * @param {string[]} words
+ */
+function ask(words) {
+  const { first, count } = rangeOf(words);
+  let lines = "";
+  for (let at = first; at < first + count; at += MOST_LISTED) {
+    lines += `list 0x${hex(at, 3)} ${Math.min(MOST_LISTED, first + count - at)}\n`;
+  }
+  print(lines);
+}
+
+/**
+ * Returns the bytes of a range in answers, of which the later ones hold.
+ * @param {string} answers
+ * @param {{ first: number, count: number }} range
+ */
+function bytesInAnswers(answers, { first, count }) {
+  // A last line that was cut off is none.
+  const lines = answers.split("\n").slice(0, -1).map((line) => line.replace(/\r$/, ""));
+  const refused = lines.findIndex((line) => refusalOf(line));
+  if (refused >= 0) throw new CommandError(say.answersRefusal(refused + 1, lines[refused]));
+  const bytes = bytesOf(lines);
+  const lacking = bytes.subarray(first, first + count).indexOf(NONE);
+  if (lacking >= 0) throw new CommandError(say.noAnswerShows(hex(first + lacking, 3)));
+  bytes.fill(NONE, 0, first).fill(NONE, first + count);
+  return bytes;
+}
+
+/**
+ * Prints the bytes in answers as an image.
+ * @param {ImageForm} form
+ * @param {string[]} words
+ */
+function save(form, words) {
+  const range = rangeOf(words);
+  const { first, count } = range;
+  if (form === "binary" && process.stdout.isTTY) throw new CommandError(say.NO_TERMINAL);
+  const answers = readStream(STANDARD_INPUT, "-", MOST_ANSWERS);
+  if (answers.length === 0) throw new CommandError(say.NO_ANSWERS);
+  const bytes = bytesInAnswers(answers.toString("latin1"), range);
+  if (form === "hex") print(hexOf(bytes));
+  else if (form === "bnpf") print(bnpfOf(bytes, first, count));
+  else printBytes(Uint8Array.from(bytes.subarray(first, first + count)));
+}
+
+/** @type {import("./table.mjs").CommandModule["run"]} */
+export function run(values, [action, ...words]) {
+  if (action === undefined) throw new UsageError(say.LOAD_ASK_OR_SAVE);
+  if (!Object.hasOwn(FORMS, action)) throw new UsageError(say.noRomAction(action));
+  const form = formGiven(action, values);
+  if (action === "load") load(form, words);
+  else if (action === "ask") ask(words);
+  else save(form || "binary", words);
+  return 0;
+}

@@ -1,0 +1,41 @@
+// `mcs4 script`: prints lines that wire a board, load a program, press keys, and ask for the lamps.
+import { LONGEST_LINE, linesOf } from "../../core/bench/inputs.js";
+import { USUAL_PACE } from "../../core/testing/press_lines.js";
+import { prepare } from "../../core/testing/prepared.js";
+import { LONGEST_TEXT, alignedText, sentText } from "../../core/text/text_fault.js";
+import { needWords, projectFor } from "../arguments.mjs";
+import { keyLines } from "../board_texts.mjs";
+import { GivenTexts } from "../given_texts.mjs";
+import { errorOfTexts, startEngine } from "../native_program.mjs";
+import { printFile } from "../output.mjs";
+
+/** The cycles before the first key: 22 ms. */
+const BEGIN = 2000;
+
+/**
+ * Returns a text with its comments, or without them if the bench takes it only so.
+ * @param {string} text
+ * @param {import("../../core/text/text_fault.js").CommentMark} mark
+ */
+function wholeText(text, mark) {
+  const whole = alignedText(text, mark);
+  const isTooLong = whole.length > LONGEST_TEXT || whole.split("\n").some((line) => line.length > LONGEST_LINE);
+  return isTooLong ? sentText(text, mark) : whole;
+}
+
+/** @type {import("./table.mjs").CommandModule["run"]} */
+export async function run({ folder }, positionals) {
+  const project = await projectFor(folder, positionals, 2);
+  const words = project ? [project.board, project.program, ...positionals] : positionals;
+  needWords(words, ["BOARD", "PROGRAM", "KEYS?"], 3, true);
+  const [boardName, programName, keys = ""] = words;
+  const texts = new GivenTexts();
+  const board = texts.text(boardName, "wire");
+  const program = texts.text(programName, "asm");
+  const engine = startEngine();
+  const { prepared, faults } = prepare(engine, { boardText: board.text, programText: program.text });
+  if (!prepared) throw await errorOfTexts(engine, { board, program }, faults);
+  const pressed = keyLines(prepared.names.face, boardName, keys, USUAL_PACE);
+  printFile(`wire\n${wholeText(board.text, "#")}.\nasm\n${wholeText(program.text, ";")}.\n${linesOf([`run ${BEGIN}`, ...pressed])}`, "utf8");
+  return 0;
+}

@@ -1,0 +1,9 @@
+// `mcs4 test`: runs tests of a program, and prints the results as TAP.
+import { NoAccount } from "../../core/testing/account.js";
+import { tapOfTest } from "../../core/testing/tap.js";
+import { testBy } from "../testing.mjs";
+
+/** @type {import("./table.mjs").CommandModule["run"]} */
+export function run({ folder }, positionals) {
+  return testBy({ name: "test", Counting: NoAccount, outcome: tapOfTest }, folder, positionals);
+}

@@ -1,0 +1,40 @@
+// `mcs4 trace`: prints what a session does from here on, an instruction a line.
+import { SessionTrace } from "../../core/trace/session_trace.js";
+import { excludeEachOther } from "../../words/commands.js";
+import { needCount, needWords, projectFor } from "../arguments.mjs";
+import { GivenTexts } from "../given_texts.mjs";
+import { breathe, openSession, programOf, startEngine } from "../native_program.mjs";
+import { UsageError, print } from "../output.mjs";
+
+const MOST_CYCLES = 100000;
+const MOST_LAST = 10000;
+const MOST_CYCLES_OF_LAST = 100000000;
+
+/**
+ * Returns the program whose names or lines are wanted, if there is one.
+ * @param {import("./table.mjs").Values} values
+ */
+async function programFor({ folder, names, source }) {
+  if (names !== undefined && source !== undefined) throw new UsageError(excludeEachOther("--names", "--source"));
+  const project = names === undefined && source === undefined && folder !== undefined ? await projectFor(folder, [], 0) : null;
+  return project ? project.program : names ?? source;
+}
+
+/** @type {import("./table.mjs").CommandModule["run"]} */
+export async function run(values, words) {
+  needWords(words, ["SESSION", "CYCLES"]);
+  const [session, word] = words;
+  const last = values.last === undefined ? 0 : needCount("N", values.last, MOST_LAST);
+  const cycles = needCount("CYCLES", word, last > 0 ? MOST_CYCLES_OF_LAST : MOST_CYCLES);
+  const programName = await programFor(values);
+  const texts = new GivenTexts();
+  const program = programName === undefined ? null : texts.text(programName, "asm");
+  const engine = startEngine();
+  const trace = new SessionTrace(engine, await openSession(engine, texts, session), breathe);
+  const map = program && await programOf(engine, trace.codes, program);
+  const source = program && values.names === undefined ? { lines: program.text.split("\n"), before: program.before } : null;
+  const names = map && { map, source };
+  const pieces = last > 0 ? trace.last(last, cycles, names) : trace.next(cycles, names);
+  for await (const lines of pieces) print(lines.map((line) => `${line}\n`).join(""));
+  return 0;
+}

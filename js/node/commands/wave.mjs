@@ -1,0 +1,175 @@
+// `mcs4 wave`: prints the lines of a board over time as a VCD file, or writes the sound of one as a WAV file.
+import { readBoard } from "../../core/bench/answers.js";
+import { hasOutput } from "../../core/board/face_board.js";
+import { Face } from "../../core/board/face.js";
+import { romCodes } from "../../core/engine/rom_codes.js";
+import { withoutStops } from "../../core/engine/wave_recorder.js";
+import { neededLines, recordPieces } from "../../core/engine/wave_stream.js";
+import { faultsOfNames, wiredBoard } from "../../core/testing/prepared.js";
+import { NoLine, chooseLines, offeredNames } from "../../core/waves/line_choice.js";
+import { VcdText } from "../../core/waves/vcd.js";
+import { programInWaves } from "../../core/waves/wave_program.js";
+import { wavOf } from "../../core/waves/wav.js";
+import * as say from "../../words/commands.js";
+import { needCount, needWords, projectFor } from "../arguments.mjs";
+import { GivenTexts } from "../given_texts.mjs";
+import { breathe, errorOfTexts, openSession, programOf, startEngine } from "../native_program.mjs";
+import { CommandError, UsageError, print, printError } from "../output.mjs";
+import { needOwnFile, writeUserFile } from "../user_files.mjs";
+
+/**
+ * @typedef {import("../given_texts.mjs").GivenText} GivenText
+ * @typedef {import("./table.mjs").Values} Values
+ *
+ * The session without stops, its board, the texts of board and program if they are given, and the program for its labels.
+ * @typedef {{ engine: import("../native_engine.mjs").NativeEngine, state: Uint8Array, board: import("../../core/bench/answers.js").Board,
+ *   boardText: GivenText | null, face: Face, program: import("../../core/engine/wave_recorder.js").RecordedProgram | null }} Wired
+ */
+
+const MOST_CYCLES = 10000000;
+/** Begins a WAV file. */
+const WAV_BEGINS = "RIFF";
+
+/**
+ * Returns the names of the texts of board and program: those that are given, else those of the project that is named.
+ * @param {Values} values
+ */
+async function textsFor({ folder, board, names }) {
+  const project = folder === undefined ? null : await projectFor(folder, [], 0);
+  return { board: board ?? (project ? project.board : undefined), program: names ?? (project ? project.program : undefined) };
+}
+
+/**
+ * Rejects a board's text that is not the session's board, or whose comments name what the board lacks.
+ * @param {Wired["engine"]} engine
+ * @param {GivenText} given
+ * @param {string[]} wanted the answers to `board`
+ */
+async function needBoard(engine, given, wanted) {
+  const { faults, answers } = wiredBoard(engine, given.text);
+  if (faults.length > 0) throw await errorOfTexts(engine, { board: given }, faults);
+  if (answers.join() !== wanted.join()) throw new CommandError(say.otherBoard(given.name));
+  const named = faultsOfNames(new Face(given.text), readBoard(answers));
+  if (named.length > 0) throw await errorOfTexts(engine, { board: given }, named);
+}
+
+/**
+ * Opens the session, with its board and its program.
+ * @param {string} session
+ * @param {{ board: string | undefined, program: string | undefined }} names
+ * @returns {Promise<Wired>}
+ */
+async function wired(session, { board: boardName, program: programName }) {
+  const texts = new GivenTexts();
+  const engine = startEngine();
+  const opened = await openSession(engine, texts, session);
+  const boardText = boardName === undefined ? null : texts.text(boardName, "wire");
+  const program = programName === undefined ? null : texts.text(programName, "asm");
+  const answers = engine.ask(opened, "board\n").answers;
+  if (boardText) await needBoard(engine, boardText, answers);
+  const map = program && await programOf(engine, romCodes(engine, opened), program);
+  const state = withoutStops(engine, opened);
+  return { engine, state, board: readBoard(answers), boardText, face: new Face(boardText ? boardText.text : ""), program: map && programInWaves(map, program.text) };
+}
+
+/** @type {(wanted: Wired) => string} */
+const textOf = ({ boardText }) => (boardText ? boardText.text : "");
+
+/**
+ * Returns what `choose` returns; a line that the board lacks is an error.
+ * @template Result
+ * @param {() => Result} choose
+ */
+function chosenBy(choose) {
+  try {
+    return choose();
+  } catch (thrown) {
+    throw thrown instanceof NoLine ? new CommandError(thrown.message) : thrown;
+  }
+}
+
+/** @param {import("../../core/waves/waves.js").Waves} waves */
+function reportStop({ isStuck, cycles }, wanted) {
+  if (isStuck && cycles < wanted) printError(`wave: ${say.stoppedAtCode(cycles)}\n`);
+}
+
+/**
+ * Prints the VCD file.
+ * @param {Wired} opened
+ * @param {number} cycles
+ * @param {string[]} words
+ */
+async function printVcd(opened, cycles, words) {
+  const { engine, state, board, program } = opened;
+  const all = chosenBy(() => chooseLines(board, textOf(opened), program !== null, words));
+  const { lines, chosen } = neededLines(all.lines, all.chosen);
+  /** @type {VcdText | null} */
+  let text = null;
+  for await (const waves of recordPieces(engine, state, { lines, program, cycles }, breathe)) {
+    if (!text) {
+      text = new VcdText(waves, chosen);
+      print(text.head());
+    }
+    for (const part of text.changes()) print(part);
+  }
+  if (!text) return;
+  print(text.end());
+  reportStop(text.waves, cycles);
+}
+
+/**
+ * Returns the name of the buzzer's line.
+ * @param {Wired} opened
+ * @param {string | undefined} word
+ */
+function buzzerLine({ board, boardText, face: { buzzer } }, word) {
+  if (word === undefined && !boardText) throw new CommandError(say.NO_BUZZER_GIVEN);
+  if (word === undefined && !buzzer) throw new CommandError(say.noBuzzer(boardText.name));
+  if (word === undefined && !hasOutput(board, buzzer.place)) {
+    throw new CommandError(say.noOutputAt(boardText.name, buzzer.line + boardText.before, buzzer.place));
+  }
+  const name = word ?? buzzer.place;
+  const isOutput = /^(rom|ram|chain)[\d.]*\.\d+$/.test(name) && hasOutput(board, name);
+  if (!isOutput) throw new CommandError(say.noOutputLine(name));
+  return name;
+}
+
+/**
+ * Writes the WAV file.
+ * @param {Wired} opened
+ * @param {number} cycles
+ * @param {string | undefined} word
+ * @param {string} name of the file
+ */
+async function writeWav(opened, cycles, word, name) {
+  const { engine, state, board } = opened;
+  const line = buzzerLine(opened, word);
+  const all = chosenBy(() => chooseLines(board, "", false, [line]));
+  const { lines, chosen } = neededLines(all.lines, all.chosen);
+  const edges = [];
+  let [level, done] = [-1, 0];
+  for await (const waves of recordPieces(engine, state, { lines, program: null, cycles }, breathe)) {
+    if (level < 0) level = waves.numberAt(chosen[0], 0);
+    for (const edge of waves.changesOf(chosen[0])) edges.push(edge);
+    done = waves.cycles;
+    if (done < cycles && waves.isStuck) reportStop(waves, cycles);
+  }
+  writeUserFile(name, wavOf(level, edges, done));
+}
+
+/** @type {import("./table.mjs").CommandModule["run"]} */
+export async function run(values, words) {
+  const { lines: isList, wav } = values;
+  if (isList && wav !== undefined) throw new UsageError(say.excludeEachOther("--lines", "--wav"));
+  if (wav !== undefined && values.names !== undefined) throw new UsageError(say.NO_NAMES_OF_SOUND);
+  needWords(words, isList ? ["SESSION"] : ["SESSION", "CYCLES"], isList ? 1 : wav === undefined ? Infinity : 3);
+  const [session, word, ...lines] = words;
+  const cycles = isList ? 0 : needCount("CYCLES", word, MOST_CYCLES);
+  const names = await textsFor(values);
+  if (wav !== undefined) needOwnFile(wav, WAV_BEGINS, say.NO_WAV, names.board === undefined ? [session] : [session, names.board]);
+  const opened = await wired(session, wav === undefined ? names : { ...names, program: undefined });
+  if (isList) print(offeredNames(opened.board, textOf(opened), opened.program !== null).map((name) => `${name}\n`).join(""));
+  else if (wav === undefined) await printVcd(opened, cycles, lines);
+  else await writeWav(opened, cycles, lines[0], wav);
+  return 0;
+}

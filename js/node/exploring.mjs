@@ -1,0 +1,211 @@
+// The search of `mcs4 explore`: one in this process, or several, each a job in a process of its own; what is found is confirmed by `mcs4 test`.
+import { createHash } from "node:crypto";
+import { writeFileSync } from "node:fs";
+import { dirname, join } from "node:path";
+import { Engine } from "../core/engine/engine.js";
+import { begun } from "../core/explore/beginning.js";
+import { readCampaign } from "../core/explore/campaign.js";
+import { CampaignRun, patienceOf } from "../core/explore/campaign_run.js";
+import { joinReports, lineOfProperty, stepsOf } from "../core/explore/report.js";
+import { subjectOf } from "../core/explore/subject.js";
+import { prepare } from "../core/testing/prepared.js";
+import * as say from "../words/commands.js";
+import { breathe, interrupt, runAgain, runCommand } from "./children.mjs";
+import { errorOfTexts } from "./native_program.mjs";
+import { CommandError, printError } from "./output.mjs";
+import { moduleOfPage } from "./page_parts.mjs";
+import { readUserText, writeUserFile } from "./user_files.mjs";
+
+/**
+ * @typedef {import("./given_texts.mjs").GivenText} GivenText
+ *
+ * What is searched, in which texts; `folder` is a temporary one. A job has the name of the file for its report.
+ * @typedef {{ seconds: number, jobs: number, seed: number, allowsModel: boolean, folder: string,
+ *   texts: { board: GivenText, program: GivenText, properties: { name: string, text: string } }, report?: string }} Settings
+ */
+
+/** Between two looks at the clock, and at what was asked for, are so many milliseconds. */
+const SLICE = 50;
+/** The most bytes that a text of tests, and a report, can have. */
+const MOST_TESTS = 1048576;
+const MOST_REPORT = 16777216;
+/** Passes the name of its settings to a job. */
+const JOB = "MCS4_EXPLORE_JOB";
+
+let isStopped = false;
+
+/**
+ * Returns the text of the tests that a campaign goes on from: in the file that it names, or the one beside the properties.
+ * @param {{ from: { file: string, line: number, state: string } | null }} campaign
+ * @param {string} name of the properties
+ */
+function testsFor({ from }, name) {
+  if (!from) return "";
+  const file = from.file ? join(dirname(name), from.file) : `${name.replace(/\.props$/, "")}.test`;
+  try {
+    return readUserText(file, MOST_TESTS);
+  } catch ({ message }) {
+    throw new CommandError(say.testsMustSave(name, from.line, message, from.state));
+  }
+}
+
+/** Returns what a model says of chains of keys, a line each. */
+async function askModel(command, chains) {
+  const { status, stdout, stderr, signal } = await runCommand("sh", ["-c", command], `${chains.join("\n")}\n`);
+  const lines = stdout.split("\n").slice(0, -1);
+  const [words] = stderr.split("\n");
+  if (status !== 0) return { shown: [], fault: say.modelEnded(signal || `status ${status}`, words) };
+  return { shown: lines, fault: lines.length === chains.length ? "" : say.modelPrinted(lines.length, chains.length) };
+}
+
+/** A search of one campaign. */
+class Exploration {
+  /**
+   * @param {Engine} engine
+   * @param {Settings} settings
+   */
+  constructor(engine, settings) {
+    this.engine = engine;
+    this.settings = settings;
+    const { board, program, properties } = settings.texts;
+    this.names = { board: board.name, program: program.name, properties: properties.name };
+    this.files = { board: join(settings.folder, "board_text"), program: join(settings.folder, "program_text") };
+  }
+
+  /** Reads the texts; returns what is searched, where it begins, and all texts that it depends on. */
+  async begin() {
+    const { engine, settings: { texts: { board, program, properties } } } = this;
+    const { prepared, faults: wrong } = prepare(engine, { boardText: board.text, programText: program.text });
+    if (!prepared) throw await errorOfTexts(engine, { board, program }, wrong);
+    const subject = subjectOf(engine, board.text, program.text, program.before);
+    const { campaign, faults } = readCampaign(properties.text, subject);
+    if (faults.length > 0) throw new CommandError(faults.map(({ line, words }) => `${properties.name}:${line}: ${words}`).join("\n"));
+    const testText = testsFor(campaign, properties.name);
+    const { readable, words } = await begun({ subject, campaign }, prepared, testText);
+    if (words) throw new CommandError(`${properties.name}:${campaign.from.line}: ${words}`);
+    return { ...readable, texts: [board.text, program.text, properties.text, testText] };
+  }
+
+  /** Prints the command of a model before it is run for the first time. */
+  announce({ command, properties }) {
+    if (command === "" || !this.settings.allowsModel) return;
+    const { line } = properties.find(({ form }) => form === "model");
+    printError(`# ${say.runsModel(this.names.properties, line, command)}\n`);
+  }
+
+  /** Returns whether `mcs4 test` judges a test as it should; one that was stopped, by a key that stops all, is tried once more. */
+  async confirm(test, isGoal) {
+    const name = join(this.settings.folder, `find.${process.pid}.test`);
+    writeFileSync(name, test);
+    for (let tries = 0; tries < 2; tries++) {
+      const { status, stdout } = await runCommand(process.execPath, [process.argv[1], "test", this.files.board, this.files.program, name]);
+      if (/^(not )?ok 1/m.test(stdout)) return isGoal ? status === 0 : status === 1;
+    }
+    return false;
+  }
+
+  /** Searches with one seed; returns the report. */
+  async search({ subject, campaign, texts }) {
+    const { settings: { seconds, seed, allowsModel }, names } = this;
+    const asked = allowsModel ? (chains) => askModel(campaign.command, chains) : null;
+    const confirm = (test, isGoal) => this.confirm(test, isGoal);
+    const run = new CampaignRun(subject, campaign, seed, confirm, patienceOf(seconds), asked, breathe);
+    const from = process.cpuUsage();
+    const end = performance.now() + 1000 * seconds;
+    while (performance.now() < end && !isStopped && !run.isDone) {
+      const found = await run.goOn(SLICE);
+      if (run.fault && !isStopped) throw new CommandError(`${names.properties}:${campaign.properties[run.modelled].line}: ${run.fault}`);
+      if (found) this.show(campaign.properties[found.property], found.found);
+      await breathe();
+    }
+    const { user, system } = process.cpuUsage(from);
+    for (const test of run.doubts) printError(`explore: ${say.notSeenToFail(test)}`);
+    const sums = createHash("sha256").update(JSON.stringify(texts)).digest("hex");
+    return run.report({ names, sums, seconds: (user + system) / 1e6, isStopped });
+  }
+
+  /** Prints what was found. */
+  show(property, { steps }) {
+    printError(`# ${say.wasFound(lineOfProperty(property, { names: this.names }), property.text, property.isGoal, stepsOf(steps))}\n`);
+  }
+
+  /** Runs one search in a process of its own; returns its status and the name of its report. */
+  async searchApart(seed) {
+    const { settings } = this;
+    const report = join(settings.folder, `report.${seed}`);
+    const name = join(settings.folder, `job.${seed}`);
+    writeFileSync(name, JSON.stringify({ ...settings, seed, report }));
+    return { status: await runAgain({ ...process.env, [JOB]: name }), report };
+  }
+
+  /** Runs all jobs at a time; returns the joined report. */
+  async searchAll() {
+    const { files, settings: { jobs, seed, texts } } = this;
+    writeFileSync(files.board, texts.board.text);
+    writeFileSync(files.program, texts.program.text);
+    const all = await this.begin();
+    this.announce(all.campaign);
+    if (jobs === 1) return this.search(all);
+    const ended = await Promise.all([...Array(jobs).keys()].map((job) => this.searchApart(seed + job)));
+    const wrong = ended.find(({ status }) => status === null || status > 1);
+    if (wrong) throw new CommandError(say.jobEnded(wrong.status));
+    return joinReports(ended.map(({ report }) => readReport(report)));
+  }
+}
+
+/** Reads a report that another search has written. */
+function readReport(name) {
+  const text = readUserText(name, MOST_REPORT);
+  try {
+    const report = JSON.parse(text);
+    if (report.form === "explore 1") return report;
+  } catch {
+    // It is reported below.
+  }
+  throw new CommandError(say.noReport(name));
+}
+
+/**
+ * Joins the reports of searches for the same texts.
+ * @param {string[]} names
+ */
+export function mergeReports(names) {
+  const reports = names.map(readReport);
+  const at = reports.findIndex(({ sums }) => sums !== reports[0].sums);
+  if (at > 0) throw new CommandError(say.ofOtherTexts(names[at], names[0]));
+  return joinReports(reports);
+}
+
+/** @param {Settings} settings */
+async function explorationBy(settings) {
+  process.on("SIGINT", () => {
+    isStopped = true;
+    interrupt();
+  });
+  return new Exploration(await Engine.load(moduleOfPage()), settings);
+}
+
+/**
+ * Searches; returns the report.
+ * @param {Settings} settings
+ */
+export async function exploreTexts(settings) {
+  return (await explorationBy(settings)).searchAll();
+}
+
+/** Returns the settings of this process if it is a job of another one; else null. */
+export function jobOf() {
+  const name = process.env[JOB];
+  return name ? JSON.parse(readUserText(name, 2 * MOST_REPORT)) : null;
+}
+
+/**
+ * Searches as a job of another process, and writes the report; returns the exit status.
+ * @param {Settings & { report: string }} settings
+ */
+export async function exploreAsJob(settings) {
+  const exploration = await explorationBy(settings);
+  const report = await exploration.search(await exploration.begin());
+  writeUserFile(settings.report, `${JSON.stringify(report)}\n`);
+  return 0;
+}

@@ -1,0 +1,37 @@
+// Names of files that a line at a prompt can go on with.
+import { readdirSync, statSync } from "node:fs";
+import { homedir } from "node:os";
+import { join } from "node:path";
+import { escaped } from "../core/text/escaped.js";
+
+const MOST = 1000;
+
+/** Returns a name with the user's folder in the place of `~`. */
+export function withoutTilde(name) {
+  return name === "~" || name.startsWith("~/") ? homedir() + name.slice(1) : name;
+}
+
+/** @param {string} name */
+function isFolder(name) {
+  try {
+    return statSync(name).isDirectory();
+  } catch {
+    return false;
+  }
+}
+
+/**
+ * Returns the names that begin so, of folders with a slash at their ends; hidden ones if their dot is there.
+ * @param {string} begin
+ */
+export function fileNames(begin) {
+  const cut = begin.lastIndexOf("/") + 1;
+  const [folder, name] = [begin.slice(0, cut), begin.slice(cut)];
+  const place = withoutTilde(folder) || ".";
+  try {
+    return readdirSync(place).filter((each) => each.startsWith(name) && (name.startsWith(".") || !each.startsWith(".")) && escaped(each) === each)
+      .sort().slice(0, MOST).map((each) => `${folder}${each}${isFolder(join(place, each)) ? "/" : ""}`);
+  } catch {
+    return [];
+  }
+}

@@ -1,0 +1,134 @@
+// The texts that are given to a tool by their names: files, pipes, and `-`, standard input.
+import { closeSync, openSync, statSync } from "node:fs";
+import { CommandError } from "./output.mjs";
+import { readStream, readUserFile } from "./user_files.mjs";
+import { noAnswers } from "../words/commands.js";
+
+/** The most bytes of a script of lines, and of a text. */
+export const MOST_SCRIPT = 16777216;
+const MOST_ANSWERS = 67108864;
+export const MOST_GIVEN = 1048576;
+const STANDARD_INPUT = 0;
+const MARK = Buffer.from([0xEF, 0xBB, 0xBF]);
+
+/**
+ * The text of a board or a program, with the name of its file, the number of its lines before the text, and how its bytes are characters.
+ * @typedef {{ name: string, text: string, before: number, encoding: BufferEncoding }} GivenText
+ */
+
+/**
+ * Returns bytes as a text, without a byte order mark; what is not UTF-8 is taken as Latin 1.
+ * @param {Buffer} bytes
+ * @returns {{ text: string, encoding: BufferEncoding }}
+ */
+function decoded(bytes) {
+  try {
+    return { text: new TextDecoder("utf-8", { fatal: true }).decode(bytes), encoding: "utf8" };
+  } catch {
+    const isMarked = bytes.subarray(0, MARK.length).equals(MARK);
+    return { text: bytes.toString("latin1", isMarked ? MARK.length : 0), encoding: "latin1" };
+  }
+}
+
+/**
+ * Returns the text of a regular file.
+ * @param {string} name
+ * @param {number} most bytes
+ */
+export function decodedFile(name, most) {
+  return decoded(readUserFile(name, most));
+}
+
+/** @param {string} name */
+function isPipe(name) {
+  const stat = statSync(name, { throwIfNoEntry: false });
+  return stat !== undefined && (stat.isFIFO() || stat.isCharacterDevice());
+}
+
+export class GivenTexts {
+  constructor() {
+    /** @type {Buffer | null} what standard input had: it can be read once */
+    this.standardInput = null;
+  }
+
+  /**
+   * Returns what a name leads to.
+   * @param {string} name
+   * @param {number} most bytes
+   */
+  read(name, most) {
+    const bytes = name === "-" ? this.readStandardInput(most) : this.readNamed(name, most);
+    if (bytes.length === 0) throw new CommandError(`${name} is empty`);
+    return bytes;
+  }
+
+  /** @param {number} most bytes */
+  readStandardInput(most) {
+    if (!this.standardInput) this.standardInput = readStream(STANDARD_INPUT, "-", most);
+    return this.standardInput;
+  }
+
+  /**
+   * @param {string} name
+   * @param {number} most bytes
+   */
+  readNamed(name, most) {
+    if (!isPipe(name)) return readUserFile(name, most);
+    const pipe = openSync(name, "r");
+    try {
+      return readStream(pipe, name, most);
+    } finally {
+      closeSync(pipe);
+    }
+  }
+
+  /**
+   * Returns a text of tests.
+   * @param {string} name
+   */
+  source(name) {
+    return { name, text: decoded(this.read(name, MOST_GIVEN)).text };
+  }
+
+  /**
+   * Returns the text of a board (`wire`) or a program (`asm`): the file, or the first such text of a script of lines.
+   * @param {string} name
+   * @param {"wire" | "asm"} word
+   * @returns {GivenText}
+   */
+  text(name, word) {
+    const bytes = this.read(name, MOST_SCRIPT);
+    const { text, encoding } = decoded(bytes);
+    const lines = text.split("\n").map((line) => line.replace(/\r$/, ""));
+    const begin = lines.findIndex((line) => line.replace(/[ \t]+$/, "") === word);
+    if (begin < 0 && bytes.length > MOST_GIVEN) {
+      throw new CommandError(`${name} has ${bytes.length} bytes, more than the text of a board or a program can have (${MOST_GIVEN})`);
+    }
+    if (begin < 0) return { name, text: lines.join("\n"), before: 0, encoding };
+    const dot = lines.indexOf(".", begin);
+    const own = lines.slice(begin + 1, dot < 0 ? lines.length : dot);
+    return { name, text: own.map((line) => `${line}\n`).join(""), before: begin + 1, encoding };
+  }
+
+  /** Returns the text on standard input. */
+  lines() {
+    return decoded(this.readStandardInput(MOST_SCRIPT));
+  }
+
+  /**
+   * Returns the answers of mcs4 on standard input, line by line. A last line that was cut off is not an answer.
+   * @param {string} command that reads them
+   */
+  answers(command) {
+    if (this.readStandardInput(MOST_ANSWERS).length === 0) throw new CommandError(noAnswers(command));
+    return decoded(this.readStandardInput(MOST_ANSWERS)).text.split("\n").slice(0, -1).map((line) => line.replace(/\r$/, ""));
+  }
+
+  /**
+   * Returns a script of lines.
+   * @param {string} name
+   */
+  script(name) {
+    return decoded(this.read(name, MOST_SCRIPT)).text;
+  }
+}

@@ -1,0 +1,521 @@
+// The native program as a host of sessions (the form is in js/core/engine/engine_host.js), by calls of the system that wait.
+//
+// A state is a token here, the number of a node in a tree: its parent, and the commands that lead from there. A process stands on a state;
+// serving lines moves it on. A state without a process is made again: a copy of a session file above it, and the commands since. So files are
+// copied only when a state is wanted a second time.
+//
+// One shell starts the program for each session, which costs a tenth of a fork of node's, and node talks with it over named pipes. All files
+// are in a folder of the user's alone. The shell removes it when node has ended, by whatever signal.
+import { spawnSync } from "node:child_process";
+import {
+  closeSync, constants, copyFileSync, openSync, readFileSync, readSync, renameSync, rmSync, writeFileSync, writeSync,
+} from "node:fs";
+import { constants as system } from "node:os";
+import { join } from "node:path";
+import { isQuestion } from "../core/bench/answer_table.js";
+import { BenchRefusal } from "../core/bench/faults.js";
+import { endOfInputs, isSeq, opensText, withoutReturn } from "../core/bench/inputs.js";
+import { CommandError } from "./output.mjs";
+import { removeFolder, temporaryFolder, temporaryPlace } from "./temporary.mjs";
+
+/**
+ * @typedef {import("../core/engine/engine_host.js").EngineHost} EngineHost
+ * @typedef {import("../core/engine/engine_host.js").State} State
+ *
+ * A node of the tree. `copy` is a session file of it, "" for none; `count` is the number of its commands, -1 while nobody has asked.
+ * @typedef {{ parent: number, commands: string, copy: string, count: number }} StateNode
+ *
+ * What lines are: their commands with their texts, how many `seq` among them are answered, and whether the last line and text have ended.
+ * @typedef {{ commands: string, seqs: number, isWhole: boolean }} Judged
+ */
+
+/** This many processes stand on states at most. */
+const MOST_PROCESSES = 3;
+/** This many states keep a copy that nobody has asked for. */
+const MOST_COPIES = 32;
+/** A pipe takes at least this many bytes while nobody reads. */
+const PIPE_ROOM = 4096;
+const BUFFER_SIZE = 1 << 16;
+const TOKEN_SIZE = 4;
+export const SESSION_BYTES = 163856;
+/** Lines that were judged are remembered: the same ones come again. */
+const MOST_JUDGED = 500;
+
+/** The program cannot be used: it is missing, it does not answer, or it has ended. */
+export class ProgramError extends CommandError {}
+
+// --- lines ---
+
+/**
+ * @param {string} lines
+ * @returns {Judged}
+ */
+function judge(lines) {
+  let [commands, seqs] = ["", 0];
+  /** @type {{ isQuestion: boolean } | null} */
+  let text = null;
+  for (const whole of lines.replace(/\n$/, "").split("\n")) {
+    const line = withoutReturn(whole);
+    const asks = text ? text.isQuestion : isQuestion(line.trim().split(/[ \t]/, 1)[0]);
+    if (!asks && (text || line.trim() !== "")) commands += `${line}\n`;
+    if (!text && isSeq(line)) seqs += 1;
+    if (text && line === ".") text = null;
+    else if (!text && opensText(line)) text = { isQuestion: asks };
+  }
+  return { commands, seqs, isWhole: !text && (lines === "" || lines.endsWith("\n")) };
+}
+
+/**
+ * Cuts lines where a pipe may be full: each piece fits into a pipe, or is one text, which is answered only at its end.
+ * @param {string} lines
+ */
+function piecesOf(lines) {
+  if (lines.length <= PIPE_ROOM) return [lines];
+  const pieces = [];
+  let piece = "";
+  for (let at = 0; at < lines.length;) {
+    const end = endOfInputs(lines, at, 1);
+    const input = lines.slice(at, end);
+    if (piece !== "" && piece.length + input.length > PIPE_ROOM) {
+      pieces.push(piece);
+      piece = "";
+    }
+    piece += input;
+    at = end;
+  }
+  return [...pieces, piece];
+}
+
+// --- processes ---
+
+/** The shell's work: `$0` is the program, `$1` the folder. A line is a word of the program, the name of a file, and the number of its pipes. */
+const STARTING = `while read -r word name slot; do
+    eval "ended=\\\${pid$slot-}"
+    if [ -n "$ended" ]; then wait "$ended"; fi
+    "$0" "$word" "$1/$name" < "$1/in$slot" > "$1/out$slot" 2>> "$1/words" &
+    eval "pid$slot=$!"
+done < "$1/control"
+rm -rf -- "$1"`;
+
+/** The shell that starts the program. */
+class Starter {
+  /** @param {string} program */
+  constructor(program) {
+    this.program = program;
+    this.place = temporaryPlace();
+    this.folder = temporaryFolder("mcs4");
+    this.free = [...Array(MOST_PROCESSES + 1).keys()];
+    const pipes = ["control", ...this.free.flatMap((slot) => [`in${slot}`, `out${slot}`])].map((name) => join(this.folder, name));
+    const { status, signal } = spawnSync("/bin/sh", ["-c", `trap "" HUP INT TERM; folder=$1; shift
+      mkfifo -- "$@" || exit 1; set -- "$folder"; { ${STARTING}\n} 2>> "$1/words" &`, program, this.folder, ...pipes], { stdio: "ignore" });
+    // A signal to the group, as of Ctrl-C, may end the shell before it ignores signals. This process has got the same one.
+    if (signal) {
+      removeFolder(this.folder);
+      process.exit(128 + system.signals[signal]);
+    }
+    if (status !== 0) throw new ProgramError(`cannot make pipes in ${this.folder}; TMPDIR names another place for temporary files`);
+    this.control = openSync(join(this.folder, "control"), "w");
+  }
+
+  /**
+   * Starts the program on a file; returns the number of its pipes, and their ends.
+   * @param {"new" | "open"} word
+   * @param {string} name
+   */
+  start(word, name) {
+    const slot = this.free.pop();
+    writeSync(this.control, `${word} ${name} ${slot}\n`);
+    return { slot, input: openSync(join(this.folder, `in${slot}`), "w"), output: openSync(join(this.folder, `out${slot}`), "r") };
+  }
+
+  /** What the program has printed on standard error, without what the shell says of it, and without lines that name this folder. */
+  get words() {
+    const lines = readFileSync(join(this.folder, "words"), "latin1").split("\n");
+    return lines.filter((line) => line !== "" && !line.startsWith(`${this.program}: `) && !line.includes(this.folder));
+  }
+
+  end() {
+    removeFolder(this.folder);
+    closeSync(this.control);
+  }
+}
+
+/** The program at work on a session file. */
+class Session {
+  /**
+   * @param {Starter} starter
+   * @param {"new" | "open"} word
+   * @param {string} name of the file, in the folder
+   */
+  constructor(starter, word, name) {
+    this.starter = starter;
+    this.name = name;
+    this.file = join(starter.folder, name);
+    /** The number of the state that it stands on, -1 for none. */
+    this.at = -1;
+    this.buffer = Buffer.allocUnsafe(BUFFER_SIZE);
+    const { slot, input, output } = starter.start(word, name);
+    this.slot = slot;
+    this.input = input;
+    this.output = output;
+    this.hasEnded = false;
+    this.count = this.takeOpening();
+  }
+
+  /** Reads the first line; returns how many commands the session has. */
+  takeOpening() {
+    const line = this.readUntil((text) => text.endsWith("\n")).trimEnd();
+    if (this.hasEnded || !/^session \d+$/.test(line)) {
+      this.end();
+      const [, number] = /^no (\d+)$/.exec(line) || [];
+      throw number ? new BenchRefusal(Number(number)) : this.noAnswer();
+    }
+    return Number(line.slice("session ".length));
+  }
+
+  /** The error of a program that does not begin as mcs4 does. */
+  noAnswer() {
+    const { program, words } = this.starter;
+    return new ProgramError([...words, `${program} does not answer; MCS4 names the program where it is not the mcs4 at the top`].join("\n"));
+  }
+
+  /** The error of a program that ends before it has answered. */
+  noMoreAnswers() {
+    return new ProgramError(`the session has ended; the program said: ${this.starter.words.join("; ") || "nothing"}`);
+  }
+
+  /**
+   * Reads answers until they are whole, or the program has ended.
+   * @param {(text: string) => boolean} isWhole
+   */
+  readUntil(isWhole) {
+    let text = "";
+    do {
+      const count = readSync(this.output, this.buffer);
+      if (count === 0) this.hasEnded = true;
+      text += this.buffer.latin1Slice(0, count);
+    } while (!this.hasEnded && !isWhole(text));
+    return text;
+  }
+
+  /**
+   * Serves lines, and `seq` behind them, whose answer ends theirs. Of lines that are answered by counts, too, each count is awaited.
+   * @param {string} lines
+   */
+  talk(lines) {
+    /** @type {string[]} */
+    let answers = [];
+    for (const piece of piecesOf(lines)) {
+      const { seqs } = judge(piece);
+      const text = this.send(`${piece}seq\n`, (told) => (
+        /(?:^|\n)seq \d+\n$/.test(told.slice(-30)) && (seqs === 0 || (told.match(/^seq \d+$/gm) || []).length > seqs)));
+      if (this.hasEnded) throw this.noMoreAnswers();
+      const told = text.split("\n");
+      this.count = Number(told[told.length - 2].slice("seq ".length));
+      told.length -= 2;
+      answers = answers.length === 0 ? told : answers.concat(told);
+    }
+    return answers;
+  }
+
+  /**
+   * Serves lines whose last one has no end, and ends the session.
+   * @param {string} lines
+   */
+  talkLast(lines) {
+    const pieces = piecesOf(lines);
+    const last = pieces.pop();
+    const answers = this.talk(pieces.join(""));
+    writeSync(this.input, last);
+    closeSync(this.input);
+    const text = this.readUntil(() => false);
+    this.close(this.output);
+    return [...answers, ...text.split("\n").slice(0, -1)];
+  }
+
+  /**
+   * @param {string} lines
+   * @param {(text: string) => boolean} isWhole
+   */
+  send(lines, isWhole) {
+    try {
+      writeSync(this.input, lines);
+    } catch (thrown) {
+      if (thrown.code !== "EPIPE") throw thrown;
+    }
+    return this.readUntil(isWhole);
+  }
+
+  /** Takes what a program that ended too soon left in its pipe: the next one at this pipe would read it. */
+  drain() {
+    const rest = openSync(join(this.starter.folder, `in${this.slot}`), constants.O_RDONLY | constants.O_NONBLOCK);
+    try {
+      while (readSync(rest, this.buffer) > 0) continue;
+    } catch (thrown) {
+      if (thrown.code !== "EAGAIN") throw thrown;
+    } finally {
+      closeSync(rest);
+    }
+  }
+
+  /** The program ends when nobody writes to it any more. */
+  end() {
+    if (this.hasEnded) this.drain();
+    closeSync(this.input);
+    while (!this.hasEnded && readSync(this.output, this.buffer) > 0) continue;
+    this.close(this.output);
+  }
+
+  /** @param {number} pipe the last one that is open */
+  close(pipe) {
+    closeSync(pipe);
+    this.starter.free.push(this.slot);
+  }
+}
+
+// --- states ---
+
+/** @implements {EngineHost} */
+export class NativeEngine {
+  /** @param {string} program its path */
+  constructor(program) {
+    this.size = TOKEN_SIZE;
+    this.starter = new Starter(program);
+    /** @type {StateNode[]} the first one is a new session */
+    this.states = [{ parent: -1, commands: "", copy: "", count: 0 }];
+    /** @type {Session[]} the one that was used last comes first */
+    this.sessions = [];
+    /** @type {number[]} states with copies that nobody has asked for, the oldest first */
+    this.copied = [];
+    this.files = 0;
+    /** @type {Map<string, Judged>} */
+    this.judged = new Map();
+  }
+
+  // --- the form of an engine ---
+
+  /** @param {State} [into] */
+  begin(into = new Uint8Array(this.size)) {
+    return this.setNumber(into, 0);
+  }
+
+  /**
+   * @param {State} state
+   * @param {string} lines
+   * @param {State} into
+   */
+  serve(state, lines, into) {
+    const number = this.numberOf(state);
+    const { commands, isWhole } = this.judge(lines);
+    if (!isWhole) return this.serveLast(number, lines, into);
+    const session = this.sessionAt(number);
+    const opened = `session ${session.count}`;
+    const answers = this.talk(session, lines);
+    if (commands !== "") session.at = this.addState({ parent: number, commands, copy: "", count: session.count });
+    this.setNumber(into, session.at);
+    return { status: 0, opened, answers };
+  }
+
+  /**
+   * @param {State} state
+   * @param {string} lines
+   */
+  ask(state, lines) {
+    const number = this.numberOf(state);
+    const { commands, isWhole } = this.judge(lines);
+    if (commands === "" && isWhole) {
+      const session = this.sessionAt(number);
+      return { status: 0, opened: `session ${session.count}`, answers: this.talk(session, lines) };
+    }
+    const session = this.newSession(number);
+    const opened = `session ${session.count}`;
+    const answers = isWhole ? this.talk(session, lines) : session.talkLast(lines);
+    this.drop(session, isWhole);
+    return { status: 0, opened, answers };
+  }
+
+  /** @param {State} state */
+  keep(state) {
+    const number = this.numberOf(state);
+    const { file } = this.sessionAt(number);
+    this.copied = this.copied.filter((each) => each !== number);
+    if (this.states[number].copy === "") this.copy(number, file);
+  }
+
+  /** @param {State} state */
+  bytesOf(state) {
+    const number = this.numberOf(state);
+    return new Uint8Array(readFileSync(this.states[number].copy || this.sessionAt(number).file));
+  }
+
+  /** @param {Uint8Array} bytes */
+  stateOf(bytes) {
+    const copy = this.newFile();
+    writeFileSync(copy, bytes);
+    return this.setNumber(new Uint8Array(this.size), this.addState({ parent: -1, commands: "", copy, count: -1 }));
+  }
+
+  /** Why there is no room for a session among the temporary files, in words; "" where there is. */
+  get lackOfRoom() {
+    const { folder, place } = this.starter;
+    const room = join(folder, "room");
+    try {
+      writeFileSync(room, new Uint8Array(SESSION_BYTES));
+      return "";
+    } catch {
+      return `${place} has no room for temporary files; make some, or name another place: TMPDIR`;
+    } finally {
+      rmSync(room, { force: true });
+    }
+  }
+
+  /** Ends the program, and removes all files. */
+  end() {
+    for (const session of this.sessions.splice(0)) session.end();
+    this.starter.end();
+  }
+
+  // --- how states are reached ---
+
+  /** @param {State} state */
+  numberOf(state) {
+    const number = new DataView(state.buffer, state.byteOffset).getUint32(0);
+    if (state.length !== this.size || number >= this.states.length) throw new Error("these bytes are not a state of this engine");
+    return number;
+  }
+
+  /**
+   * @param {State} state
+   * @param {number} number
+   */
+  setNumber(state, number) {
+    new DataView(state.buffer, state.byteOffset).setUint32(0, number);
+    return state;
+  }
+
+  /** @param {StateNode} state */
+  addState(state) {
+    return this.states.push(state) - 1;
+  }
+
+  /** @param {string} lines */
+  judge(lines) {
+    const known = this.judged.get(lines);
+    if (known) return known;
+    if (this.judged.size === MOST_JUDGED) this.judged.clear();
+    const judged = judge(lines);
+    this.judged.set(lines, judged);
+    return judged;
+  }
+
+  /**
+   * Serves lines; a session that has ended is not used again.
+   * @param {Session} session
+   * @param {string} lines
+   */
+  talk(session, lines) {
+    try {
+      return session.talk(lines);
+    } catch (thrown) {
+      this.drop(session, true);
+      throw thrown;
+    }
+  }
+
+  /**
+   * Serves lines whose last one has no end.
+   * @param {number} number
+   * @param {string} lines
+   * @param {State} into
+   */
+  serveLast(number, lines, into) {
+    const session = this.newSession(number);
+    const opened = `session ${session.count}`;
+    const answers = session.talkLast(lines);
+    const copy = this.newFile();
+    renameSync(session.file, copy);
+    this.drop(session, false);
+    this.setNumber(into, this.addState({ parent: -1, commands: "", copy, count: -1 }));
+    return { status: 0, opened, answers };
+  }
+
+  /**
+   * Returns a session that stands on a state.
+   * @param {number} number
+   */
+  sessionAt(number) {
+    const found = this.sessions.findIndex(({ at }) => at === number);
+    if (found < 0) return this.newSession(number);
+    if (found > 0) this.sessions.unshift(...this.sessions.splice(found, 1));
+    return this.sessions[0];
+  }
+
+  /**
+   * Starts the program on a state.
+   * @param {number} number
+   */
+  newSession(number) {
+    const { lines, copy } = this.wayTo(number);
+    const file = this.newFile();
+    if (copy !== "") copyFileSync(copy, file);
+    const session = new Session(this.starter, copy === "" ? "new" : "open", file.slice(this.starter.folder.length + 1));
+    this.sessions.unshift(session);
+    if (this.sessions.length > MOST_PROCESSES) this.drop(this.sessions[MOST_PROCESSES], true);
+    if (lines !== "") {
+      this.talk(session, lines);
+      this.copyForNext(number, session.file);
+    }
+    session.at = number;
+    return session;
+  }
+
+  /**
+   * Returns the nearest copy above a state, "" for a new session, and the commands from there.
+   * @param {number} number
+   */
+  wayTo(number) {
+    const commands = [];
+    let from = number;
+    for (; from > 0 && this.states[from].copy === ""; from = this.states[from].parent) commands.push(this.states[from].commands);
+    return { lines: commands.reverse().join(""), copy: this.states[from].copy };
+  }
+
+  /**
+   * Keeps a copy of a state that was wanted again: the next time needs no commands. Only the last ones are kept.
+   * @param {number} number
+   * @param {string} file
+   */
+  copyForNext(number, file) {
+    this.copy(number, file);
+    this.copied.push(number);
+    if (this.copied.length <= MOST_COPIES) return;
+    const old = this.states[/** @type {number} */ (this.copied.shift())];
+    rmSync(old.copy, { force: true });
+    old.copy = "";
+  }
+
+  /**
+   * @param {number} number
+   * @param {string} file
+   */
+  copy(number, file) {
+    const copy = this.newFile();
+    copyFileSync(file, copy);
+    this.states[number].copy = copy;
+  }
+
+  newFile() {
+    this.files += 1;
+    return join(this.starter.folder, `${this.files}.mcs`);
+  }
+
+  /**
+   * @param {Session} session
+   * @param {boolean} isOpen whether its pipes are
+   */
+  drop(session, isOpen) {
+    this.sessions = this.sessions.filter((each) => each !== session);
+    if (isOpen) session.end();
+    rmSync(session.file, { force: true });
+  }
+}

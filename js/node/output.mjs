@@ -1,0 +1,74 @@
+// What tools by node print. All of it is written before they go on, or they end: control characters of texts are shown as `\x1B`.
+import { fstatSync, writeSync } from "node:fs";
+import { escaped } from "../core/text/escaped.js";
+
+const OUTPUT = 1;
+const ERRORS = 2;
+/** Standard output is read no further: the status that a shell has for SIGPIPE. */
+const PIPE_STATUS = 141;
+
+/** A command cannot continue; each line of the message is printed behind its name, and the exit status is 1. */
+export class CommandError extends Error {}
+
+/** The arguments of a command are wrong: its use is printed below the message, and the exit status is 2. */
+export class UsageError extends Error {}
+
+/**
+ * Writes all bytes; a pipe that is full for now is tried again.
+ * @param {number} stream
+ * @param {Uint8Array} bytes
+ */
+function writeAll(stream, bytes) {
+  for (let at = 0; at < bytes.length;) {
+    try {
+      at += writeSync(stream, bytes, at);
+    } catch (thrown) {
+      if (thrown.code !== "EAGAIN") throw thrown;
+      Atomics.wait(new Int32Array(new SharedArrayBuffer(4)), 0, 0, 1);
+    }
+  }
+}
+
+/**
+ * Writes bytes to standard output. A tool whose standard output is closed gets `is_closed` from its starter.
+ * @param {Uint8Array} bytes
+ */
+export function printBytes(bytes) {
+  if (process.env.is_closed) throw new CommandError("standard output is closed");
+  try {
+    writeAll(OUTPUT, bytes);
+  } catch (thrown) {
+    if (thrown.code === "EPIPE") process.exit(PIPE_STATUS);
+    throw new CommandError("not all was written; is there room where it goes to?");
+  }
+}
+
+/**
+ * Writes a text to standard output.
+ * @param {string} text
+ */
+export function print(text) {
+  printBytes(Buffer.from(escaped(text)));
+}
+
+/**
+ * Writes to standard error; where that takes nothing, nobody is told.
+ * @param {string} text
+ */
+export function printError(text) {
+  try {
+    writeAll(ERRORS, Buffer.from(escaped(text)));
+  } catch {
+    // There is no other place for it.
+  }
+}
+
+/**
+ * Writes a text for other programs to standard output, byte for byte, unless that is a terminal.
+ * @param {string} text
+ * @param {BufferEncoding} encoding
+ */
+export function printFile(text, encoding) {
+  if (fstatSync(OUTPUT).isCharacterDevice()) print(text);
+  else printBytes(Buffer.from(text, encoding));
+}

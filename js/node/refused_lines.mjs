@@ -1,0 +1,109 @@
+// What was refused of a script of lines: the line, the line of its text or the part of its board that is at fault, and why.
+import { refusalOf } from "../core/bench/answers.js";
+import { opensText } from "../core/bench/inputs.js";
+import { LONGEST_LINE } from "../core/bench/inputs.js";
+import { numberOf } from "../core/bench/numbers.js";
+import { ADDRESSES } from "../core/bench/rom_bytes.js";
+import * as say from "../words/commands.js";
+import { LONGEST_SHOWN, NO_FORM, RefusedTexts, spellingHint, wordsOfRefusal } from "./refused_texts.mjs";
+
+/**
+ * @typedef {import("../core/bench/answered_script.js").AnsweredInput} AnsweredInput
+ */
+
+const LINE_TOO_LONG = 12;
+const NOT_ASCII = 14;
+const FOREIGN = /[^\t -~]/u;
+const TEXTS = { wire: "board", asm: "program", map: "program" };
+
+/** @type {(line: string) => string} the character for which a line is refused, in words */
+function foreignCharacter(line) {
+  const [character = ""] = FOREIGN.exec(line) || [];
+  if (character === "") return "";
+  return character > "\x7f" ? say.foreignCharacter(character) : say.foreignByte(character.charCodeAt(0).toString(16).toUpperCase().padStart(2, "0"));
+}
+
+/** The refusals of a script. */
+export class RefusedLines {
+  /**
+   * @param {import("../core/engine/engine_host.js").EngineHost} engine
+   * @param {string[]} lines of the script
+   * @param {((address: number) => string) | null} placeOf names an address by a source
+   */
+  constructor(engine, lines, placeOf) {
+    this.engine = engine;
+    this.lines = lines;
+    this.placeOf = placeOf;
+    /** The text of the board that was wired last; null if the session had one before that is not known. */
+    this.boardText = null;
+  }
+
+  /**
+   * Returns the lines of a text that are at fault, counted in the text; null where none is known.
+   * @param {AnsweredInput} answered
+   * @param {{ number: number, line: number }} refusal
+   */
+  linesAtFault({ input }, { number, line }) {
+    const { text: own, kind } = input;
+    if (number === LINE_TOO_LONG || number === NOT_ASCII) {
+      const found = own.findIndex((each) => (number === NOT_ASCII ? FOREIGN.test(each) : each.length > LONGEST_LINE));
+      return found < 0 ? null : { from: found + 1, to: found + 1 };
+    }
+    const given = (/** @type {string} */ text) => ({ name: "", text, before: 0, encoding: /** @type {const} */ ("utf8") });
+    const text = own.map((each) => `${each}\n`).join("");
+    const board = this.boardText === null ? undefined : given(this.boardText);
+    const texts = new RefusedTexts(this.engine, { board, program: given(text) });
+    return texts.linesAt({ text: TEXTS[kind], line, number, words: "" }, text);
+  }
+
+  /**
+   * Returns the line about the address that an input names; none if it names none, or no source is known.
+   * @param {AnsweredInput} answered
+   */
+  placeOfInput({ input: { line, words: [kind, first = "", second = ""] } }) {
+    if (!this.placeOf || opensText(line)) return [];
+    const word = /^(break|unbreak|list)$/.test(kind) ? first : kind !== "poke" ? "" : first === "pc" ? second
+      : first.startsWith("rom.") ? first.slice("rom.".length) : "";
+    const address = numberOf(word);
+    return address >= 0 && address < ADDRESSES ? [`    ${this.placeOf(address)}`] : [];
+  }
+
+  /**
+   * Returns the lines about an input that was refused.
+   * @param {AnsweredInput} answered
+   * @param {{ number: number, line: number }} refusal
+   */
+  linesAbout(answered, refusal) {
+    const { input, at } = answered;
+    const { number } = refusal;
+    const found = opensText(input.line) ? this.linesAtFault(answered, refusal) : null;
+    const [from, to] = found ? [at + found.from, at + found.to] : [at, at];
+    const shown = this.lines.slice(from - 1, to);
+    const hint = number === NOT_ASCII ? foreignCharacter(shown[0]) : number === NO_FORM && found ? spellingHint(shown[0]) : "";
+    return [
+      say.refusedLine(at, number, found, `${wordsOfRefusal(number)}${hint}`),
+      ...shown.map((line) => `    ${line.slice(0, LONGEST_SHOWN)}`), ...this.placeOfInput(answered),
+    ];
+  }
+
+  /**
+   * Returns the lines about all inputs that were refused, or not answered.
+   * @param {AnsweredInput[]} inputs
+   * @param {string} opened the first line of the answers
+   */
+  all(inputs, opened) {
+    const refused = refusalOf(opened);
+    const lines = refused ? [say.sessionWasRefusedBy(refused.number, wordsOfRefusal(refused.number))] : [];
+    if (opened === "session 0") this.boardText = "";
+    for (const [index, each] of inputs.entries()) {
+      const { input, at, answer } = each;
+      if (answer === "") {
+        return [...lines, say.notAnswered(at, index === inputs.length - 1), `    ${input.line.slice(0, LONGEST_SHOWN)}`, ...this.placeOfInput(each)];
+      }
+      const refusal = refusalOf(answer);
+      if (refusal) lines.push(...this.linesAbout(each, refusal));
+      else if (input.kind === "wire") this.boardText = input.text.map((line) => `${line}\n`).join("");
+    }
+    return lines;
+  }
+}

@@ -1,0 +1,141 @@
+// The native program at work on a session file of the user: lines go in, and answers come out.
+import { spawn } from "node:child_process";
+import { constants } from "node:os";
+import { refusalOf } from "../core/bench/answers.js";
+import { COUNTED, isSeq } from "../core/bench/inputs.js";
+import { programPath } from "./native_program.mjs";
+import { CommandError } from "./output.mjs";
+import { programEnded, sessionWasRefused } from "../words/commands.js";
+
+/** A shell has this status for a program that a signal has ended, and the number of the signal. */
+const SIGNALLED = 128;
+
+/** The program has ended before it has answered. */
+export class ProgramEnded extends CommandError {}
+
+/** The program with a session file open. */
+export class SessionProgram {
+  /**
+   * @param {"new" | "open"} word
+   * @param {string} name
+   * @param {boolean} [isAtTerminal] whether it prints its errors on standard error itself; signals of the terminal do not reach it then
+   */
+  constructor(word, name, isAtTerminal = false) {
+    this.child = spawn(programPath(), [word, name], { stdio: ["pipe", "pipe", isAtTerminal ? "inherit" : "pipe"], detached: isAtTerminal });
+    this.child.stdout.setEncoding("utf8");
+    /** @type {string[]} answers that nobody has taken yet */
+    this.lines = [];
+    this.rest = "";
+    /** What it has printed on standard error. */
+    this.words = "";
+    /** The first line of its answers. */
+    this.opened = "";
+    this.wake = () => {};
+    this.hasEnded = false;
+    /** Its exit status, once it has ended. */
+    this.status = 1;
+    this.child.stdout.on("data", (text) => {
+      const lines = (this.rest + text).split("\n");
+      this.rest = lines.pop();
+      this.lines.push(...lines);
+      this.wake();
+    });
+    if (this.child.stderr) {
+      this.child.stderr.on("data", (text) => {
+        this.words += text;
+      });
+    }
+    this.child.stdin.on("error", () => {});
+    this.ended = new Promise((settle) => {
+      const over = (words) => {
+        this.hasEnded = true;
+        this.words += words;
+        this.wake();
+        settle();
+      };
+      this.child.on("error", ({ message }) => over(message));
+      this.child.on("close", (status, signal) => {
+        this.status = signal ? SIGNALLED + constants.signals[signal] : status;
+        over("");
+      });
+    });
+  }
+
+  /**
+   * Returns the next lines of its answers; it throws if the program ends before.
+   * @param {number} count
+   */
+  async take(count) {
+    while (this.lines.length < count) {
+      if (this.hasEnded) throw new ProgramEnded(programEnded([...this.lines, this.words.trim()].filter(Boolean).join("; ")));
+      await new Promise((settle) => {
+        this.wake = settle;
+      });
+    }
+    return this.lines.splice(0, count);
+  }
+
+  /**
+   * Serves lines; returns their answers.
+   * @param {string} lines
+   * @param {number} count of the answers' lines
+   */
+  ask(lines, count) {
+    this.child.stdin.write(lines);
+    return this.take(count);
+  }
+
+  /**
+   * Serves one input, or several that do not ask for the count, however long the answer is; `seq` behind it shows where the answer ends.
+   * @param {string} input
+   * @param {(line: string) => void} each is called with each line of the answer, as it comes
+   */
+  async serve(input, each) {
+    this.child.stdin.write(`${input}seq\n`);
+    let counts = isSeq(input.trimEnd()) ? 1 : 0;
+    for (;;) {
+      const [line] = await this.take(1);
+      if (COUNTED.test(line)) {
+        if (counts === 0) return;
+        counts -= 1;
+      }
+      each(line);
+    }
+  }
+
+  /** Lets the program end. */
+  close() {
+    this.child.stdin.end();
+  }
+
+  /** Lets the program end, and waits for that. */
+  async end() {
+    this.close();
+    await this.ended;
+  }
+}
+
+/**
+ * Returns a refusal with what it means. (Its words are loaded only then.)
+ * @param {string} answer
+ */
+async function inWords(answer) {
+  const refusal = refusalOf(answer);
+  if (!refusal) return answer;
+  const { wordsOfRefusal } = await import("./refused_texts.mjs");
+  return `${answer}: ${wordsOfRefusal(refusal.number)}`;
+}
+
+/**
+ * Starts the program on a session file; throws what it says if it rejects it.
+ * @param {"new" | "open"} word
+ * @param {string} name
+ */
+export async function openProgram(word, name) {
+  const program = new SessionProgram(word, name);
+  const [first] = await program.take(1);
+  program.opened = first;
+  if (first.startsWith("session ")) return program;
+  await program.end();
+  throw new CommandError(sessionWasRefused(name, [await inWords(first), program.words.trim()].filter(Boolean).join("; ")));
+}

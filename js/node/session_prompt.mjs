@@ -1,0 +1,84 @@
+// `mcs4 new` and `mcs4 open` at a terminal: the program serves the lines, and what it answers is on standard output, as it comes. The prompt, and
+// all words beside the answers, are on standard error.
+import { linesOf } from "../core/bench/inputs.js";
+import { SessionPrompt } from "../core/prompt/session_prompt.js";
+import { BEGINNING } from "../words/session_prompt.js";
+import { fileNames, withoutTilde } from "./file_names.mjs";
+import { MOST_SCRIPT, decodedFile } from "./given_texts.mjs";
+import { print } from "./output.mjs";
+import { dataOfPage } from "./page_parts.mjs";
+import { wordsOfRefusal } from "./refused_texts.mjs";
+import { ProgramEnded, SessionProgram } from "./session_program.mjs";
+import { TerminalPrompt } from "./terminal_prompt.mjs";
+
+/**
+ * Returns the calls of a prompt on a program.
+ * @param {SessionProgram} program
+ * @param {{ print: (words: string) => void, complain: (words: string) => void }} terminal
+ */
+function callsOn(program, terminal) {
+  let data = null;
+  const manual = () => {
+    if (!data) data = dataOfPage();
+    return data.manual;
+  };
+  return {
+    serve: async (input) => {
+      let first = "";
+      await program.serve(input, (line) => {
+        if (first === "") first = line;
+        print(`${line}\n`);
+      });
+      return first;
+    },
+    ask: async (line) => {
+      const lines = [];
+      await program.serve(`${line}\n`, (each) => lines.push(each));
+      return lines;
+    },
+    print: (words) => terminal.print(words),
+    complain: (words) => terminal.complain(words),
+    read: (name) => decodedFile(withoutTilde(name), MOST_SCRIPT).text,
+    files: fileNames,
+    errorsOf: async (word, text, board) => {
+      const { errorsOfText } = await import("./text_errors.mjs");
+      return errorsOfText(word, text, board, { manual: manual(), wordsOf: wordsOfRefusal });
+    },
+    wordsOf: wordsOfRefusal,
+    manual,
+  };
+}
+
+/** Ends the program: it gets the rest of input, and what it still answers is printed. */
+async function finish(program, rest) {
+  program.child.stdin.write(rest);
+  await program.end();
+  print(linesOf(program.lines));
+}
+
+/**
+ * Serves lines of a terminal by the program; returns the exit status of the program.
+ * @param {"new" | "open"} word
+ * @param {string} name of the session's file
+ */
+export async function servePrompt(word, name) {
+  const program = new SessionProgram(word, name, true);
+  let signalled = 0;
+  let rest = "";
+  try {
+    const [first] = await program.take(1);
+    print(`${first}\n`);
+    if (first.startsWith("session ")) {
+      const holder = { print: (words) => terminal.print(words), complain: (words) => terminal.complain(words) };
+      const prompt = new SessionPrompt(callsOn(program, holder));
+      const terminal = new TerminalPrompt(prompt, { output: process.stderr });
+      terminal.print(BEGINNING);
+      signalled = await terminal.run();
+      rest = signalled === 0 ? prompt.rest : "";
+    }
+  } catch (thrown) {
+    if (!(thrown instanceof ProgramEnded)) throw thrown;
+  }
+  await finish(program, rest);
+  return signalled || program.status;
+}

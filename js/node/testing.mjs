@@ -1,0 +1,95 @@
+// What `mcs4 test`, `cover` and `profile` share: tests are run, or the next cycles of a session are counted.
+import { runTests } from "../core/testing/testing.js";
+import { failureLine } from "../core/testing/tap.js";
+import { excludeEachOther, otherProgram, sessionStopped } from "../words/commands.js";
+import { needCount, needNamed, needWords, projectFor } from "./arguments.mjs";
+import { GivenTexts } from "./given_texts.mjs";
+import { breathe, errorOfTexts, openSession, startEngine } from "./native_program.mjs";
+import { CommandError, UsageError, print, printError } from "./output.mjs";
+
+/**
+ * @typedef {import("../core/testing/account.js").Account} Account
+ * @typedef {import("../core/testing/coverage.js").Coverage} Coverage
+ * @typedef {import("../core/testing/profile.js").Profile} Profile
+ * @typedef {import("../core/testing/test_run.js").Outcome} Outcome
+ * @typedef {import("./given_texts.mjs").GivenText} GivenText
+ *
+ * What a command does: with the names of files before they are read, with each result as its test ends, and with the counts at the end.
+ * @typedef {{ name: string, Counting: typeof Account, checkNames?: (names: string[]) => void, outcome?: (outcome: Outcome, number: number, total: number) => string,
+ *   report?: (counts: { coverage: Coverage | null, profile: Profile | null }, program: GivenText) => void }} Tool
+ */
+
+const MOST_CYCLES = 100000000;
+
+/**
+ * Returns the names of board, program and tests: those that are given, and those of the project.
+ * @param {string | undefined} folder
+ * @param {string[]} given
+ */
+async function namesOf(folder, given) {
+  const project = await projectFor(folder, given, 3);
+  const names = project ? [project.board, project.program, ...(given.length > 0 ? given : needNamed(project, "tests"))] : given;
+  needWords(names, ["BOARD", "PROGRAM", "TEST"], Infinity, true);
+  return names;
+}
+
+/**
+ * Runs tests; returns the exit status.
+ * @param {Tool} tool
+ * @param {string | undefined} folder
+ * @param {string[]} given
+ */
+export async function testBy({ Counting, checkNames = () => {}, outcome: tapOf = () => "", report = () => {} }, folder, given) {
+  const allNames = await namesOf(folder, given);
+  checkNames(allNames);
+  const [boardName, programName, ...names] = allNames;
+  const texts = new GivenTexts();
+  const board = texts.text(boardName, "wire");
+  const program = texts.text(programName, "asm");
+  const sources = names.map((each) => texts.source(each));
+  const engine = startEngine();
+  const ended = (outcome, number, total) => {
+    printError(failureLine(outcome));
+    print(tapOf(outcome, number, total));
+  };
+  const result = await runTests(engine, { boardText: board.text, programText: program.text, sources }, breathe, { Counting, ended });
+  if (result.faults.length > 0) throw await errorOfTexts(engine, { board, program }, result.faults);
+  report(result, program);
+  return result.outcomes.some(({ failure }) => failure) ? 1 : 0;
+}
+
+/**
+ * Counts the next cycles of a session; returns the exit status.
+ * @param {Tool} tool
+ * @param {string} session
+ * @param {string[]} given
+ */
+export async function countBy({ name, Counting, checkNames = () => {}, report = () => {} }, session, given) {
+  needWords([session, ...given], ["SESSION", "CYCLES", "PROGRAM"]);
+  const [word, programName] = given;
+  const cycles = needCount("CYCLES", word, MOST_CYCLES);
+  checkNames([session, programName]);
+  const { countSession } = await import("../core/testing/session_count.js");
+  const texts = new GivenTexts();
+  const program = texts.text(programName, "asm");
+  const engine = startEngine();
+  const state = await openSession(engine, texts, session);
+  const { faults, other, counted } = await countSession(engine, state, program.text, cycles, Counting);
+  if (faults.length > 0) throw await errorOfTexts(engine, { program }, faults);
+  if (other) throw new CommandError(otherProgram(programName, other.address, other.is, other.line + program.before, other.makes));
+  if (counted.stop !== "end") printError(`${name}: ${sessionStopped(counted.elapsed, counted.stop)}\n`);
+  report(counted, program);
+  return 0;
+}
+
+/**
+ * Runs tests, or counts the next cycles of a session if one is named; returns the exit status.
+ * @param {Tool} tool
+ * @param {{ folder?: string, session?: string }} values
+ * @param {string[]} given
+ */
+export function testOrCount(tool, { folder, session }, given) {
+  if (session === undefined) return testBy(tool, folder, given);
+  if (folder !== undefined) throw new UsageError(excludeEachOther("-C", "--session"));
+  return countBy(tool, session, given);
+}

@@ -1,0 +1,391 @@
+// The files of users, for the tools that run by node: what is read is a regular file of a bounded size, what is written replaces its target at
+// once and leaves nothing else behind.
+import { constants } from "node:fs";
+import {
+  accessSync, closeSync, existsSync, fchmodSync, fchownSync, fstatSync, fsyncSync, lstatSync, mkdirSync, openSync, readSync, readlinkSync,
+  realpathSync, renameSync, rmSync, rmdirSync, statSync, writeFileSync,
+} from "node:fs";
+import { createRequire } from "node:module";
+import { dirname, join, resolve, sep } from "node:path";
+import { LONGEST_KEPT } from "../core/text/text_fault.js";
+import * as say from "../words/commands.js";
+import { CommandError } from "./output.mjs";
+
+/** The most bytes that a text of a user can have: a character has four of them at most. */
+export const MOST_TEXT = 4 * LONGEST_KEPT;
+/** Longer chains of links are rejected, as the system does. */
+const MOST_LINKS = 40;
+const PART_BYTES = 65536;
+const ANY_WRITER = 0o222;
+const ALL_MODES = 0o7777;
+const OWNER_ALONE = 0o600;
+
+/** Why a file cannot be read or written, with its name. */
+export class UserFileError extends CommandError {}
+
+/** The same without the name. */
+class Reason extends Error {}
+
+/** @type {Record<string, string>} what the system reports, in words */
+const REASONS = {
+  ENOENT: "there is no such file", EACCES: "no permission", EPERM: "no permission", ENOSPC: "no space left on the device",
+  EDQUOT: "the disk quota is used up", EFBIG: "it would exceed the size limit for files", EROFS: "the file system is read-only",
+  EISDIR: "it is a folder", ENOTDIR: "a part of its path is not a folder", ELOOP: "too many symbolic links", ENXIO: "it is not a regular file",
+  ENAMETOOLONG: "its name is too long",
+};
+
+/** @param {unknown} thrown */
+function reasonOf(thrown) {
+  const { code = "", message = String(thrown) } = /** @type {{ code?: string, message?: string }} */ (thrown);
+  return REASONS[code] || message;
+}
+
+/**
+ * Runs an act on a file; what the system rejects becomes a UserFileError.
+ * @template Result
+ * @param {string} what is tried, as `cannot read NAME`
+ * @param {() => Result} act
+ * @returns {Result}
+ */
+function tried(what, act) {
+  try {
+    return act();
+  } catch (thrown) {
+    throw thrown instanceof UserFileError ? thrown : new UserFileError(`${what}: ${reasonOf(thrown)}`);
+  }
+}
+
+// --- reading ---
+
+/**
+ * Returns whether a file is in a folder, with all links followed.
+ * @param {string | URL} name
+ * @param {string | URL} folder
+ */
+export function isInside(name, folder) {
+  return realpathSync(name).startsWith(realpathSync(folder).replace(/\/$/, "") + sep);
+}
+
+/**
+ * Reads an open file up to a limit; more is rejected. A file of /proc has no size before it is read, and others may grow meanwhile.
+ * @param {number} file
+ * @param {number} most bytes
+ */
+function readUpTo(file, most) {
+  const parts = [];
+  for (let size = 0; ;) {
+    const part = Buffer.allocUnsafe(PART_BYTES);
+    const count = readSync(file, part);
+    if (count === 0) return Buffer.concat(parts);
+    parts.push(part.subarray(0, count));
+    size += count;
+    if (size > most) throw new Reason(`it has more than ${most} bytes`);
+  }
+}
+
+/**
+ * Reads an open regular file up to a limit.
+ * @param {number} file
+ * @param {number} most bytes
+ */
+function readRegular(file, most) {
+  const stat = fstatSync(file);
+  if (stat.isDirectory()) throw new Reason("it is a folder");
+  if (!stat.isFile()) throw new Reason("it is not a regular file");
+  return readUpTo(file, most);
+}
+
+/**
+ * Reads a regular file of a bounded size. A FIFO or a device is rejected without a wait.
+ * @param {string | URL} name
+ * @param {number} most bytes
+ */
+export function readUserFile(name, most) {
+  return tried(`cannot read ${name}`, () => {
+    const file = openSync(name, constants.O_RDONLY | constants.O_NONBLOCK | constants.O_NOCTTY);
+    try {
+      return readRegular(file, most);
+    } finally {
+      closeSync(file);
+    }
+  });
+}
+
+/**
+ * Reads an open pipe or standard input to its end, and waits for that.
+ * @param {number} stream
+ * @param {string} name
+ * @param {number} most bytes
+ */
+export function readStream(stream, name, most) {
+  return tried(`cannot read ${name}`, () => readUpTo(stream, most));
+}
+
+/**
+ * Reads a text of a user.
+ * @param {string | URL} name
+ * @param {number} [most] bytes
+ */
+export function readUserText(name, most = MOST_TEXT) {
+  return readUserFile(name, most).toString("utf8");
+}
+
+// --- writing ---
+
+/** @type {Set<string>} the names of files that are not in their places yet: they are removed when the process exits */
+const pending = new Set();
+
+process.on("exit", () => {
+  for (const name of pending) rmSync(name, { force: true });
+});
+
+/**
+ * Follows the links of a name, also to a file that does not exist yet; those of /proc name what a process has open.
+ * @param {string} name
+ */
+function followed(name) {
+  let place = resolve(name);
+  for (let links = 0; ; links++) {
+    const stat = lstatSync(place, { throwIfNoEntry: false });
+    if (!stat || !stat.isSymbolicLink() || place.startsWith("/proc/")) return place;
+    if (links === MOST_LINKS) throw new Reason("too many symbolic links");
+    const folder = realpathSync(dirname(place));
+    place = resolve(folder, readlinkSync(place));
+  }
+}
+
+/** Returns a name that nobody can guess. (Cryptography takes a while to load.) */
+function randomName() {
+  return createRequire(import.meta.url)("node:crypto").randomBytes(12).toString("hex");
+}
+
+/** A new file beside another one, which it is going to replace. It has the mode and the owner of that one. */
+export class Replacement {
+  /**
+   * @param {string} target a path without links
+   * @param {string | Uint8Array} bytes
+   */
+  constructor(target, bytes) {
+    this.target = target;
+    this.name = join(dirname(target), `.mcs4-${randomName()}`);
+    const before = statSync(target, { throwIfNoEntry: false });
+    if (before) needWritable(target, before);
+    const file = openSync(this.name, "wx", before ? OWNER_ALONE : 0o666);
+    pending.add(this.name);
+    try {
+      writeFileSync(file, bytes);
+      if (before) keepOwner(file, before);
+      fsyncSync(file);
+    } catch (thrown) {
+      this.drop();
+      throw thrown;
+    } finally {
+      closeSync(file);
+    }
+  }
+
+  /** Puts it in the place of the other file. */
+  put() {
+    try {
+      renameSync(this.name, this.target);
+      pending.delete(this.name);
+    } catch (thrown) {
+      this.drop();
+      throw thrown;
+    }
+  }
+
+  /** Removes it; the other file stays as it is. */
+  drop() {
+    rmSync(this.name, { force: true });
+    pending.delete(this.name);
+  }
+}
+
+/**
+ * Rejects a target that is read-only, also for root, who could replace it.
+ * @param {string} target
+ * @param {import("node:fs").Stats} before
+ */
+function needWritable(target, { mode }) {
+  if ((mode & ANY_WRITER) === 0) throw new Reason("it is read-only");
+  accessSync(target, constants.W_OK);
+}
+
+/**
+ * Gives a new file the owner and the mode of the one that it replaces.
+ * @param {number} file
+ * @param {import("node:fs").Stats} before
+ */
+function keepOwner(file, { uid, gid, mode }) {
+  const own = fstatSync(file);
+  if (own.uid !== uid || own.gid !== gid) {
+    try {
+      fchownSync(file, uid, gid);
+    } catch {
+      throw new Reason("it belongs to another user or group, which a new file cannot have");
+    }
+  }
+  fchmodSync(file, mode & ALL_MODES);
+}
+
+/**
+ * Makes the file that is going to replace another one, with links followed.
+ * @param {string} name
+ * @param {string | Uint8Array} bytes
+ */
+export function replacementOf(name, bytes) {
+  return tried(`cannot write ${name}`, () => new Replacement(followed(name), bytes));
+}
+
+/**
+ * Returns whether a name is a device, a pipe or a stream of a process: there is nothing to replace.
+ * @param {string} name
+ */
+function isStream(name) {
+  return existsSync(name) && (!statSync(name).isFile() || followed(name).startsWith("/proc/"));
+}
+
+/**
+ * Writes a file of a user: it has the old bytes or the new ones at each moment. A device or a pipe is written as it is.
+ * @param {string} name
+ * @param {string | Uint8Array} bytes
+ */
+export function writeUserFile(name, bytes) {
+  tried(`cannot write ${name}`, () => {
+    if (isStream(name)) writeFileSync(name, bytes, { flag: "a" });
+    else replacementOf(name, bytes).put();
+  });
+}
+
+/**
+ * Returns whether two names lead to one file.
+ * @param {string} one
+ * @param {string} other
+ */
+function isSameFile(one, other) {
+  const [first, second] = [one, other].map((name) => statSync(name, { throwIfNoEntry: false }));
+  return first !== undefined && second !== undefined && first.dev === second.dev && first.ino === second.ino;
+}
+
+/**
+ * Returns whether a folder is there and can be written.
+ * @param {string} folder
+ */
+function isWritable(folder) {
+  try {
+    accessSync(folder, constants.W_OK);
+    return true;
+  } catch {
+    return false;
+  }
+}
+
+/**
+ * Returns the first bytes of a file.
+ * @param {string} name
+ * @param {number} count
+ */
+function beginOf(name, count) {
+  return tried(`cannot read ${name}`, () => {
+    const file = openSync(name, "r");
+    try {
+      const bytes = Buffer.alloc(count);
+      return bytes.toString("latin1", 0, readSync(file, bytes));
+    } finally {
+      closeSync(file);
+    }
+  });
+}
+
+/**
+ * Rejects a file that a command is going to write: it must be new, empty or a file of the same kind, which begins with a text, and none of the
+ * files that the command reads. A device or a pipe is accepted.
+ * @param {string} name
+ * @param {string} begin of such a file
+ * @param {string} why another file is rejected, in words
+ * @param {string[]} inputs the names of files that are read
+ */
+export function needOwnFile(name, begin, why, inputs) {
+  const stat = tried(`cannot write ${name}`, () => statSync(name, { throwIfNoEntry: false }));
+  if (inputs.some((input) => isSameFile(name, input))) throw new UserFileError(say.isRead(name));
+  if (stat && stat.isDirectory()) throw new UserFileError(say.isFolder(name));
+  tried(`cannot write ${name}`, () => {
+    if (stat && !stat.isFile()) return accessSync(name, constants.W_OK);
+    const target = followed(name);
+    if (!isWritable(dirname(target))) throw new UserFileError(say.noFolderToWrite(name));
+    return stat && needWritable(target, stat);
+  });
+  if (stat && stat.isFile() && stat.size > 0 && beginOf(name, begin.length) !== begin) throw new UserFileError(say.isForeign(name, why));
+}
+
+// --- new files of a folder ---
+
+/**
+ * Makes a folder that is not there, and those above it; returns the ones that were made, the innermost first.
+ * @param {string} folder
+ */
+function makeFolder(folder) {
+  const lacking = [];
+  for (let at = resolve(folder); !existsSync(at); at = dirname(at)) lacking.unshift(at);
+  const made = [];
+  try {
+    for (const each of lacking) {
+      mkdirSync(each);
+      made.unshift(each);
+    }
+  } catch (thrown) {
+    for (const each of made) rmdirSync(each);
+    throw thrown;
+  }
+  return made;
+}
+
+/**
+ * Puts new files in their places; none of them stays if one cannot be put.
+ * @param {Replacement[]} replacements
+ */
+function putAll(replacements) {
+  const done = [];
+  try {
+    for (const each of replacements) {
+      each.put();
+      done.push(each.target);
+    }
+  } catch (thrown) {
+    for (const name of done) rmSync(name, { force: true });
+    throw thrown;
+  }
+}
+
+/**
+ * Writes new files into a folder, which is made if it is not there: all of them or none.
+ * @param {string} folder
+ * @param {{ name: string, content: string | Uint8Array }[]} files
+ * @param {string[]} names that must not be there
+ */
+export function writeNewFiles(folder, files, names) {
+  const stat = statSync(folder, { throwIfNoEntry: false });
+  if (stat && !stat.isDirectory()) throw new UserFileError(say.isNoFolder(folder));
+  const taken = names.map((name) => join(folder, name)).find((name) => lstatSync(name, { throwIfNoEntry: false }));
+  if (taken) throw new UserFileError(say.isThere(taken));
+  const made = tried(`cannot make ${folder}`, () => makeFolder(folder));
+  const replacements = [];
+  try {
+    for (const { name, content } of files) replacements.push(replacementOf(join(folder, name), content));
+    tried(`cannot write in ${folder}`, () => putAll(replacements));
+  } catch (thrown) {
+    for (const each of replacements) each.drop();
+    for (const each of made) rmdirSync(each);
+    throw thrown;
+  }
+}
+
+/**
+ * Rejects a file that is not there, or that cannot be written in its place.
+ * @param {string} name
+ */
+export function needWritableFile(name) {
+  const stat = tried(`cannot read ${name}`, () => statSync(name));
+  tried(`cannot write ${name}`, () => needWritable(name, stat));
+}

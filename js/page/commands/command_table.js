@@ -1,0 +1,287 @@
+// The table of commands: all that the page can do. Toolbar, menus, palette, the list of keys in the help and the keys themselves are made
+// of it.
+
+import { SPEEDS } from "../../core/time/speeds.js";
+import { KEYBOARD } from "../../words/help.js";
+import { PANELS, RESET_LAYOUT } from "../../words/layout.js";
+import * as say from "../../words/page_commands.js";
+
+/**
+ * @typedef {import("../ui/icons.js").IconName} IconName
+ * @typedef {"everywhere" | "texts" | "source" | "board" | "tests" | "properties"} KeyPlace where the keys of a command work
+ * @typedef {"system" | "light" | "dark"} Theme
+ *
+ * A command: `id` names it in the page's own modules; `words` is its name; `group` is its group in lists; `icon` is its picture, if it
+ * has one; `keys` are its keys, the one that is shown first; `place` is where they work; `act` does it; `wordsNow` returns its name, if
+ * that depends on whether time runs; `whyNot` returns why it cannot be done now, "" if it can.
+ * @typedef {{ id: string, words: string, group: keyof typeof say.GROUPS, icon?: IconName, keys: string[], place: KeyPlace,
+ *   wordsNow?: (calls: CommandCalls) => string,
+ *   act: (calls: CommandCalls) => void, whyNot: (calls: CommandCalls) => string }} Command
+ *
+ * What commands call. `press` does what a button of the page does, after its text or panel has come to the front; `isOffered`: that
+ * button is there and can be used; `enter` puts the caret into a field; `send` sends a text, as its first button does; `inText` does
+ * something in the text in front; `toggle` ticks a box.
+ * @typedef {{ isRunning: () => boolean, runOrStop: () => void, step: () => void,
+ *   goOn: (goal: import("../../core/debug/goals.js").Goal) => void,
+ *   goBack: (goal: import("../../core/engine/going_back.js").BackGoal) => void, goForward: () => void, canGoForward: () => boolean,
+ *   runToCursor: () => void, serve: (line: string) => void, test: () => void, setSpeed: (id: string) => void,
+ *   setTheme: (theme: Theme) => void, print: () => void, show: (name: string) => void,
+ *   press: (button: string, shown: string) => void, isOffered: (button: string) => boolean, enter: (field: string, shown: string) => void,
+ *   send: (text: TextName) => void, toggle: (box: string) => void, hasText: (isSource: boolean) => boolean,
+ *   inText: (what: TextAct) => void,
+ *   breakpoint: (what?: import("../machine/breakpoint_row.js").BreakpointField) => void, open: () => void, save: () => void,
+ *   saveSession: () => void, exportFiles: () => void, projects: () => void, share: () => void, notices: () => void,
+ *   hasNotices: () => boolean, scanKeys: () => void, hasKeys: () => boolean, togglePanel: (id: string) => void,
+ *   fullPanel: (id: string) => void, resetLayout: () => void, toggleHelp: () => void, examples: () => void, welcome: () => void,
+ *   help: (wanted?: string) => void, palette: (begin: string) => void }} CommandCalls
+ *
+ * @typedef {"find" | "replace" | "line" | "comment" | "complete" | "define" | "uses" | "rename" | "fold" | "unfold" | "foldAll" |
+ *   "unfoldAll" | "undo" | "redo"} TextAct what is done in a text
+ */
+
+/**
+ * @typedef {keyof typeof say.COMMANDS} CommandId
+ * @typedef {"program" | "board" | "tests" | "properties"} TextName
+ */
+
+const never = () => "";
+
+/**
+ * @param {CommandId} id
+ * @param {Command["group"]} group
+ * @param {Command["act"]} act
+ * @param {Partial<Command>} [some]
+ * @returns {Command}
+ */
+function command(id, group, act, some = {}) {
+  return { id, words: say.COMMANDS[id], group, keys: [], place: "everywhere", act, whyNot: never, ...some };
+}
+
+/**
+ * A command that a button of a panel does.
+ * @param {CommandId} id
+ * @param {Command["group"]} group
+ * @param {string} button
+ * @param {string} shown the text or panel that has it
+ * @param {string} [why] it cannot be used while the button is not offered
+ * @param {Partial<Command>} [some]
+ */
+function pressing(id, group, button, shown, why = say.NOT_NOW, some = {}) {
+  return command(id, group, (calls) => calls.press(button, shown), { whyNot: (calls) => (calls.isOffered(button) ? "" : why), ...some });
+}
+
+/**
+ * A command of the text in front.
+ * @param {CommandId} id
+ * @param {TextAct} what
+ * @param {string[]} keys
+ * @param {boolean} [isSource] whether it is one of the source
+ */
+function inText(id, what, keys, isSource = false) {
+  return command(id, "text", (calls) => calls.inText(what), { keys, place: isSource ? "source" : "texts",
+    whyNot: (calls) => (calls.hasText(isSource) ? "" : isSource ? say.NO_NAMES : say.NO_EDITOR) });
+}
+
+/** @type {Command[]} */
+const TIME = [
+  command("time.continue", "time", (calls) => calls.runOrStop(), {
+    icon: "continue", keys: ["F5", "F8"], wordsNow: (calls) => say.COMMANDS[calls.isRunning() ? "time.pause" : "time.continue"] }),
+  command("time.over", "time", (calls) => calls.goOn({ kind: "over" }), { icon: "over", keys: ["F10"] }),
+  command("time.into", "time", (calls) => calls.step(), { icon: "into", keys: ["F11"] }),
+  command("time.out", "time", (calls) => calls.goOn({ kind: "out" }), { icon: "out", keys: ["Shift+F11"] }),
+  command("time.stepBack", "time", (calls) => calls.goBack({ kind: "instruction" }), { icon: "back", keys: ["Ctrl+F11"] }),
+  command("time.lastPause", "time", (calls) => calls.goBack({ kind: "stop" }), { keys: ["Shift+F8"] }),
+  command("time.reverse", "time", (calls) => calls.goBack({ kind: "arrival", place: "" })),
+  command("time.redo", "time", (calls) => calls.goForward(), {
+    whyNot: (calls) => (calls.canGoForward() ? "" : say.NOTHING_UNDONE) }),
+  command("time.toCursor", "time", (calls) => calls.runToCursor(), { keys: ["Ctrl+F10"], place: "source" }),
+  command("time.count", "time", (calls) => calls.enter("step-count", "history")),
+  command("time.untilChange", "time", (calls) => calls.enter("change-place", "history")),
+  pressing("time.backToChange", "time", "back-change", "history"),
+  command("time.reset", "time", (calls) => calls.serve("reset\n"), { icon: "reset" }),
+  command("time.test", "time", (calls) => calls.test(), { whyNot: (calls) => (calls.isOffered("test") ? "" : say.NO_TEST_PIN) }),
+];
+
+/** @type {Command[]} */
+const PROJECT = [
+  command("project.open", "project", (calls) => calls.open(), { icon: "open", keys: ["Ctrl+O"] }),
+  command("project.save", "project", (calls) => calls.save(), { icon: "save", keys: ["Ctrl+S"] }),
+  command("project.saveSession", "project", (calls) => calls.saveSession(), { icon: "file" }),
+  command("project.export", "project", (calls) => calls.exportFiles(), { icon: "export" }),
+  command("project.print", "project", (calls) => calls.print(), { icon: "print" }),
+  command("project.all", "project", (calls) => calls.projects(), { icon: "projects" }),
+  command("project.examples", "project", (calls) => calls.examples(), { icon: "examples" }),
+  command("project.rename", "project", (calls) => calls.enter("name", "")),
+  command("project.share", "project", (calls) => calls.share(), { icon: "share" }),
+];
+
+/** @type {Command[]} */
+const SHOW = [
+  command("settings.palette", "show", (calls) => calls.palette(">"), { icon: "search", keys: ["Ctrl+Shift+P", "Ctrl+K"] }),
+  command("go.to", "show", (calls) => calls.palette(""), { icon: "goTo", keys: ["Ctrl+P"] }),
+  command("go.notices", "show", (calls) => calls.notices(), { icon: "notices",
+    whyNot: (calls) => (calls.hasNotices() ? "" : say.NO_NOTICES) }),
+];
+
+/** @type {Command[]} */
+const BOARD = [
+  command("board.apply", "board", (calls) => calls.send("board"), { keys: ["Ctrl+Enter"], place: "board" }),
+  command("board.type", "board", (calls) => calls.toggle("typing")),
+  pressing("board.sound", "board", "sound-button", "front", say.NO_BUZZER),
+  pressing("board.tear", "board", "tear-paper", "front", say.NO_PRINTER),
+  pressing("board.first", "board", "first-board", "front", say.HAS_BOARD),
+  pressing("board.draw", "board", "first-drawing", "front", say.HAS_BOARD),
+];
+
+/** @type {Command[]} */
+const TEXT = [
+  command("text.assembleAndRun", "text", (calls) => calls.send("program"), { icon: "assemble", keys: ["Ctrl+Enter"], place: "source" }),
+  pressing("text.assemble", "text", "assemble-only", "program"),
+  pressing("text.disassemble", "text", "from-rom", "program"),
+  inText("text.find", "find", ["Ctrl+F"]),
+  inText("text.replace", "replace", ["Ctrl+H"]),
+  inText("text.line", "line", ["Ctrl+G"]),
+  inText("text.comment", "comment", ["Ctrl+/"]),
+  inText("text.complete", "complete", ["Ctrl+Space"]),
+  inText("text.define", "define", ["F12"], true),
+  inText("text.uses", "uses", ["Shift+F12"], true),
+  inText("text.rename", "rename", ["F2"], true),
+  inText("text.fold", "fold", ["Ctrl+Shift+["]),
+  inText("text.unfold", "unfold", ["Ctrl+Shift+]"]),
+  inText("text.foldAll", "foldAll", ["Ctrl+Alt+Shift+["]),
+  inText("text.unfoldAll", "unfoldAll", ["Ctrl+Alt+Shift+]"]),
+  inText("text.undo", "undo", ["Ctrl+Z"]),
+  inText("text.redo", "redo", ["Ctrl+Y"]),
+  pressing("text.smaller", "text", "text-smaller", ""),
+  pressing("text.larger", "text", "text-larger", ""),
+  command("text.wrap", "text", (calls) => calls.toggle("text-wrap")),
+];
+
+/** @type {Command[]} */
+const DEBUG = [
+  command("debug.breakpoint", "debug", (calls) => calls.breakpoint(), { icon: "breakpoint", keys: ["F9"] }),
+  command("debug.condition", "debug", (calls) => calls.breakpoint("condition"), { keys: ["Shift+F9"] }),
+  command("debug.hitCount", "debug", (calls) => calls.breakpoint("from")),
+  command("debug.log", "debug", (calls) => calls.breakpoint("note")),
+  pressing("debug.allOn", "debug", "breakpoints-on", "breakpoints", say.NO_BREAKPOINTS),
+  pressing("debug.allOff", "debug", "breakpoints-off", "breakpoints", say.NO_BREAKPOINTS),
+  pressing("debug.hits", "debug", "breakpoints-hits", "breakpoints", say.NO_BREAKPOINTS),
+  pressing("debug.removeAll", "debug", "breakpoints-remove", "breakpoints", say.NO_BREAKPOINTS),
+  command("debug.watch", "debug", (calls) => calls.enter("watched-field", "watched")),
+  command("debug.heat", "debug", (calls) => calls.enter("heat", "memory")),
+  command("debug.console", "debug", (calls) => calls.enter("lines", "talk")),
+  command("debug.goTo", "debug", (calls) => calls.enter("go-to", "listing")),
+  pressing("debug.there", "debug", "break-there", "listing"),
+  command("debug.follow", "debug", (calls) => calls.toggle("follow")),
+];
+
+/** @type {Command[]} */
+const TESTS = [
+  command("tests.run", "tests", (calls) => calls.send("tests"), { icon: "tests", keys: ["Ctrl+Enter"], place: "tests" }),
+  pressing("tests.first", "tests", "first-test", "tests", say.HAS_TEXT),
+  pressing("tests.clear", "tests", "clear-tests", "tests", say.NO_RESULTS),
+  command("properties.search", "tests", (calls) => calls.send("properties"), { keys: ["Ctrl+Enter"], place: "properties" }),
+  pressing("properties.first", "tests", "first-properties", "properties", say.HAS_TEXT),
+  pressing("properties.clear", "tests", "clear-finds", "properties", say.NO_RESULTS),
+];
+
+/** @type {Command[]} */
+const WIRING = [
+  pressing("wiring.apply", "wiring", "drawing-wire", "wiring"),
+  pressing("wiring.undo", "wiring", "drawing-undo", "wiring"),
+  pressing("wiring.redo", "wiring", "drawing-redo", "wiring"),
+  pressing("wiring.arrange", "wiring", "drawing-tidy", "wiring"),
+  command("wiring.scan", "wiring", (calls) => calls.scanKeys(), { whyNot: (calls) => (calls.hasKeys() ? "" : say.NO_KEYS) }),
+  pressing("wiring.larger", "wiring", "picture-larger", "wiring"),
+  pressing("wiring.smaller", "wiring", "picture-smaller", "wiring"),
+  pressing("wiring.fit", "wiring", "picture-fit", "wiring"),
+];
+
+/**
+ * A command of the waves that were recorded.
+ * @param {CommandId} id
+ * @param {string} button
+ */
+const ofWaves = (id, button) => pressing(id, "waves", button, "waves", say.NO_WAVES);
+
+/** @type {Command[]} */
+const WAVES = [
+  pressing("waves.record", "waves", "record", "waves", "", { icon: "record" }),
+  command("waves.trigger", "waves", (calls) => calls.enter("trigger", "waves")),
+  ofWaves("waves.save", "save-waves"),
+  ofWaves("waves.png", "save-png"),
+  ofWaves("waves.svg", "save-svg"),
+  ofWaves("waves.in", "zoom-in"),
+  ofWaves("waves.out", "zoom-out"),
+  ofWaves("waves.all", "zoom-all"),
+  ofWaves("waves.before", "edge-before"),
+  ofWaves("waves.after", "edge-after"),
+  ofWaves("waves.a", "cursor-a"),
+  ofWaves("waves.b", "cursor-b"),
+  ofWaves("waves.instruction", "wave-go-to"),
+  command("waves.search", "waves", (calls) => calls.enter("wave-search", "waves"), {
+    whyNot: (calls) => (calls.isOffered("zoom-in") ? "" : say.NO_WAVES) }),
+  ofWaves("waves.findBefore", "find-before"),
+  ofWaves("waves.findAfter", "find-after"),
+  pressing("waves.changing", "waves", "waves-changing", "waves"),
+  pressing("waves.every", "waves", "waves-all", "waves"),
+  pressing("waves.none", "waves", "waves-none", "waves"),
+];
+
+/** @type {Command[]} */
+const HELP = [
+  command("help.open", "help", (calls) => calls.toggleHelp(), { icon: "help", keys: ["F1"] }),
+  command("help.keys", "help", (calls) => calls.help(KEYBOARD)),
+  command("help.welcome", "help", (calls) => calls.welcome(), { icon: "lamp" }),
+  pressing("help.tour", "help", "tour-begin", "", "", { icon: "lamp" }),
+];
+
+/**
+ * A command that is one of several alike.
+ * @param {string} id
+ * @param {string} words
+ * @param {Command["group"]} group
+ * @param {Command["act"]} act
+ * @param {IconName} [icon]
+ * @returns {Command}
+ */
+export const oneOf = (id, words, group, act, icon) => ({ id, words, group, keys: [], place: "everywhere", act, whyNot: never, icon });
+
+/** @type {Command[]} */
+const SHOWN = [...Object.entries(say.TEXTS), ...Object.entries(say.PANELS)].map(([name, words]) => (
+  oneOf(`show.${name}`, say.showText(words), "show", (calls) => calls.show(name))));
+
+/**
+ * Panels are closed, opened again and made full size.
+ * @type {Command[]}
+ */
+const ARRANGED = [
+  ...Object.entries(PANELS).flatMap(([id, name]) => [
+    oneOf(`panel.${id}`, say.toggledPanel(name), "show", (calls) => calls.togglePanel(id)),
+    oneOf(`full.${id}`, say.fullPanel(name), "show", (calls) => calls.fullPanel(id)),
+  ]),
+  oneOf("layout.reset", RESET_LAYOUT, "show", (calls) => calls.resetLayout()),
+];
+
+/** @type {Command[]} */
+const SETTINGS = [
+  ...SPEEDS.map(({ id, words }) => oneOf(`speed.${id}`, say.atSpeed(words), "settings", (calls) => calls.setSpeed(id))),
+  ...Object.entries(say.THEMES).map(([name, words]) => (
+    oneOf(`theme.${name}`, words, "settings", (calls) => calls.setTheme(/** @type {Theme} */ (name)), "theme"))),
+];
+
+/** All commands that are there at all times, in the order of lists. */
+export const COMMANDS = [
+  ...TIME, ...TEXT, ...DEBUG, ...TESTS, ...PROJECT, ...BOARD, ...SHOW, ...SHOWN, ...WIRING, ...WAVES, ...ARRANGED,
+  ...SETTINGS, ...HELP,
+];
+
+/**
+ * @param {string} id
+ * @returns {Command}
+ */
+export function commandOf(id) {
+  const found = COMMANDS.find((each) => each.id === id);
+  if (!found) throw new Error(`there is no command ${id}`);
+  return found;
+}

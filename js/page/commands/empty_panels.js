@@ -1,0 +1,24 @@
+// Panels that have nothing to show yet say what they are for, and offer the one command that fills them.
+
+import { block, element, onClick } from "../ui/dom.js";
+import { commandOf } from "./command_table.js";
+import * as say from "../../words/page_commands.js";
+
+/** The list or picture of each panel, which its words stand behind, and the command that they offer. */
+const FILLS = {
+  "watched-list": "debug.watch", "breakpoint-list": "debug.breakpoint", "waves": "waves.record", "log": "debug.console",
+};
+
+/**
+ * Puts words and a button behind the list of each panel. The style sheet shows them while the list is empty.
+ * @param {(command: import("./command_table.js").Command) => void} act
+ */
+export function fillEmptyPanels(act) {
+  for (const [id, name] of Object.entries(FILLS)) {
+    const command = commandOf(name);
+    const { words, button } = say.EMPTY[id];
+    const fill = element("button", { type: "button" }, button);
+    onClick(fill, () => act(command));
+    block(id).after(element("p", { className: "empty" }, words, " ", fill));
+  }
+}

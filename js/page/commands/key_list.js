@@ -1,0 +1,30 @@
+// The list of keys in the help: the keys of commands, out of the table of commands, before other keys of the same section.
+
+import { COMMANDS } from "./command_table.js";
+import { KEYBOARD } from "../../words/help.js";
+import * as say from "../../words/page_commands.js";
+
+/**
+ * @typedef {import("../../core/help/manual.js").ManualSection} ManualSection
+ * @typedef {import("../../core/help/manual.js").ManualTable} ManualTable
+ */
+
+/**
+ * Returns a row for each command that has keys: its keys, and what they do.
+ * @returns {string[][]}
+ */
+export function keyRows() {
+  return COMMANDS.filter(({ keys }) => keys.length > 0).map(({ keys, words, place }) => (
+    [keys.map((key) => `\`${key}\``).join(", "), say.WHERE[place] ? `${words} (${say.WHERE[place]})` : words]));
+}
+
+/**
+ * Puts the table of keys before the tables of the section of the keyboard.
+ * @param {ManualSection[]} manual
+ * @returns {ManualSection[]}
+ */
+export function withKeys(manual) {
+  /** @type {ManualTable} */
+  const table = { caption: say.KEY_TABLE, head: [say.KEY, say.DOES], rows: keyRows() };
+  return manual.map((section) => (section.title === KEYBOARD ? { ...section, tables: [table, ...section.tables] } : section));
+}

@@ -1,0 +1,62 @@
+// Keys of commands: those that work everywhere, and those of an editor.
+
+import { COMMANDS, commandOf } from "./command_table.js";
+
+/**
+ * @typedef {import("./command_table.js").Command} Command
+ * @typedef {import("./command_table.js").CommandId} CommandId
+ * @typedef {Pick<KeyboardEvent, "key" | "ctrlKey" | "metaKey" | "altKey" | "shiftKey">} Typed
+ */
+
+/**
+ * Returns the name of a key with what is held beside it, as the table of commands has it. Command counts as Control.
+ * @param {Typed} event
+ */
+export function keyNameOf({ key, ctrlKey, metaKey, altKey, shiftKey }) {
+  const held = `${ctrlKey || metaKey ? "Ctrl+" : ""}${altKey ? "Alt+" : ""}${shiftKey ? "Shift+" : ""}`;
+  return `${held}${key.length === 1 ? key.toUpperCase() : key}`;
+}
+
+/** The commands whose keys work everywhere, by their keys. */
+const EVERYWHERE = new Map(COMMANDS.filter(({ place }) => place === "everywhere").flatMap((each) => each.keys.map((key) => [key, each])));
+
+/**
+ * Returns the command of a key that works everywhere; none where another part has taken the key.
+ * @param {Typed & { defaultPrevented: boolean }} event
+ * @returns {Command | undefined}
+ */
+export function commandOfKey(event) {
+  return event.defaultPrevented ? undefined : EVERYWHERE.get(keyNameOf(event));
+}
+
+/**
+ * Listens to the keys that work everywhere. Where a dialog is open they do nothing, and what the browser would do with them neither.
+ * @param {(command: Command) => void} act
+ * @param {() => boolean} isClosed
+ * @param {Pick<Window, "addEventListener">} target
+ */
+export function listenToKeys(act, isClosed, target = window) {
+  target.addEventListener("keydown", (event) => {
+    const found = commandOfKey(event);
+    if (!found) return;
+    event.preventDefault();
+    if (!isClosed()) act(found);
+  });
+}
+
+/**
+ * Returns the keys of a command as an editor names them, with what they do.
+ * @template Editor
+ * @param {CommandId} id
+ * @param {(editor: Editor) => void} act
+ * @returns {Record<string, (editor: Editor) => void>}
+ */
+export function editorKeys(id, act) {
+  /** @type {[string, (editor: Editor) => void][]} */
+  const found = commandOf(id).keys.flatMap((key) => {
+    const name = key.replace(/\+/g, "-").replace(/-$/, "+");
+    const names = name.includes("Ctrl-") ? [name, name.replace("Ctrl-", "Cmd-")] : [name];
+    return names.map((each) => /** @type {[string, (editor: Editor) => void]} */ ([each, act]));
+  });
+  return Object.fromEntries(found);
+}

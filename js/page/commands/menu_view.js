@@ -1,0 +1,191 @@
+// Menus by the pattern of ARIA, below a button or at a point: arrows go from one item to the next, Escape closes the menu.
+
+import { element } from "../ui/dom.js";
+import { icon } from "../ui/icons.js";
+import { putBelow } from "../ui/told_at.js";
+
+/**
+ * An item: its id, if it has one; its words, icon and key; what it does. One of several alternatives says whether it is chosen; one that is
+ * only for narrow windows is in the toolbar itself elsewhere.
+ * @typedef {{ id?: string, words: string, icon?: import("../ui/icons.js").IconName, key?: string, act: () => void,
+ *   isChosen?: () => boolean, isNarrow?: boolean }} MenuItem
+ */
+
+/** The items of a menu. */
+class MenuList {
+  /**
+   * @param {string} id
+   * @param {string} label its name
+   * @param {() => void} close closes the menu, from which an item was chosen or which was left
+   */
+  constructor(id, label, close) {
+    this.close = close;
+    this.node = element("ul", { id, "role": "menu", "aria-label": label, "hidden": true });
+    /** @type {MenuItem[]} */
+    this.items = [];
+    /** @type {HTMLButtonElement[]} */
+    this.buttons = [];
+  }
+
+  /** @param {MenuItem[]} items */
+  fill(items) {
+    this.items = items;
+    this.buttons = items.map((item) => this.makeItem(item));
+    this.node.replaceChildren(...this.buttons.map((each, at) => (
+      element("li", { role: "none", className: items[at].isNarrow ? "narrow" : "" }, each))));
+  }
+
+  /** @param {MenuItem} item */
+  makeItem({ id, words, icon: name, key, act, isChosen }) {
+    const made = element("button", { "type": "button", "role": isChosen ? "menuitemradio" : "menuitem", "tabIndex": -1 },
+      ...(name ? [icon(name)] : []), element("span", { className: "grow" }, words),
+      ...(key ? [element("kbd", { "aria-hidden": "true" }, key)] : []));
+    if (id) made.id = id;
+    made.addEventListener("click", () => {
+      this.close();
+      act();
+    });
+    return made;
+  }
+
+  get isOpen() {
+    return !this.node.hidden;
+  }
+
+  /** @param {boolean} isOpen */
+  show(isOpen) {
+    this.node.hidden = !isOpen;
+    if (!isOpen) return;
+    this.buttons.forEach((each, at) => {
+      const { isChosen } = this.items[at];
+      if (isChosen) each.setAttribute("aria-checked", String(isChosen()));
+    });
+  }
+
+  /** The items that are shown in a window of this width. */
+  get shown() {
+    return this.buttons.filter((each) => each.offsetParent !== null);
+  }
+
+  /** @param {number} at */
+  focus(at) {
+    const { shown } = this;
+    shown[(at + shown.length) % shown.length].focus();
+  }
+
+  /** @param {KeyboardEvent} event */
+  typed(event) {
+    const at = this.shown.findIndex((each) => each === document.activeElement);
+    /** @type {Record<string, () => void>} */
+    const acts = {
+      ArrowDown: () => this.focus(at + 1),
+      ArrowUp: () => this.focus(at < 0 ? -1 : at - 1),
+      Home: () => this.focus(0),
+      End: () => this.focus(-1),
+      Escape: this.close,
+    };
+    const act = acts[event.key];
+    if (!act) return;
+    event.preventDefault();
+    event.stopPropagation();
+    act();
+  }
+}
+
+/**
+ * A menu is left by a press elsewhere, and by going on elsewhere.
+ * @param {HTMLElement} node
+ * @param {() => void} left
+ */
+function listenToLeaving(node, left) {
+  addEventListener("pointerdown", ({ target }) => target instanceof Node && !node.contains(target) && left(), true);
+  node.addEventListener("focusout", ({ relatedTarget }) => {
+    if (relatedTarget instanceof Node && !node.contains(relatedTarget)) left();
+  });
+}
+
+/** A button with a menu below it. */
+export class MenuView {
+  /**
+   * @param {HTMLButtonElement} button
+   * @param {string} id of the menu
+   * @param {string} label its name
+   * @param {MenuItem[]} items
+   */
+  constructor(button, id, label, items) {
+    this.button = button;
+    this.menu = new MenuList(id, label, () => {
+      // Who has chosen by the keyboard goes on at the button.
+      if (this.node.contains(document.activeElement)) this.button.focus();
+      this.show(false);
+    });
+    this.menu.fill(items);
+    this.node = element("div", { className: "menu-place" }, button, this.menu.node);
+    button.setAttribute("aria-haspopup", "menu");
+    button.setAttribute("aria-controls", id);
+    this.show(false);
+    button.addEventListener("click", (event) => this.toggle(event.detail === 0));
+    this.node.addEventListener("keydown", (event) => this.typed(event));
+    listenToLeaving(this.node, () => this.show(false));
+  }
+
+  /** @param {boolean} isOpen */
+  show(isOpen) {
+    this.menu.show(isOpen);
+    this.button.setAttribute("aria-expanded", String(isOpen));
+  }
+
+  /** @param {boolean} isByKeyboard */
+  toggle(isByKeyboard) {
+    this.show(!this.menu.isOpen);
+    if (this.menu.isOpen && isByKeyboard) this.menu.focus(0);
+  }
+
+  /** @param {KeyboardEvent} event */
+  typed(event) {
+    if (this.menu.isOpen) {
+      this.menu.typed(event);
+      return;
+    }
+    if (event.key !== "ArrowDown" && event.key !== "ArrowUp") return;
+    event.preventDefault();
+    event.stopPropagation();
+    this.toggle(true);
+  }
+}
+
+/** A menu at a point of the window, of what is there. */
+export class ContextMenu {
+  /**
+   * @param {string} id
+   * @param {string} label its name
+   */
+  constructor(id, label) {
+    this.menu = new MenuList(id, label, () => this.close());
+    const { node } = this.menu;
+    document.body.append(node);
+    /** @type {Element | null} what had the keyboard before */
+    this.before = null;
+    node.addEventListener("keydown", (event) => this.menu.typed(event));
+    listenToLeaving(node, () => this.menu.show(false));
+  }
+
+  /**
+   * @param {MenuItem[]} items
+   * @param {{ left: number, bottom: number }} point
+   */
+  open(items, { left, bottom }) {
+    this.before = document.activeElement;
+    this.menu.fill(items);
+    this.menu.show(true);
+    const { node } = this.menu;
+    putBelow(node, { left, bottom: Math.max(0, Math.min(bottom, innerHeight - node.offsetHeight)) }, 0);
+    this.menu.focus(0);
+  }
+
+  /** The keyboard goes back to where it was. */
+  close() {
+    if (this.before instanceof HTMLElement) this.before.focus();
+    this.menu.show(false);
+  }
+}

@@ -1,0 +1,124 @@
+// The toolbar: a row of buttons and menus, made of the table of commands.
+
+import { block, element, onClick } from "../ui/dom.js";
+import { icon } from "../ui/icons.js";
+import { commandOf } from "./command_table.js";
+import { MenuView } from "./menu_view.js";
+import * as say from "../../words/page_commands.js";
+
+/**
+ * @typedef {import("../ui/icons.js").IconName} IconName
+ * @typedef {import("./command_table.js").Command} Command
+ * @typedef {import("../ui/theme.js").Theme} Theme
+ * @typedef {import("../ui/tooltips.js").Tooltips} Tooltips
+ */
+
+/** @typedef {{ id: string, tip?: string, isWide?: boolean }} ButtonLook `isWide`: its word is seen */
+
+/** The ids of buttons, by their commands. */
+const TRANSPORT = {
+  "time.stepBack": "back-instruction", "time.continue": "run", "time.over": "over", "time.into": "step", "time.out": "out",
+  "time.reset": "reset",
+};
+const FILE = {
+  "project.open": "open-button", "project.save": "save-button", "project.saveSession": "save-session-button",
+  "project.export": "export-button", "project.print": "print-button", "project.all": "projects-button",
+};
+/** What the toolbar itself has, and in a narrow window the menu. */
+const NARROW = {
+  "project.examples": "examples-narrow", "project.share": "share-narrow", "settings.palette": "palette-narrow",
+  "go.notices": "notices-narrow", "help.open": "help-narrow", "help.welcome": "welcome-narrow",
+};
+
+export class ToolbarView {
+  /**
+   * @param {Tooltips} tips
+   * @param {Theme} theme
+   */
+  constructor(tips, theme) {
+    this.tips = tips;
+    /** @type {(command: Command) => void} does a command, once the page is there */
+    this.act = () => {};
+    this.word = element("span", { className: "word" });
+    this.transport = Object.entries(TRANSPORT).map(([command, id]) => this.button(commandOf(command), { id, tip: say.TIPS[command] }));
+    this.run = this.transport[1];
+    this.run.classList.add("primary");
+    this.showRunning(false);
+    this.notices = this.button(commandOf("go.notices"), { id: "notices-button" });
+    this.notices.hidden = true;
+    this.help = this.button(commandOf("help.open"), { id: "help-button" });
+    this.help.setAttribute("aria-controls", "help");
+    this.help.setAttribute("aria-expanded", "false");
+    this.file = this.fileMenu();
+    block("session-bar").append(this.file.node, this.button(commandOf("project.examples"), { id: "sessions-button", isWide: true }));
+    block("steps").append(...this.transport);
+    block("tools").append(this.paletteButton(), this.button(commandOf("project.share"), { id: "share-button", isWide: true }), this.notices,
+      this.themeMenu(theme).node, this.help);
+  }
+
+  /**
+   * A button with an icon; its words are its name, and its tooltip with its key.
+   * @param {Command} command
+   * @param {ButtonLook} look
+   */
+  button(command, { id, tip, isWide = false }) {
+    const { icon: name, words, keys } = command;
+    const made = element("button", { id, type: "button", className: "tool" }, ...(name ? [icon(name)] : []));
+    if (isWide) made.append(element("span", { className: "word" }, say.SHORT[command.id] || words));
+    made.setAttribute("aria-label", words);
+    if (keys.length > 0) made.setAttribute("aria-keyshortcuts", keys.map((key) => key.replace("Ctrl+", "Control+")).join(" "));
+    onClick(made, () => this.act(command));
+    this.tips.add(made, () => ({ words: tip || words, key: keys[0] || "" }));
+    return made;
+  }
+
+  /**
+   * The run button says what it does.
+   * @param {boolean} isRunning
+   */
+  showRunning(isRunning) {
+    const words = say.COMMANDS[isRunning ? "time.pause" : "time.continue"];
+    this.word.textContent = words;
+    this.run.replaceChildren(icon(isRunning ? "pause" : "continue"), this.word);
+    this.run.setAttribute("aria-label", words);
+    this.tips.add(this.run, () => ({ words, key: commandOf("time.continue").keys[0] }));
+  }
+
+  paletteButton() {
+    const made = this.button(commandOf("settings.palette"), { id: "palette-button" });
+    made.append(element("span", { className: "word" }, say.PALETTE), element("kbd", {}, commandOf("settings.palette").keys[0]));
+    return made;
+  }
+
+  /**
+   * @param {string} id
+   * @param {string} words
+   * @param {IconName} name
+   */
+  menuButton(id, words, name) {
+    const made = element("button", { id, type: "button", className: "tool" }, icon(name), element("span", { className: "word" }, words),
+      icon("down"));
+    made.setAttribute("aria-label", words);
+    this.tips.add(made, () => ({ words, key: "" }));
+    return made;
+  }
+
+  /** The menu of files; in a narrow window it has what else the toolbar has. */
+  fileMenu() {
+    /** @type {(command: Command, id: string, isNarrow: boolean) => import("./menu_view.js").MenuItem} */
+    const item = (command, id, isNarrow) => ({ id, words: command.words, icon: command.icon, key: command.keys[0], isNarrow,
+      act: () => this.act(command) });
+    return new MenuView(this.menuButton("menu-button", say.FILE, "file"), "menu", say.FILE, [
+      ...Object.entries(FILE).map(([command, id]) => item(commandOf(command), id, false)),
+      ...Object.entries(NARROW).map(([command, id]) => item(commandOf(command), id, true)),
+    ]);
+  }
+
+  /** @param {Theme} theme */
+  themeMenu(theme) {
+    const items = Object.entries(say.THEMES).map(([name, words]) => ({
+      words, act: () => this.act(commandOf(`theme.${name}`)), isChosen: () => theme.name === name,
+    }));
+    return new MenuView(this.menuButton("theme-button", say.THEME, "theme"), "theme-menu", say.THEME, items);
+  }
+}

@@ -1,0 +1,49 @@
+// A ring round what a step of the first program speaks of. It follows its target while that moves, and brings it into view.
+
+import { element } from "../ui/dom.js";
+
+/** How often it looks where its target is, in milliseconds. */
+const LOOK_TIME = 200;
+/** How far round its target it is, in pixels. */
+const GAP = 4;
+
+export class PointerRing {
+  constructor() {
+    this.node = element("div", { "id": "tour-ring", "aria-hidden": "true", "hidden": true });
+    document.body.append(this.node);
+    /** @type {() => Element | null} */
+    this.target = () => null;
+    /** @type {Element | null} the target that was brought into view last */
+    this.seen = null;
+    this.timer = 0;
+  }
+
+  /** @param {() => Element | null} target what it is round from here on */
+  point(target) {
+    this.target = target;
+    this.seen = null;
+    clearInterval(this.timer);
+    this.timer = window.setInterval(() => this.put(), LOOK_TIME);
+    this.put();
+  }
+
+  stop() {
+    clearInterval(this.timer);
+    this.node.hidden = true;
+  }
+
+  put() {
+    const target = this.target();
+    const isThere = target !== null && target.getClientRects().length > 0 && document.querySelector("dialog[open]") === null;
+    if (this.node.hidden === isThere) this.node.hidden = !isThere;
+    if (!target || !isThere) return;
+    if (this.seen !== target) target.scrollIntoView({ block: "nearest", inline: "nearest" });
+    this.seen = target;
+    const { left, top, width, height } = target.getBoundingClientRect();
+    const { style } = this.node;
+    style.setProperty("left", `${left - GAP}px`);
+    style.setProperty("top", `${top - GAP}px`);
+    style.setProperty("width", `${width + 2 * GAP}px`);
+    style.setProperty("height", `${height + 2 * GAP}px`);
+  }
+}

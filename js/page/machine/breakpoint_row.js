@@ -1,0 +1,172 @@
+// The row in which a breakpoint's condition, hit count and log message are edited: below its line of the source, or in the list of
+// breakpoints if it has no line. Enter applies them, Escape leaves them as they were.
+
+import { countOf } from "../../core/bench/numbers.js";
+import { Cell, buttonOf, element } from "../ui/dom.js";
+import * as say from "../../words/machine.js";
+
+/**
+ * @typedef {import("../../core/debug/breakpoints.js").Breakpoint} Breakpoint
+ * @typedef {import("../../core/debug/breakpoints.js").KeptBreakpoint} KeptBreakpoint
+ * @typedef {"condition" | "from" | "note"} BreakpointField
+ * @typedef {Pick<KeptBreakpoint, BreakpointField>} BreakpointWords
+ *
+ * What it calls: a breakpoint gets other words; words of it are typed and not applied yet; all that was applied is done; the row is placed
+ * at the line of its breakpoint, which may come later, and goes; the keyboard is that line's again.
+ * @typedef {{ change: (id: number, some: BreakpointWords) => void, type: (id: number, some: BreakpointWords) => void,
+ *   settled: () => Promise<void>, place: (breakpoint: Breakpoint, node: HTMLElement) => void,
+ *   whenPlaced: (act: () => void) => void, leave: (node: HTMLElement) => void,
+ *   left: (breakpoint: Breakpoint) => void }} RowCalls
+ */
+
+const MOST_HITS = 999999999;
+
+/**
+ * @param {string} label
+ * @param {Record<string, unknown>} properties
+ */
+function makeField(label, properties) {
+  const field = element("input", { autocomplete: "off", autocapitalize: "off", spellcheck: false, ...properties });
+  return { field, label: element("label", {}, element("span", {}, label), field) };
+}
+
+/** @param {Breakpoint} breakpoint */
+const wordsOf = ({ condition, from, note }) => ({ condition, from, note });
+
+export class BreakpointRow {
+  /** @param {RowCalls} calls */
+  constructor(calls) {
+    this.calls = calls;
+    /** @type {Breakpoint | null} the one that is edited, as it was at first */
+    this.edited = null;
+    const parts = {
+      condition: makeField(say.CONDITION, { "placeholder": say.SUCH_AS_CONDITION, "aria-description": say.STOPS_WHERE }),
+      from: makeField(say.HIT_COUNT, { "size": 6, "inputMode": "numeric", "aria-description": say.STOPS_FROM_HIT }),
+      note: makeField(say.LOG_MESSAGE, { "placeholder": say.SUCH_AS_NOTE, "aria-description": say.LOGGED }),
+    };
+    this.fields = { condition: parts.condition.field, from: parts.from.field, note: parts.note.field };
+    this.told = new Cell(element("p", { className: "fault", role: "alert" }));
+    this.node = element("form", { "className": "breakpoint-row", "aria-label": say.WORDS_OF_BREAKPOINT },
+      ...Object.values(parts).map(({ label }) => label), element("div", { className: "bar" },
+        element("button", { type: "submit", title: "Enter" }, say.APPLY),
+        buttonOf(say.LEAVE, () => this.cancel(), { title: "Escape" })), this.told.node);
+    this.listen();
+  }
+
+  listen() {
+    const { node } = this;
+    node.addEventListener("submit", (event) => {
+      event.preventDefault();
+      void this.apply();
+    });
+    node.addEventListener("input", () => {
+      const some = this.read();
+      if (this.edited && some) this.calls.type(this.edited.id, some);
+    });
+    node.addEventListener("keydown", (event) => {
+      if (event.key !== "Escape") return;
+      event.preventDefault();
+      event.stopPropagation();
+      this.cancel();
+    });
+    // The row stays, so that nothing moves below the pointer.
+    node.addEventListener("focusout", ({ relatedTarget }) => {
+      if (!(relatedTarget instanceof Node && node.contains(relatedTarget))) this.change();
+    });
+  }
+
+  /**
+   * Opens it for a breakpoint, with the caret in a field.
+   * @param {Breakpoint} breakpoint
+   * @param {string} fault
+   * @param {BreakpointField} what
+   */
+  open(breakpoint, fault, what) {
+    this.change();
+    this.edited = breakpoint;
+    const { fields } = this;
+    fields.condition.value = breakpoint.condition;
+    fields.from.value = breakpoint.from > 1 ? String(breakpoint.from) : "";
+    fields.note.value = breakpoint.note;
+    this.read();
+    this.showFault(fault);
+    this.calls.place(breakpoint, this.node);
+    const focus = () => {
+      fields[what].focus();
+      fields[what].select();
+    };
+    // A line that is out of view has no place yet.
+    if (this.node.isConnected) focus();
+    else this.calls.whenPlaced(focus);
+  }
+
+  /**
+   * The list of breakpoints is another one.
+   * @param {(id: number) => Breakpoint | undefined} find
+   * @param {Map<number, string>} faults
+   */
+  show(find, faults) {
+    if (!this.edited) return;
+    const now = find(this.edited.id);
+    if (!now) {
+      this.close();
+      return;
+    }
+    this.calls.place(now, this.node);
+    this.showFault(faults.get(now.id) || "");
+  }
+
+  /** @param {string} fault of the words that were applied */
+  showFault(fault) {
+    this.told.set(fault && say.stopsEachTime(fault));
+    this.fields.condition.setAttribute("aria-invalid", String(fault !== ""));
+  }
+
+  /**
+   * What is typed; null if the count cannot be read.
+   * @returns {BreakpointWords | null}
+   */
+  read() {
+    const { condition, from, note } = this.fields;
+    const count = from.value.trim() === "" ? 1 : countOf(from.value, MOST_HITS);
+    from.setAttribute("aria-invalid", String(count < 1));
+    return count < 1 ? null : { condition: condition.value.trim(), from: count, note: note.value.trim() };
+  }
+
+  /** What is typed counts. Gives whether it can be read. */
+  change() {
+    const some = this.edited && this.read();
+    if (this.edited && some) this.calls.change(this.edited.id, some);
+    return some !== null;
+  }
+
+  /** Applies what is typed, and goes if there is no error in it. */
+  async apply() {
+    const { edited } = this;
+    if (!edited || !this.change()) return;
+    await this.calls.settled();
+    if (this.edited === edited && this.told.text === "") this.finish(edited);
+  }
+
+  /** Leaves the breakpoint as it was. */
+  cancel() {
+    const { edited } = this;
+    if (!edited) return;
+    this.calls.change(edited.id, wordsOf(edited));
+    this.finish(edited);
+  }
+
+  /** @param {Breakpoint} edited */
+  finish(edited) {
+    const hadFocus = this.node.contains(document.activeElement);
+    this.close();
+    if (hadFocus) this.calls.left(edited);
+  }
+
+  /** The row goes. */
+  close() {
+    if (!this.edited) return;
+    this.edited = null;
+    this.calls.leave(this.node);
+  }
+}

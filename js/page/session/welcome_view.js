@@ -1,0 +1,64 @@
+// The first visit: six cards, each of which begins something.
+
+import { pictureOf } from "./gallery_view.js";
+import { buttonOf, element } from "../ui/dom.js";
+import { icon } from "../ui/icons.js";
+import { TOUR_BOARD } from "../../words/help.js";
+import * as say from "../../words/examples.js";
+
+/**
+ * @typedef {import("../../core/engine/examples.js").Example} Example
+ *
+ * What it calls: the first program begins; an example does; the drawing is shown; the cards were seen.
+ * @typedef {{ beginTour: () => void, begin: (name: string) => Promise<boolean>, draw: () => void, seen: () => void }} WelcomeCalls
+ */
+
+export class WelcomeView {
+  /**
+   * @param {Example[]} examples
+   * @param {WelcomeCalls} calls
+   */
+  constructor(examples, calls) {
+    this.calls = calls;
+    /** @type {(name: string) => Example | undefined} */
+    const named = (name) => examples.find((each) => each.name === name);
+    this.cards = Object.entries(say.CARDS).map(([name, card]) => this.card(name, card, named(card.example)));
+    const title = element("h2", { id: "welcome-title" }, say.WELCOME);
+    this.dialog = element("dialog", { "id": "welcome", "aria-labelledby": "welcome-title" },
+      element("div", { className: "bar" }, title, buttonOf(say.CLOSE, () => this.dialog.close())),
+      element("ul", {}, ...this.cards.map((each) => element("li", {}, each))), element("p", { className: "hint" }, say.WELCOME_HINT));
+    this.dialog.addEventListener("close", () => calls.seen());
+    document.body.append(this.dialog);
+  }
+
+  /**
+   * @param {string} name
+   * @param {{ title: string, words: string, example: string }} card
+   * @param {Example | undefined} example
+   */
+  card(name, { title, words, example: begun }, example) {
+    const made = element("button", { type: "button", className: "card" });
+    const picture = name === "draw" ? icon("chip") : pictureOf(example ? example.board : TOUR_BOARD);
+    made.append(picture, element("b", {}, title), element("span", {}, words));
+    made.addEventListener("click", () => {
+      this.dialog.close();
+      if (!begun) this.calls.beginTour();
+      else this.begin(begun, name === "draw");
+    });
+    return made;
+  }
+
+  /**
+   * @param {string} name of an example
+   * @param {boolean} draws
+   */
+  async begin(name, draws) {
+    if ((await this.calls.begin(name)) && draws) this.calls.draw();
+  }
+
+  open() {
+    if (this.dialog.open) return;
+    this.dialog.showModal();
+    this.cards[0].focus();
+  }
+}

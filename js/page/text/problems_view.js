@@ -1,0 +1,58 @@
+// The problems of all texts in one list, beside the probable bugs that were seen while time ran; how many there are.
+
+import { block, element, onClick } from "../ui/dom.js";
+import * as say from "../../words/text.js";
+
+/**
+ * @typedef {import("../../core/text/text_fault.js").Fault} Fault
+ *
+ * What it calls: a user wants to go to an error of a text; how many problems there are.
+ * @typedef {{ goTo: (name: string, fault: Fault) => void, counted: (count: number) => void }} ProblemCalls
+ */
+
+export class ProblemsView {
+  /** @param {ProblemCalls} calls */
+  constructor(calls) {
+    this.calls = calls;
+    this.list = block("problem-list");
+    this.none = block("problems-none");
+    /** @type {Map<string, Fault[]>} the errors of each text, by its name */
+    this.faults = new Map();
+    /** How many probable bugs are listed beside them. */
+    this.bugs = 0;
+  }
+
+  /**
+   * @param {string} name of a text
+   * @param {Fault[]} faults its errors now
+   */
+  take(name, faults) {
+    if (faults.length === 0 && (this.faults.get(name) || []).length === 0) return;
+    this.faults.set(name, faults);
+    this.list.replaceChildren(...[...this.faults].flatMap(([of, some]) => some.map((fault) => this.entry(of, fault))));
+    this.count();
+  }
+
+  /** @param {number} bugs probable bugs that were seen */
+  takeBugs(bugs) {
+    if (this.bugs === bugs) return;
+    this.bugs = bugs;
+    this.count();
+  }
+
+  count() {
+    const count = [...this.faults.values()].reduce((sum, some) => sum + some.length, this.bugs);
+    this.none.hidden = count > 0;
+    this.calls.counted(count);
+  }
+
+  /**
+   * @param {string} name
+   * @param {Fault} fault
+   */
+  entry(name, fault) {
+    const button = element("button", { type: "button" }, element("b", {}, say.problemAt(name, fault.line)), fault.words);
+    onClick(button, () => this.calls.goTo(name, fault));
+    return element("li", {}, button);
+  }
+}

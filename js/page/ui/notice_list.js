@@ -1,0 +1,47 @@
+// All notices so far, the newest first, in a dialog: those that have left can be read again, and what they offer can still be done.
+
+import { button, buttonOf, element } from "./dom.js";
+import * as say from "../../words/page.js";
+
+/**
+ * @typedef {import("./notice.js").NoticeAction} NoticeAction
+ * @typedef {{ words: string, time: Date, actions: NoticeAction[] }} Message what a notice said, and what it offers until that is done
+ */
+
+/** So many are kept. */
+const MOST_KEPT = 100;
+
+export class NoticeList {
+  /** @param {(message: Message, action: NoticeAction) => void} act does what a notice offers */
+  constructor(act) {
+    this.act = act;
+    /** @type {Message[]} the newest one first */
+    this.all = [];
+    this.list = element("ul", { "aria-label": say.NOTICES });
+    const close = buttonOf(say.CLOSE, () => this.dialog.close());
+    this.dialog = element("dialog", { "id": "notices", "aria-labelledby": "notices-title" },
+      element("div", { className: "bar" }, element("h2", { id: "notices-title" }, say.NOTICES), close), this.list);
+    document.body.append(this.dialog);
+  }
+
+  /** @param {Message} message */
+  add(message) {
+    this.all = [message, ...this.all].slice(0, MOST_KEPT);
+    button("notices-button").hidden = false;
+  }
+
+  open() {
+    this.list.replaceChildren(...this.all.map((message) => this.row(message)));
+    this.dialog.showModal();
+  }
+
+  /** @param {Message} message */
+  row(message) {
+    const time = message.time.toLocaleTimeString([], { hour: "2-digit", minute: "2-digit" });
+    const buttons = message.actions.map((action) => buttonOf(action.word, () => {
+      this.dialog.close();
+      this.act(message, action);
+    }, { "aria-label": say.ofNotice(action.word, message.words) }));
+    return element("li", {}, element("small", {}, time), element("span", { className: "grow" }, message.words), ...buttons);
+  }
+}

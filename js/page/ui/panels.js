@@ -1,0 +1,152 @@
+// The panels of the workbench: each one can be closed, opened again and made full size, by its own buttons and in a menu; what was chosen
+// is kept.
+
+import { Switch, block, button, buttonOf, element, onClick } from "./dom.js";
+import * as say from "../../words/layout.js";
+
+/**
+ * @typedef {import("./choices.js").Choices} Choices
+ * @typedef {{ id: string, name: string, node: HTMLElement, isOpen: Switch, box: HTMLInputElement }} Panel
+ */
+
+/** The name of the choice that keeps which panel is full size. */
+const FULL = "full";
+
+/**
+ * The row at the top of a panel: its tabs, or its heading, whose name is its own.
+ * @param {HTMLElement} panel
+ */
+function headOf(panel) {
+  const head = panel.querySelector(".tab-row, h2") || panel;
+  if (!head.matches("h2")) return head;
+  const row = element("div", { className: "panel-head" });
+  head.replaceWith(row);
+  row.append(head);
+  return row;
+}
+
+export class Panels {
+  /**
+   * @param {Choices} choices
+   * @param {() => void} reset the rest of the arrangement is as at first, too
+   */
+  constructor(choices, reset) {
+    this.choices = choices;
+    this.resetRest = reset;
+    this.menu = block("view-menu");
+    this.word = button("view-button");
+    this.isMenuOpen = new Switch((isOpen) => {
+      this.menu.hidden = !isOpen;
+      this.word.setAttribute("aria-expanded", String(isOpen));
+    });
+    this.panels = Object.entries(say.PANELS).map(([id, name]) => this.make(id, name));
+    /** The panel that is full size, "" for none. */
+    this.full = "";
+    this.menu.append(element("ul", {}, ...this.panels.map((panel) => this.row(panel))),
+      buttonOf(say.RESET_LAYOUT, () => this.reset()));
+    this.listen();
+    this.fill(choices.get(FULL));
+    this.place();
+  }
+
+  /**
+   * @param {string} id
+   * @param {string} name
+   * @returns {Panel}
+   */
+  make(id, name) {
+    const node = block(id);
+    const box = element("input", { type: "checkbox", autocomplete: "off" });
+    const isOpen = new Switch((isOn) => node.classList.toggle("closed", !isOn));
+    isOpen.set(this.choices.get(`panel.${id}`) !== "closed");
+    box.checked = isOpen.isOn;
+    box.addEventListener("change", () => this.open(id, box.checked));
+    const tools = element("span", { className: "panel-tools" },
+      buttonOf("\u25A1", () => this.toggleFull(id), { "title": say.fullSize(name), "aria-label": say.fullSize(name), "tabIndex": -1 }),
+      buttonOf("\u00D7", () => this.open(id, false), { "title": say.closes(name), "aria-label": say.closes(name), "tabIndex": -1 }));
+    headOf(node).append(tools);
+    return { id, name, node, isOpen, box };
+  }
+
+  /** @param {Panel} panel */
+  row({ id, name, box }) {
+    const full = buttonOf(say.FULL_SIZE, () => {
+      this.isMenuOpen.set(false);
+      this.open(id, true);
+      this.fill(id);
+    }, { "aria-label": say.fullSize(name) });
+    return element("li", {}, element("label", { className: "check" }, box, ` ${name}`), full);
+  }
+
+  listen() {
+    onClick(this.word, () => this.isMenuOpen.set(!this.isMenuOpen.isOn));
+    document.addEventListener("pointerdown", ({ target }) => {
+      if (target instanceof Node && !this.menu.contains(target) && !this.word.contains(target)) this.isMenuOpen.set(false);
+    });
+    for (const node of [this.menu, this.word]) {
+      node.addEventListener("keydown", (event) => {
+        if (event.key !== "Escape" || !this.isMenuOpen.isOn) return;
+        event.stopPropagation();
+        this.isMenuOpen.set(false);
+        this.word.focus();
+      });
+    }
+  }
+
+  /** @param {string} id */
+  find(id) {
+    return this.panels.find((panel) => panel.id === id);
+  }
+
+  /**
+   * @param {string} id
+   * @param {boolean} isOpen
+   */
+  open(id, isOpen) {
+    const panel = this.find(id);
+    if (!panel) return;
+    if (!isOpen && this.full === id) this.fill("");
+    panel.isOpen.set(isOpen);
+    panel.box.checked = isOpen;
+    this.choices.set(`panel.${id}`, isOpen ? "" : "closed");
+    this.place();
+  }
+
+  /** @param {string} id */
+  toggle(id) {
+    const panel = this.find(id);
+    if (panel) this.open(id, !panel.isOpen.isOn);
+  }
+
+  /** Gives the room of closed columns to the others. */
+  place() {
+    const side = block("side");
+    const { classList } = document.body;
+    classList.toggle("no-front", !this.panels.some(({ id, isOpen }) => id === "front" && isOpen.isOn));
+    classList.toggle("no-side", !this.panels.some(({ node, isOpen }) => side.contains(node) && isOpen.isOn));
+  }
+
+  /** @param {string} id */
+  toggleFull(id) {
+    this.fill(this.full === id ? "" : id);
+  }
+
+  /**
+   * Makes a panel as large as the window, above all others.
+   * @param {string} id "" for none
+   */
+  fill(id) {
+    this.full = this.find(id) ? id : "";
+    this.choices.set(FULL, this.full);
+    for (const panel of this.panels) panel.node.classList.toggle("full", panel.id === this.full);
+    document.body.classList.toggle("has-full", this.full !== "");
+  }
+
+  /** Everything is arranged as at first. */
+  reset() {
+    this.isMenuOpen.set(false);
+    this.fill("");
+    for (const { id } of this.panels) this.open(id, true);
+    this.resetRest();
+  }
+}

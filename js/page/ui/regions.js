@@ -1,0 +1,61 @@
+// What a narrow window shows: on a phone one region of the workbench at a time, chosen by tabs at the bottom; in a window that is narrower
+// than three columns the debugger's panels, as a drawer.
+
+import { Switch, block, button, onClick, pressedSwitch } from "./dom.js";
+
+/**
+ * @typedef {import("./choices.js").Choices} Choices
+ * @typedef {"board" | "source" | "debug" | "more"} RegionName
+ */
+
+/** @type {RegionName[]} */
+const REGIONS = ["board", "source", "debug", "more"];
+const NAME = "region";
+
+export class Regions {
+  /** @param {Choices} choices */
+  constructor(choices) {
+    this.choices = choices;
+    this.marks = REGIONS.map((name) => {
+      onClick(button(`region-${name}`), () => this.show(name));
+      return { name, pressed: pressedSwitch(button(`region-${name}`)) };
+    });
+    this.drawer = new Switch((isOpen) => {
+      button("drawer-button").setAttribute("aria-expanded", String(isOpen));
+      document.body.classList.toggle("drawer-open", isOpen);
+    });
+    onClick(button("drawer-button"), () => this.drawer.set(!this.drawer.isOn));
+    block("side").addEventListener("keydown", (event) => {
+      if (event.key !== "Escape" || !this.drawer.isOn || event.defaultPrevented) return;
+      this.drawer.set(false);
+      button("drawer-button").focus();
+    });
+    this.draw(REGIONS.find((name) => name === choices.get(NAME)) || "board");
+  }
+
+  /** @param {RegionName} name */
+  show(name) {
+    this.choices.set(NAME, name);
+    this.draw(name);
+  }
+
+  /** @param {RegionName} name */
+  draw(name) {
+    for (const each of this.marks) {
+      each.pressed.set(each.name === name);
+      document.body.classList.toggle(`region-${each.name}`, each.name === name);
+    }
+  }
+
+  /**
+   * Brings the region of a panel into view; in a wide window each one is.
+   * @param {HTMLElement} panel
+   */
+  reveal(panel) {
+    if (block("side").contains(panel)) {
+      this.show("debug");
+      this.drawer.set(true);
+    } else if (block("dock").contains(panel)) this.show("more");
+    else this.show(block("texts").contains(panel) ? "source" : "board");
+  }
+}

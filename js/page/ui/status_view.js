@@ -1,0 +1,25 @@
+// The status bar's words about the session: whether the source is what is in ROM, and whether the session is saved.
+
+import { Cell, block } from "./dom.js";
+import * as say from "../../words/page.js";
+
+export class StatusView {
+  constructor() {
+    this.rom = new Cell(block("rom-told"));
+    this.saved = new Cell(block("saved"));
+  }
+
+  /**
+   * @param {boolean} isMatching whether the source is the program in ROM
+   * @param {string} words why it is not; "" without a source
+   */
+  showRom(isMatching, words) {
+    this.rom.set(isMatching ? say.ROM_MATCHES : words === "" ? "" : say.ROM_DIFFERS);
+    this.rom.node.title = words;
+  }
+
+  /** @param {"example" | "saved" | "failed"} state */
+  showSaved(state) {
+    this.saved.set(say.SAVED[state]);
+  }
+}

@@ -1,0 +1,89 @@
+// The menu of a row of the waves: its name, its group, its place, its colour; and that of a group.
+
+import { ContextMenu } from "../commands/menu_view.js";
+import { FieldBar } from "../text/field_bar.js";
+import { block } from "../ui/dom.js";
+import { ROW_COLOURS } from "../../core/waves/wave_rows.js";
+import * as say from "../../words/waves.js";
+
+/**
+ * @typedef {import("../commands/menu_view.js").MenuItem} MenuItem
+ * @typedef {import("../../core/waves/wave_rows.js").WaveRow} WaveRow
+ */
+
+const LONGEST_NAME = 40;
+
+export class RowMenu {
+  /** @param {import("./wave_view.js").WaveView} view whose marked row it is for */
+  constructor(view) {
+    this.view = view;
+    this.menu = new ContextMenu("row-menu", say.ROW);
+    this.naming = new FieldBar(block("waves"), () => view.canvas.focus());
+  }
+
+  /**
+   * @param {WaveRow} row
+   * @param {{ left: number, bottom: number }} point
+   */
+  open(row, point) {
+    this.menu.open(row.line < 0 ? this.itemsOfGroup(row) : this.itemsOfLine(row), point);
+  }
+
+  /** @returns {MenuItem[]} */
+  get moves() {
+    const { view } = this;
+    const { selected } = view;
+    return [
+      { words: say.MOVE_UP, key: "Alt+Up", act: () => view.moveRow(selected, selected - 1) },
+      { words: say.MOVE_DOWN, key: "Alt+Down", act: () => view.moveRow(selected, selected + 1) },
+    ];
+  }
+
+  /**
+   * @param {WaveRow} row
+   * @returns {MenuItem[]}
+   */
+  itemsOfGroup({ group }) {
+    const { view } = this;
+    const members = () => view.names.filter((name) => view.arrangement.groupOf(name) === group);
+    return [
+      { words: say.FOLD, key: "Enter", act: () => view.fold(group) },
+      { words: say.RENAME, act: () => this.ask(say.nameOf(group), group, (word) => word && view.change(members(), { group: word })) },
+      { words: say.UNGROUP, act: () => view.change(members(), { group: "" }) },
+      ...this.moves,
+    ];
+  }
+
+  /**
+   * @param {WaveRow} row
+   * @returns {MenuItem[]}
+   */
+  itemsOfLine({ name, title, colour, group }) {
+    const { view } = this;
+    const leave = { words: say.LEAVE_GROUP, act: () => view.change([name], { group: "" }) };
+    const join = { words: say.GROUP, act: () => this.ask(say.groupOf(name), "", (word) => view.change([name], { group: word })) };
+    const colours = /** @type {const} */ (["", ...ROW_COLOURS]).map((each) => (
+      { words: say.COLOURS[each], isChosen: () => colour === each, act: () => view.change([name], { colour: each }) }));
+    return [
+      { words: say.RENAME, act: () => this.ask(say.nameOf(name), title || name,
+        (word) => view.change([name], { title: word === name ? "" : word })) },
+      group === "" ? join : leave,
+      ...this.moves,
+      { words: say.HIDE, act: () => view.calls.hide(name) },
+      ...colours,
+    ];
+  }
+
+  /**
+   * Asks for a name.
+   * @param {string} label
+   * @param {string} value
+   * @param {(word: string) => void} act
+   */
+  ask(label, value, act) {
+    this.naming.open({ label, value, word: say.NAME, act: (typed) => {
+      act(typed.slice(0, LONGEST_NAME));
+      return "";
+    } });
+  }
+}

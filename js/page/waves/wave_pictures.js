@@ -1,0 +1,35 @@
+// Pictures of waves as files.
+
+import { SvgContext } from "../../core/waves/svg_context.js";
+import { element } from "../ui/dom.js";
+import { drawWaves } from "./wave_canvas.js";
+
+/** @typedef {import("./wave_canvas.js").Picture} Picture */
+
+/** A pixel of the page is so many of the file. */
+const RATIO = 2;
+
+/** @param {Picture} picture */
+export function svgOf(picture) {
+  const { gutter, view, height, colours } = picture;
+  const context = new SvgContext(gutter + view.width, height, colours.sheet);
+  drawWaves(context, picture);
+  return context.text;
+}
+
+/**
+ * @param {Picture} picture
+ * @param {(blob: Blob) => void} made
+ */
+export function pngOf(picture, made) {
+  const { gutter, view, height, colours } = picture;
+  const canvas = element("canvas", { width: (gutter + view.width) * RATIO, height: height * RATIO });
+  const context = canvas.getContext("2d");
+  if (!context) return;
+  context.scale(RATIO, RATIO);
+  drawWaves(context, picture);
+  context.globalCompositeOperation = "destination-over";
+  context.fillStyle = colours.sheet;
+  context.fillRect(0, 0, canvas.width, canvas.height);
+  canvas.toBlob((blob) => blob && made(blob));
+}

@@ -1,0 +1,390 @@
+// The language of conditions: what a debugger's user types means what was meant, wherever a condition can stand; old texts keep their
+// meaning; no text makes the reader throw or hang.
+import assert from "node:assert/strict";
+import { readFileSync, readdirSync } from "node:fs";
+import { before, test } from "node:test";
+import { valueOfExpression } from "../core/adapter/values.js";
+import { Console } from "../core/adapter/console.js";
+import { putNames } from "../core/bench/names_in_lines.js";
+import { conditionOf, expressionOf, testConditionOf, tracedConditionOf } from "../core/conditions/conditions.js";
+import { LONGEST, MOST_DEPTH } from "../core/conditions/parser.js";
+import { readSetting } from "../core/conditions/setting.js";
+import { DebugSession } from "../core/debug/debug_session.js";
+import { goalOfText } from "../core/debug/becoming.js";
+import { noteOf, softBreakpointOf } from "../core/debug/soft_breakpoints.js";
+import { Standing } from "../core/debug/standing.js";
+import { textOf } from "../core/debug/value_words.js";
+import { namesOfWatched, readWatched } from "../core/debug/watched.js";
+import { readCampaign } from "../core/explore/campaign.js";
+import { randomFrom } from "../core/explore/walks.js";
+import { Engine } from "../core/engine/engine.js";
+import { Prompt } from "../core/prompt/prompt.js";
+import { Account } from "../core/testing/account.js";
+import { TestSession } from "../core/testing/test_session.js";
+import { readTests } from "../core/testing/test_text.js";
+import { linesOfBoard } from "../core/waves/wave_lines.js";
+import { readTrigger } from "../core/waves/trigger.js";
+import { dataOfPage } from "../node/page_parts.mjs";
+import { moduleOfPage } from "./page_session.js";
+
+const engine = new Engine(new globalThis.WebAssembly.Module(moduleOfPage));
+const BOARD = `# lamp 0: 1 2 4 8
+# lamp 4: or
+# row 0: A = no #
+# test: button WALK
+rom = [{ chip = 0, port = "0000" }, { chip = 1, port = "iiii" }]
+ram = [{ bank = 0, chips = 2 }]
+lamp = [{ line = "ram0.0.0" }, { line = "ram0.0.1" }, { line = "ram0.0.2" }, { line = "ram0.0.3" }, { line = "ram0.1.0" }]
+[[chain]]
+clock = "rom0.0"
+data = "rom0.1"
+chips = 1
+[keys]
+chain = 0
+first = 0
+rows = 1
+columns = ["rom1.0", "rom1.1", "rom1.2", "rom1.3"]
+`;
+const PROGRAM = `limit = 9
+start:  FIM P0, 0
+        SRC P0
+turn:   LD R5
+        WMP
+        INC R5
+        JUN turn
+`;
+/** Each of the conditions comes to hold in it, and not to. */
+const SEARCHED = `limit = 9
+start:  FIM P0, 0x12
+        SRC P0
+turn:   LD R5
+        WMP
+        WRM
+        CMA
+        XCH R4
+        LD R5
+        CLC
+        RAR
+        INC R5
+        FIM P0, 0x12
+        SRC P0
+        JUN turn
+`;
+const WATCHED = ["count = R5", "digit = ram 0 0x12", "P2"];
+/** Cells of the machine that are poked at random; the judges look at `regs` and `lamps` by themselves. */
+const POKED = [["acc", 16], ["cy", 2], ["r5", 16], ["r4", 16], ["ram.0.0x12", 16], ["pc", 12]];
+
+/**
+ * What a debugger's user types, and what is meant by it: by what the bench answers to `regs`, `lamps`, `state` and `ram 0`.
+ * @typedef {{ acc: number, cy: number, pc: number, r: number[], lamps: string, keys: string[], test: string, digit: number }} Is
+ * @type {[string, (is: Is) => boolean][]}
+ */
+const MEANT = [
+  ["R5 == 10", ({ r }) => r[5] === 10], ["R5=10", ({ r }) => r[5] === 10], ["r5 == 0xA", ({ r }) => r[5] === 10],
+  ["acc == 10", ({ acc }) => acc === 10], ["r5 >= 8 && cy == 1", ({ r, cy }) => r[5] >= 8 && cy === 1],
+  ["r5 > 8 or cy = 1", ({ r, cy }) => r[5] > 8 || cy === 1], ["count > 9", ({ r }) => r[5] > 9],
+  ["lamps = 9", ({ lamps }) => lamps === "*..*."], ["r5 = 10", ({ r }) => r[5] === 10], ["lamp 8 on", ({ lamps }) => lamps[3] === "*"],
+  ["pc = 0x008", ({ pc }) => pc === 8],
+  ["not (r5 < 8 || cy != 1)", ({ r, cy }) => r[5] >= 8 && cy === 1], ["!cy 1 AND R5 <= 0b111", ({ r, cy }) => cy === 0 && r[5] <= 7],
+  ["r5 = r4", ({ r }) => r[5] === r[4]], ["P2 >= 0x80", ({ r }) => r[4] >= 8], ["(r5 + r4) & 3 = 1", ({ r }) => ((r[5] + r[4]) & 3) === 1],
+  ["r5 - 1 > limit", ({ r }) => r[5] - 1 > 9], ["limit < count and digit >= 8", ({ r, digit }) => r[5] > 9 && digit >= 8],
+  ["ram 0 0x12 = 7 or ram.0.18 > 12", ({ digit }) => digit === 7 || digit > 12], ["pc = turn", ({ pc }) => pc === 3],
+  ["at turn or at START", ({ pc }) => pc === 3 || pc === 0],
+  ["lamp or = 1 and lamp 1 off", ({ lamps }) => lamps[4] === "*" && lamps[0] === "."],
+  ["lamps & 6 = 4", ({ lamps }) => lamps[1] === "." && lamps[2] === "*"],
+];
+/** What only commands change: for breakpoints, and where time stands. */
+const MEANT_THERE = [
+  ["key = down", ({ keys }) => keys.includes("0.1")],
+  ["key # up and key A down", ({ keys }) => !keys.includes("0.3") && keys.includes("0.0")],
+  ["(key no down)", ({ keys }) => keys.includes("0.2")], ["test = 0", (is) => is.test === "0"], ["key WALK down", (is) => is.test === "0"],
+];
+
+/** @type {DebugSession} */
+let session;
+/** @type {import("../core/conditions/conditions.js").Names} */
+let names;
+before(() => {
+  session = new DebugSession(engine, { board: BOARD, program: PROGRAM });
+  assert.deepEqual(session.refused, []);
+  names = { ...session.names, watched: namesOfWatched(WATCHED) };
+});
+
+const upTo = (random, most) => Math.floor(random() * most);
+
+/** Puts the machine into another state, and gives what the bench answers of it. */
+async function changed(random) {
+  const pokes = POKED.map(([place, most]) => `poke ${place} ${upTo(random, most)}\n`).join("");
+  const ports = `asm\n FIM P0, 0\n SRC P0\n LDM ${upTo(random, 16)}\n WMP\n FIM P0, 0x40\n SRC P0\n LDM ${upTo(random, 2)}\n WMP\n.\n`;
+  const keys = [0, 1, 2, 3].map((column) => `${upTo(random, 2) ? "press" : "release"} 0 ${column}\n`).join("");
+  await session.debugger.session.serve(`${ports}poke pc 0\nrun 10\n${pokes}${keys}test ${upTo(random, 2)}\n`, async () => true);
+  const [regs, lamps, state, ...ram] = session.debugger.session.ask("regs\nlamps\nstate\nram 0\n");
+  const [, acc, cy, pc, tested, registers] = /^acc (.) cy (.) pc (...) owed . dcl . test (.) r (\w{16})/.exec(regs);
+  return {
+    acc: parseInt(acc, 16), cy: Number(cy), pc: parseInt(pc, 16), r: [...registers].map((digit) => parseInt(digit, 16)), test: tested,
+    lamps: lamps.slice("lamps ".length), keys: / keys (\S+)/.exec(state)[1].split(","), digit: parseInt(ram[2].split(" ")[1][2], 16),
+  };
+}
+
+/** What expressions are asked of, with the names of Watch. */
+function known() {
+  Object.defineProperty(session, "names", { configurable: true, value: names });
+  return { session, face: names.face, instructions: new Map(), shown: () => "" };
+}
+
+/** What a call gives, or the words of what it throws. */
+async function orFault(call) {
+  try {
+    return await call();
+  } catch (fault) {
+    return fault.message;
+  }
+}
+
+const now = ({ places }) => session.debugger.told(places);
+
+/** A prompt of `mcs4 debug` on the session, and what it printed last. */
+let prompt;
+let printed = "";
+before(() => {
+  const launched = { session, kept: null, program: "p.asm", board: "b.toml", stopsOnEntry: true, isDebugged: true, nameOf: (name) => name };
+  const put = (words) => {
+    printed = words;
+  };
+  const calls = { print: put, complain: put, pause: async () => {}, source: () => null, isByHand: false, view: null };
+  prompt = new Prompt(launched, dataOfPage(), calls);
+});
+
+/** By the place of use: whether a condition is taken there, and holds now; else the error. */
+const USES = {
+  test: (text) => {
+    const { tests: [{ steps: [{ action }] }], faults } = readTests(`test t\n expect ${text}\n`, names);
+    if (faults.length > 0) return faults[0].words;
+    const { file } = session.debugger.session;
+    return new TestSession(engine, file, new Account(new Uint8Array(4096)), async () => {}).look(action.condition).holds;
+  },
+  Watch: (text) => {
+    const { watched, fault } = readWatched(text, names);
+    const look = ["state\n", "ram 0\n"].map((line) => session.debugger.session.ask(line).join("\n"));
+    return fault || textOf(watched.pieces(new Standing(look), names)) === "true";
+  },
+  "mcs4 debug": async (text) => {
+    known();
+    await prompt.take(`print ${text}`);
+    return /^(true|false)$/.test(printed) ? printed === "true" : printed;
+  },
+  breakpoint: (text) => {
+    const { soft, fault } = softBreakpointOf({ id: 1, address: 0, condition: text, from: 1, note: "", hits: 0 }, names);
+    return fault || soft.holds(now(soft));
+  },
+  "log message": (text) => {
+    const { note, fault } = noteOf(`{${text}}`, names);
+    return fault || note.words(now(note)) === "true";
+  },
+  evaluate: (text) => orFault(() => valueOfExpression(text, known()) === "true"),
+  console: (text) => orFault(async () => (await new Console({ isMoving: false }, known(), null, {}).take(text)).words === "true"),
+  trigger: (text) => {
+    const { trigger, fault } = readTrigger(text, linesOfBoard(names.board, BOARD, true, []), names);
+    return fault || trigger.holds(now(trigger));
+  },
+  property: (text) => {
+    const { campaign, faults } = readCampaign(`press A\nalways ${text}\n`, { names, instructions: [] });
+    return faults.length > 0 ? faults[0].words : campaign.properties[0].condition.holds(now(campaign.properties[0].condition));
+  },
+};
+
+for (const [use, holds] of Object.entries(USES)) {
+  test(`${use}: what is typed means what was meant`, async () => {
+    const random = randomFrom(83);
+    const seen = new Map();
+    const isLive = use !== "trigger" && use !== "property";
+    for (let round = 0; round < 60; round++) {
+      const is = await changed(random);
+      for (const [text, meant] of isLive ? [...MEANT, ...MEANT_THERE] : MEANT) {
+        const held = await holds(text);
+        assert.equal(held, meant(is), `${text}: ${JSON.stringify(is)}`);
+        seen.set(text, (seen.get(text) || new Set()).add(held));
+      }
+    }
+    // Each one was seen to hold and not to hold.
+    for (const [text, held] of seen) if (text !== "lamps = 9") assert.equal(held.size, 2, text);
+  });
+}
+
+test("A = 10: the accumulator is acc, in each place of use; a breakpoint stops at each arrival", async () => {
+  for (const [use, holds] of Object.entries(USES)) {
+    assert.match(String(await holds("A = 10")), /A: no such place; the accumulator is acc/, use);
+  }
+  const { soft, fault } = softBreakpointOf({ id: 1, address: 0, condition: "A = 10", from: 1, note: "", hits: 0 }, names);
+  assert.equal(fault, "A: no such place; the accumulator is acc (column 1)");
+  assert.equal(soft.holds([]), true);
+  // Where it is a name, it is meant.
+  const own = { ...names, watched: namesOfWatched(["A = acc"]) };
+  assert.deepEqual(conditionOf("A = 10", own).condition.places, ["acc"]);
+});
+
+/** The machine as the judges know it. */
+function isNow() {
+  const [regs, lamps, ...ram] = session.debugger.session.ask("regs\nlamps\nram 0\n");
+  const [, acc, cy, pc, owed, tested, registers] = /^acc (.) cy (.) pc (...) owed (.) dcl . test (.) r (\w{16})/.exec(regs);
+  return {
+    acc: parseInt(acc, 16), cy: Number(cy), pc: parseInt(pc, 16), r: [...registers].map((digit) => parseInt(digit, 16)), test: tested, owed,
+    lamps: lamps.slice("lamps ".length), keys: [], digit: parseInt(ram[2].split(" ")[1][2], 16),
+  };
+}
+
+test("searches of the past, and on: a condition is found where it became true, instruction by instruction", async () => {
+  const own = new DebugSession(engine, { board: BOARD, program: SEARCHED });
+  Object.defineProperty(own, "names", { configurable: true, value: { ...own.names, watched: namesOfWatched(WATCHED) } });
+  const kept = session;
+  session = own;
+  try {
+    const bench = own.debugger.session;
+    const all = [{ is: isNow(), total: bench.count.total }];
+    for (let step = 0; step < 260; step++) {
+      await own.into();
+      all.push({ is: isNow(), total: bench.count.total });
+    }
+    const last = all.length - 1;
+    let compared = 0;
+    for (const [text, meant] of MEANT) {
+      const rises = all.flatMap(({ is }, at) => (at > 0 && meant(is) && !meant(all[at - 1].is) ? [at] : []));
+      const went = await own.back({ kind: "when", condition: text });
+      // It stands before the instruction that makes it true.
+      const want = rises.length === 0 ? all[last] : all[rises[rises.length - 1] - 1];
+      assert.deepEqual([went.isDone, bench.count.total], [rises.length > 0, want.total], `back ${text}: ${went.words}`);
+      if (rises.length > 0) assert.match(went.words, /: this instruction makes .* true\.$/);
+      else assert.match(went.words, /has not become true as far back as is remembered\.$/);
+      if (went.isDone) own.forward();
+      assert.equal(bench.count.total, all[last].total);
+      compared += rises.length > 0 ? 1 : 0;
+    }
+    assert.ok(compared > 12, String(compared));
+    // On, from power-on.
+    const begun = new DebugSession(engine, { board: BOARD, program: SEARCHED });
+    Object.defineProperty(begun, "names", { configurable: true, value: { ...begun.names, watched: namesOfWatched(WATCHED) } });
+    for (const [text, meant] of MEANT) {
+      const [first] = all.flatMap(({ is, total }, at) => (at > 0 && meant(is) && !meant(all[at - 1].is) ? [total] : []));
+      if (first === undefined) continue;
+      const stop = await begun.go({ kind: "when", condition: text });
+      assert.equal(stop.why, "goal", `${text}: ${stop.words}`);
+      // Within an instruction of two cycles it stops after the first one.
+      const { total } = begun.debugger.session.count;
+      assert.ok(total === first || total === first - 1, `${text}: ${total}, ${first}`);
+      await begun.back({ kind: "stop" });
+    }
+  } finally {
+    session = kept;
+  }
+});
+
+test("what no trace shows is refused where nothing else is asked", () => {
+  for (const [text] of MEANT_THERE) assert.match(tracedConditionOf(text, names).fault, /^no run changes .*: ask for it at a breakpoint$/);
+});
+
+test("errors point at their column, and propose", () => {
+  for (const [text, column, fault] of [
+    ["A = 10", 0, "A: no such place; the accumulator is acc"], ["cy = 1 and carry = 1", 11, "carry: no such place; the carry is cy"],
+    ["r5 = 10 or (r4 = 3", 11, "this parenthesis is not closed"], ["r5 = 12x", 5, "12x is no number; numbers are 10, 0xA or 0b1010"],
+    ["r5 = 10)", 7, "): a condition ends before this; join two by and, or"], ["r5 = limits", 5, "limits: no such place; perhaps limit"],
+    ["r5 ? 3", 3, "? has no meaning in a condition"], ["r5 =", 3, "a value is missing after ="], ["cy = 2", 5, "cy holds 0 to 1, not 2"],
+    ["count > 16", 8, "count holds 0 to 15, not 16"], ["lamp 9 on or r5 = 1", 0, "the board has no lamp 9; it has: 1 2 4 8 or"],
+    ["key B down", 0, "the board has no key B; it has: A = no # WALK"], ["rom3 = 1", 0, "the board has no ROM 3"],
+    ["(r5 = 1) = 3", 9, "=: a condition ends before this; join two by and, or"],
+    ["r5 = (cy = 1)", 5, "(cy = 1): this is a condition, and a value is needed"],
+    ['display "3', 8, "a text ends with a quotation mark"], ["ret = 3", 0, "ret is not one number"],
+    [`${"(".repeat(MOST_DEPTH + 1)}r5 = 1`, MOST_DEPTH, "at most 30 parentheses are inside each other"],
+    ["x".repeat(LONGEST + 1), LONGEST - 1, "a condition has at most 2000 characters"],
+  ]) {
+    const read = conditionOf(text, names);
+    assert.deepEqual([read.fault, read.column], [fault, column], text);
+  }
+});
+
+test("a text of any kind is read in time, and an error is in a column of it", () => {
+  const pieces = [
+    "r5", "R5", "acc", "cy", "ram.0.0x12", "ram", "st", "lamps", "lamp", "key", "display", "printed", "chain0", "rom1", "in", "out",
+    "at", "@turn", "count", "limit", "foo", "on", "off", "down", "up", "not", "!", "and", "&&", "or", "||", "(", ")", "=", "==", "!=",
+    "<", "<=", ">", ">=", "+", "-", "&", "10", "0xA", "0b1", "99999999999999999999", "1x", '"', '"a b"', "?", "*.", "none", "cycles",
+    "é", "\u0000", "", "😀", "__proto__", "constructor", "toString", "\t", "ret", "test", "owed", "P2", "="];
+  const random = randomFrom(1971);
+  const began = performance.now();
+  let taken = 0;
+  for (let each = 0; each < 10000; each++) {
+    const count = upTo(random, each % 100 === 0 ? 1500 : 14);
+    const glue = upTo(random, 4) === 0 ? "" : " ";
+    const text = Array.from({ length: count }, () => pieces[upTo(random, pieces.length)]).join(glue);
+    const readers = [conditionOf, expressionOf, testConditionOf, tracedConditionOf, (all) => readSetting(all, names.map, names.board)];
+    for (const read of readers) {
+      const { fault, column } = read(text, names);
+      if (fault === "") taken += 1;
+      else assert.ok(column >= 0 && (column < text.length || (column === 0 && text === "")), `${JSON.stringify(text)}: ${fault} ${column}`);
+    }
+  }
+  assert.ok(taken > 200, String(taken));
+  // What begins or ends otherwise is read by the same parser, and its faults name a column in words.
+  for (let each = 0; each < 1500; each++) {
+    const text = Array.from({ length: upTo(random, 12) }, () => pieces[upTo(random, pieces.length)]).join(" ");
+    const heads = ["while ", "once ", "after press A, ", "after press A within 5 ms, ", "never ", "always ", ""];
+    const line = heads[upTo(random, heads.length)] + text.replace("+", ",") + [", never cy 1", "", " for 5 ms"][upTo(random, 3)];
+    readCampaign(line, { names, instructions: [] });
+    readTests(`test t\nexpect ${text}\nuntil ${text} within 5\nset ${text}\n`, names);
+    for (const fault of [readWatched(text, names).fault, readWatched(`x = ${text}`, names).fault, goalOfText(text, names).fault,
+      noteOf(`a {${text}} b`, names).fault, putNames(`set ${text}`, session.map).words]) {
+      const column = / \(column (\d+)\)\.?$/.exec(fault);
+      assert.ok(fault === "" || column === null || Number(column[1]) <= text.length + 8, `${text}: ${fault}`);
+    }
+  }
+  assert.ok(performance.now() - began < 60000);
+});
+
+test("`set PLACE = VALUE` in a console stands for the lines that do so", () => {
+  const put = (line) => putNames(line, session.map);
+  assert.deepEqual(put("set r4 = 0b111\n"), { lines: "poke r4 7\n", words: "", line: 0 });
+  assert.deepEqual(put("set RAM 0 0x12 = limit\nlamps"), { lines: "poke ram.0.0x12 9\nlamps", words: "", line: 0 });
+  assert.deepEqual(put("set P2=0x1F"), { lines: "poke r4 1\npoke r5 15", words: "", line: 0 });
+  assert.deepEqual([put("set test = 0").lines, put("set pc = @turn").lines], ["test 0", "poke pc 3"]);
+  assert.match(put("set A = 1").words, /^A: no such place; the accumulator is acc \(column 5\)\.$/);
+  assert.equal(put("set cy = 2").words, "cy holds 0 to 1, not 2 (column 10).");
+  assert.equal(put("asm\nset r4 = 1\n.\n").lines, "asm\nset r4 = 1\n.\n");
+});
+
+/** The conditions of the tests of all examples, with their boards and programs. */
+function conditionsOfExamples() {
+  const folder = new URL("../../examples/", import.meta.url);
+  return readdirSync(folder, { withFileTypes: true }).filter((each) => each.isDirectory()).flatMap(({ name }) => {
+    const read = (file) => readFileSync(new URL(`${name}/${file}`, folder), "utf8");
+    const files = readdirSync(new URL(`${name}/`, folder));
+    const source = files.find((file) => file.endsWith(".asm"));
+    const texts = files.filter((file) => file.endsWith(".test")).map(read).join("\n");
+    const all = [...texts.matchAll(/^\s*(?:expect\s+(.*?)|until\s+(.*?)\s+within\s.*)\s*$/gm)].map((found) => found[1] || found[2]);
+    return source && all.length > 0 ? [{ board: read("board.toml"), program: read(source), conditions: [...new Set(all)] }] : [];
+  });
+}
+
+test("the conditions of the examples' tests mean the same here", () => {
+  const random = randomFrom(7);
+  let compared = 0;
+  for (const { board, program, conditions } of conditionsOfExamples()) {
+    const { names: own } = new DebugSession(engine, { board, program });
+    for (const text of conditions) {
+      const [old, read] = [testConditionOf(text, own), conditionOf(text, own)];
+      assert.equal(old.fault, "", text);
+      // What is for the lines of a test alone is refused, as before.
+      if (old.condition.needs.some((need) => need !== "test")) {
+        assert.match(read.fault, /^(the digits are lit|what is printed|no run changes)/, text);
+        continue;
+      }
+      if (old.condition.needs.length > 0) continue;
+      assert.deepEqual([read.fault, read.condition?.places], ["", old.condition.places], text);
+      for (let round = 0; round < 20; round++) {
+        const values = old.condition.places.map((place) => (place === "lamps" ? own.board.lamps.map(() => ".*"[upTo(random, 2)]).join("")
+          : upTo(random, place === "pc" ? 4096 : 16).toString(16).toUpperCase().padStart(place === "pc" ? 3 : 1, "0")));
+        assert.equal(read.condition.holds(values), old.condition.holds(values), `${text}: ${values}`);
+        assert.equal(read.condition.tell(values), old.condition.tell(values), `${text}: ${values}`);
+      }
+      compared += 1;
+    }
+  }
+  assert.ok(compared > 60, String(compared));
+});

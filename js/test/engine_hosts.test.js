@@ -1,0 +1,261 @@
+// Both hosts of an engine, the module and the native program: the same lines have the same answers. MCS4 names the program, where it is
+// not the one that is shipped; without a program that starts here only the module is tried.
+import { test } from "node:test";
+import assert from "node:assert/strict";
+import { spawnSync } from "node:child_process";
+import { chmodSync, existsSync, mkdtempSync, readFileSync, readdirSync, rmSync, writeFileSync } from "node:fs";
+import { tmpdir } from "node:os";
+import { join } from "node:path";
+import { fileURLToPath } from "node:url";
+import { BenchRefusal } from "../core/bench/faults.js";
+/* global WebAssembly */
+import { Engine } from "../core/engine/engine.js";
+import { readBoard } from "../core/bench/answers.js";
+import { withoutStops } from "../core/engine/wave_recorder.js";
+import { neededLines, recordPieces } from "../core/engine/wave_stream.js";
+import { runTests } from "../core/testing/testing.js";
+import { coverageText, lcovOf } from "../core/testing/coverage_text.js";
+import { profileText } from "../core/testing/profile_text.js";
+import { tapOfTests } from "../core/testing/tap.js";
+import { SessionTrace } from "../core/trace/session_trace.js";
+import { chooseLines } from "../core/waves/line_choice.js";
+import { VcdText } from "../core/waves/vcd.js";
+import { NativeEngine, ProgramError } from "../node/native_engine.mjs";
+import { moduleOfPage } from "../node/page_parts.mjs";
+
+const top = fileURLToPath(new URL("../..", import.meta.url));
+const program = process.env.MCS4 || join(top, "shipped/mcs4");
+const module = new Engine(new WebAssembly.Module(moduleOfPage()));
+const hasProgram = spawnSync(program, [], { stdio: "ignore" }).error === undefined;
+const native = hasProgram ? new NativeEngine(program) : null;
+const hosts = native ? { module, native } : { module };
+const example = (name) => readFileSync(join(top, "examples", name), "utf8");
+
+const IMPORT = `import { NativeEngine } from ${JSON.stringify(new URL("../node/native_engine.mjs", import.meta.url).href)};`;
+
+/** Runs a module by a node of its own, whose temporary files are in a folder. */
+function runNode(text, folder) {
+  return spawnSync(process.execPath, ["--input-type=module", "-e", text], { encoding: "utf8", env: { ...process.env, TMPDIR: folder } });
+}
+
+const BOARD = 'wire\n[[rom]]\nchip = 0\nport = "0000"\n[[ram]]\nbank = 0\nchips = 1\n[[lamp]]\nline = "ram0.0.0"\n.\n';
+const PROGRAM = "asm\nloop: IAC\n      WMP\n      JUN loop\n.\n";
+
+/** Runs a test on each host; what it returns has to be the same. */
+function onBoth(name, act) {
+  test(name, async () => {
+    const found = [];
+    for (const engine of Object.values(hosts)) found.push(await act(engine));
+    for (const other of found.slice(1)) assert.deepEqual(other, found[0]);
+  });
+}
+
+/** The state after lines on a new session. */
+function stateAfter(engine, lines) {
+  const state = engine.begin();
+  engine.serve(state, lines, state);
+  return state;
+}
+
+onBoth("a new session has no commands, and questions leave it as it is", (engine) => {
+  const state = engine.begin();
+  const { status, opened, answers } = engine.ask(state, "seq\nregs\nlamps\nseq\n");
+  assert.deepEqual([status, opened, answers[0], answers[3]], [0, "session 0", "seq 0", "seq 0"]);
+  assert.deepEqual(state, engine.begin());
+  return answers;
+});
+
+onBoth("commands lead to the next state; the state before stays", (engine) => {
+  const before = stateAfter(engine, BOARD + PROGRAM);
+  const after = new Uint8Array(engine.size);
+  const { opened, answers } = engine.serve(before, "run 10\nlamps\n", after);
+  assert.equal(opened, "session 2");
+  assert.equal(answers[0], "ok 3 ran 10 end");
+  assert.deepEqual(engine.ask(before, "seq\n").answers, ["seq 2"]);
+  assert.deepEqual(engine.ask(after, "seq\n").answers, ["seq 3"]);
+  return [answers, engine.ask(before, "state\n"), engine.ask(after, "state\n")];
+});
+
+onBoth("commands that are asked about change nothing", (engine) => {
+  const state = stateAfter(engine, BOARD + PROGRAM);
+  const told = [engine.ask(state, "run 7\ntrace 1\nseq\n"), engine.ask(state, "poke acc 9\nregs\n"), engine.ask(state, "regs\nseq\n")];
+  assert.equal(told[2].answers[1], "seq 2");
+  return told;
+});
+
+onBoth("a trace goes through breakpoints, its last lines end at one, and the session stays", async (engine) => {
+  const state = stateAfter(engine, `${BOARD}${PROGRAM}run 3\nbreak 0x002\n`);
+  const trace = new SessionTrace(engine, state, async () => {});
+  const linesOf = async (pieces) => {
+    const lines = [];
+    for await (const piece of pieces) lines.push(...piece);
+    return lines;
+  };
+  const next = await linesOf(trace.next(1200, null));
+  assert.deepEqual([next[0], next.length], ["       0  (the second cycle)         acc 1 cy 0", 901]);
+  assert.equal(next[2], "       2  001 E1    WMP              acc 2 cy 0  out 0.0 2 lamps .");
+  assert.deepEqual(await linesOf(trace.last(1, 100000, null)), [
+    "       2  001 E1    WMP              acc 2 cy 0  out 0.0 2 lamps .", "       3  002 40 00 JUN 0x000        stops before it: break",
+  ]);
+  assert.deepEqual(engine.ask(state, "breaks\nseq\n").answers, ["breaks 002", "seq 4"]);
+  return next;
+});
+
+onBoth("a VCD file is written piece by piece", async (engine) => {
+  const state = withoutStops(engine, stateAfter(engine, `${BOARD}${PROGRAM}`));
+  const board = readBoard(engine.ask(state, "board\n").answers);
+  const all = chooseLines(board, "", false, ["ram0.0", "acc", "pc", "ram0.0[3:0]"]);
+  const { lines, chosen } = neededLines(all.lines, all.chosen);
+  let text = null;
+  let file = "";
+  for await (const waves of recordPieces(engine, state, { lines, program: null, cycles: 45000 }, async () => {})) {
+    if (!text) text = new VcdText(waves, chosen);
+    file += (file === "" ? text.head() : "") + [...text.changes()].join("");
+  }
+  file += text.end();
+  assert.match(file, /\$var wire 4 H ram0\.0\[3:0\] \$end\n[^]*\n#4860000\n/);
+  return file;
+});
+
+onBoth("a copy of a state is the same state, and many states can be returned to", (engine) => {
+  const states = [stateAfter(engine, BOARD + PROGRAM)];
+  for (let at = 1; at <= 50; at++) {
+    const state = states[at - 1].slice();
+    engine.serve(state, `run ${at}\n`, state);
+    states.push(state);
+  }
+  engine.keep(states[20]);
+  return [0, 50, 20, 3, 20, 49, 3, 50].map((at) => engine.ask(states[at].slice(), "state\n"));
+});
+
+onBoth("no line, blank lines and refused lines", (engine) => {
+  const state = engine.begin();
+  return [
+    "", "\n\n  \n", "nonsense\nrun\nrun 0\nseq 5\n SEQ\n", `${"x".repeat(300)}\nseq\n`, "poke acc 99\n", "run 5 6 7\r\nregs\r\n",
+    "\u00fc\n", "map\n x\n.\n",
+  ].map((lines) => [engine.serve(state, lines, state), engine.ask(state, lines)]);
+});
+
+onBoth("`seq` within a text is a line of it, and `seq` has answers of its own", (engine) => {
+  const state = stateAfter(engine, BOARD);
+  return [
+    engine.serve(state, "seq\nasm\nseq\nseq\n.\nseq\n seq \n", state), engine.ask(state, "map\nseq\n.\nseq\n"),
+    engine.serve(state, "seq\nseq\nrun 3\nseq\n", state),
+  ];
+});
+
+onBoth("lines whose last one, or whose text, has no end", (engine) => {
+  const state = stateAfter(engine, BOARD + PROGRAM);
+  const told = [engine.ask(state, "seq\nreg"), engine.ask(state, "run 5\nasm\n NOP\n"), engine.serve(state, "run 5\nasm\n NOP", state)];
+  assert.deepEqual(told[0].answers, ["seq 2", "no 10"]);
+  assert.deepEqual(engine.ask(state, "seq\n").answers, ["seq 3"]);
+  return [told, engine.ask(state, "state\n")];
+});
+
+onBoth("more lines, and longer texts and answers, than a pipe takes", (engine) => {
+  const state = stateAfter(engine, BOARD);
+  const long = `asm\n${"; a comment that is long\n".repeat(20000)} NOP\n.\n`;
+  const many = "regs\nlist 0 256\nlamps\n".repeat(1500);
+  const { answers } = engine.serve(state, many + long + many + PROGRAM + many, state);
+  assert.equal(answers.length, 3 * 1500 * 258 + 2);
+  assert.ok(answers.includes("no 13"));
+  return [answers.length, answers.slice(-300), engine.ask(state, "state\n")];
+});
+
+onBoth("the bytes of a session file lead to the same state on each host", (engine) => {
+  const bytes = engine.bytesOf(stateAfter(engine, `${BOARD + PROGRAM}run 9\nbreak 2\n`));
+  assert.equal(bytes.length, module.size);
+  return Object.values(hosts).map((host) => host.ask(host.stateOf(bytes), "state\nboard\nlist 0 8\n"));
+});
+
+onBoth("bytes that are no session file are rejected by a number", (engine) => {
+  const whole = engine.bytesOf(stateAfter(engine, BOARD));
+  const damaged = whole.slice().fill(255, 0, 4096);
+  return [new Uint8Array(10), whole.slice(0, 1000), damaged].map((bytes) => {
+    try {
+      return engine.ask(engine.stateOf(bytes), "seq\n");
+    } catch (fault) {
+      assert.ok(fault instanceof BenchRefusal, fault);
+      return fault.number;
+    }
+  });
+});
+
+onBoth("tests, coverage and profile of examples", async (engine) => {
+  const texts = (name) => ({ boardText: example(`${name}/board.toml`), programText: example(`${name}/${name}.asm`) });
+  const printed = [];
+  for (const name of ["three_lamps", "lock"]) {
+    const sources = [{ name: `${name}.test`, text: example(`${name}/${name}.test`).replace("cycles 538", "cycles 540") }];
+    const { outcomes, coverage, profile } = await runTests(engine, { ...texts(name), sources }, async () => true);
+    const { text, before } = { text: texts(name).programText, before: 0 };
+    printed.push(tapOfTests(outcomes), coverageText(coverage, { text, before }), lcovOf(coverage, { name, before }), profileText(profile));
+  }
+  assert.ok(printed[0].includes("not ok 2"));
+  return printed;
+});
+
+if (!native) {
+  test("the native program", { skip: `${program} does not start here; MCS4 names another one` }, () => {});
+} else {
+  test("a program that is missing, that is none, or that ends is an error with a message", () => {
+    const folder = mkdtempSync(join(tmpdir(), "engine_hosts-"));
+    const written = (lines) => {
+      const name = join(folder, "program");
+      writeFileSync(name, `#!/bin/sh\n${lines}\n`);
+      chmodSync(name, 0o755);
+      return name;
+    };
+    const failure = (path, wanted, lines = "seq\n") => {
+      const engine = new NativeEngine(path);
+      try {
+        assert.throws(() => engine.ask(engine.begin(), lines), ProgramError);
+        assert.throws(() => engine.ask(engine.begin(), lines), ({ message }) => message === wanted);
+      } finally {
+        engine.end();
+      }
+    };
+    const noAnswer = (name) => `${join(folder, name)} does not answer; MCS4 names the program where it is not the mcs4 at the top`;
+    failure(join(folder, "none"), noAnswer("none"));
+    failure(written("echo no such thing"), noAnswer("program"));
+    failure(written("echo bad luck >&2"), `bad luck\nbad luck\n${noAnswer("program")}`);
+    failure(written("echo session 0"), "the session has ended; the program said: nothing");
+    const late = written("echo session 0; read -r line; echo seq; echo bad luck >&2");
+    failure(late, "the session has ended; the program said: bad luck; bad luck");
+    // Its lines must not reach the next program at the same pipe, which a child of this one holds open for a moment.
+    const holding = written("echo session 0; read -r line; echo \"$line\" >&2; exec 3<&0; sleep 1 > /dev/null 2>&1 &");
+    failure(holding, "the session has ended; the program said: test 0; test 0", "test 0\n");
+    rmSync(folder, { recursive: true });
+  });
+
+  test("the folder is the user's alone, and is removed at every end of node", async () => {
+    const folder = mkdtempSync(join(tmpdir(), "engine_hosts-"));
+    const script = (end) => `${IMPORT}
+      import { readdirSync, statSync } from "node:fs";
+      const engine = new NativeEngine(${JSON.stringify(program)});
+      engine.ask(engine.begin(), "seq\\n");
+      const [name] = readdirSync(${JSON.stringify(folder)});
+      process.stdout.write((statSync(${JSON.stringify(folder)} + "/" + name).mode & 0o777).toString(8));
+      ${end}`;
+    for (const end of ["engine.end();", "", "process.exit(3);", "throw new Error('x');", ...["TERM", "INT", "HUP", "KILL"].map((name) => (
+      `process.kill(process.pid, "SIG${name}"); setTimeout(() => {}, 10000);`))]) {
+      const { stdout } = runNode(script(end), folder);
+      assert.equal(stdout, "700", end);
+      // After a signal the shell removes it, as soon as it sees that node has ended.
+      for (let tries = 0; tries < 500 && readdirSync(folder).length > 0; tries++) await new Promise((resume) => setTimeout(resume, 10));
+      assert.deepEqual(readdirSync(folder), [], end);
+    }
+    rmSync(folder, { recursive: true });
+  });
+
+  test("a place where no folder can be made is an error", () => {
+    const { stderr } = runNode(`${IMPORT} new NativeEngine("x");`, "/none/at/all");
+    assert.match(stderr, /cannot make a folder in \/none\/at\/all; TMPDIR names another place/);
+  });
+
+  test("the end leaves nothing", () => {
+    const { folder } = native.starter;
+    assert.ok(existsSync(folder));
+    native.end();
+    assert.ok(!existsSync(folder));
+  });
+}

@@ -1,0 +1,247 @@
+// Guards of properties: `while C, ..`, `once C, ..`, `after press K [within TIME], ..`. What they mean is read a second time here, cycle by
+// cycle, as the manual says it; and they find what a program does wrong.
+import assert from "node:assert/strict";
+import { test } from "node:test";
+import { CampaignRun } from "../core/explore/campaign_run.js";
+import { readCampaign } from "../core/explore/campaign.js";
+import { subjectOf } from "../core/explore/subject.js";
+import { randomFrom } from "../core/explore/walks.js";
+import { Engine } from "../core/engine/engine.js";
+import { runTests } from "../core/testing/testing.js";
+import { moduleOfPage } from "./page_session.js";
+
+const engine = new Engine(new globalThis.WebAssembly.Module(moduleOfPage));
+
+// The reaction timer: START begins to wait, the lamp `go` comes, and PRESS, at TEST, stops it. PRESS while it waits is a foul.
+const BOARD = `# row 0: START
+# lamp 0: waiting go foul
+# test: button PRESS
+lamp = [{ line = "ram0.0.0" }, { line = "ram0.0.1" }, { line = "ram0.0.2" }]
+rom = [{ chip = 0, port = "0000" }, { chip = 1, port = "i000" }]
+ram = [{ bank = 0, chips = 1 }]
+chain = [{ clock = "rom0.0", data = "rom0.1", chips = 1 }]
+keys = { chain = 0, first = 0, rows = 1, columns = ["rom1.3"] }
+`;
+const PROGRAM = `pressed = 1             ; the condition of JCN: TEST is 0
+        FIM P0, 0
+        FIM P1, 0x10
+        SRC P0
+        LDM 2
+        WRR
+        IAC
+        WRR             ; the row of the keys is driven
+idle:   SRC P1
+        RDR
+        JCN 4, idle     ; START is up
+        SRC P0
+        LDM 1
+        WMP
+        FIM P2, 0x0D
+wait:   JCN pressed, foul
+        ISZ R4, wait
+        ISZ R5, wait
+        LDM 2
+        WMP
+go:     JCN pressed, stop
+        JUN go
+stop:   LDM 0
+        WMP
+        JUN idle
+foul:   LDM 4
+        WMP
+end:    JUN end
+`;
+/** It looks at PRESS once in sixteen turns: a short press is lost. */
+const LATE = PROGRAM.replace("wait:   JCN pressed, foul\n        ISZ R4, wait", "wait:   ISZ R4, wait\n        JCN pressed, foul");
+const INPUTS = "press START PRESS\nwait 20 to 200\nnote lamps\nheld at most 30\n";
+
+const campaignOf = (text, program = PROGRAM) => readCampaign(INPUTS + text, subjectOf(engine, BOARD, program));
+const faultOf = (text) => campaignOf(text).faults.map(({ words }) => words).join();
+
+/** The find of the first property within some seconds, null for none. */
+async function found(text, program, seconds) {
+  const subject = subjectOf(engine, BOARD, program);
+  const { campaign, faults } = readCampaign(INPUTS + text, subject);
+  assert.deepEqual(faults, []);
+  const run = new CampaignRun(subject, campaign, 1, () => true, 5e6);
+  const end = performance.now() + 1000 * seconds;
+  while (performance.now() < end && run.found[0] === null) await run.goOn(20);
+  return run.found[0];
+}
+
+/** Whether a test fails on a program. */
+async function fails(text, program) {
+  const { faults, outcomes } = await runTests(engine, { boardText: BOARD, programText: program, testText: text }, async () => true);
+  assert.deepEqual(faults, []);
+  return outcomes[0].failure !== null;
+}
+
+test("if PRESS comes while it waits, the foul lamp comes on: the program that is late is found, the other one is not", async () => {
+  // A press in the last cycles of the wait may be read only after `go`.
+  const text = "while lamp waiting on, after press PRESS within 20 lamp foul on or lamp go on\n";
+  const find = await found(text, LATE, 30);
+  assert.ok(find);
+  assert.match(find.test, /^test while lamp waiting on, after press PRESS within 20 lamp foul on or lamp go on\n/);
+  assert.match(find.test, /\n {2}until lamp foul on or lamp go on within 20\n$/);
+  assert.deepEqual([await fails(find.test, LATE), await fails(find.test, PROGRAM)], [true, false]);
+  assert.equal(await found(text, PROGRAM, 1), null);
+  // Without the guard PRESS is no foul.
+  assert.ok(await found("after press PRESS within 20 lamp foul on\n", PROGRAM, 30));
+});
+
+test("each guard is found broken, with a test that fails", async () => {
+  for (const text of [
+    "while lamp waiting on, never pc = foul", "once lamp waiting on, always lamp foul off", "after press PRESS, never lamp foul on",
+    "while lamp waiting on, always r4 < 15", "after press START within 300, never lamp foul on",
+    "while lamp waiting on, never lamp 0 on for 100",
+    "while lamp waiting on, at @foul lamp go on", "once lamp foul on, reach lamp foul on", "while lamp go on, reach @stop",
+    "once lamp waiting on, while lamp go on, after press START within 300, never lamps go",
+  ]) {
+    const find = await found(`${text}\n`, PROGRAM, 30);
+    assert.ok(find, text);
+    assert.equal(await fails(find.test, PROGRAM), !text.includes("reach"), `${text}\n${find.test}`);
+  }
+});
+
+test("what is no guard is told", () => {
+  assert.match(faultOf("while lamp waiting on never lamp foul on"), /^a guard is written as `while CONDITION,`/);
+  assert.match(faultOf("while lamp waiting on,"), /^a guard is written as/);
+  assert.match(faultOf("while lamp purple on, never lamp foul on"), /^the board has no lamp purple/);
+  assert.match(faultOf("while r4 = 1, never lamp purple on"), /^the board has no lamp purple/);
+  assert.match(faultOf("after press X, never lamp foul on"), /^the board has no key X/);
+  assert.match(faultOf("after press PRESS within 5 years, never lamp foul on"), /^a guard is written as/);
+  assert.match(faultOf("while r4 = 1, @go at most once for each press"), /^a guard is written as/);
+  assert.match(faultOf("while r4 = 1, press START"), /^a guard is written as/);
+  assert.match(faultOf(`${"while r4 = 1, ".repeat(5)}never r5 = 2`), /^at most 4 guards/);
+  assert.match(faultOf("once test = 0, never r5 = 2"), /^no run changes test/);
+  assert.equal(faultOf("after press PRESS within 20 lamp foul on"), "");
+});
+
+// --- the second reading: a world of some cycles, in which conditions C and G change, and K and J are pressed ---
+
+const LENGTH = 90;
+const upTo = (random, most) => Math.floor(random() * most);
+
+function worldOf(random) {
+  const often = [0, 0.02, 0.12][upTo(random, 3)];
+  const signal = () => {
+    let is = random() < 0.5;
+    return Array.from({ length: LENGTH + 1 }, () => {
+      if (random() < often) is = !is;
+      return is;
+    });
+  };
+  const acts = [];
+  for (let time = upTo(random, 12); time < LENGTH; time += upTo(random, 20)) {
+    acts.push({ time, act: ["K", "K", "J", "reset", "none"][upTo(random, 5)] });
+  }
+  return { c: signal(), g: signal(), acts: acts.filter(({ act }) => act !== "reset" || random() < 0.3) };
+}
+
+/** What a walk tells of the world to a property, in its order; when it is broken, -1 for never. */
+function brokenBy(property, { c, g, acts }) {
+  const memory = property.from(0, 0);
+  const opensAt = (time) => property.guards.map(({ condition }) => condition !== null && g[time]);
+  let broken = -1;
+  const tell = (event, time, input = "") => {
+    const isState = event === "values";
+    const opens = isState || event === "down" ? opensAt(time) : [];
+    const when = property.see(memory, event, { time, holds: isState && c[time], opens, input, isDown: 0 });
+    if (when >= 0 && (broken < 0 || when < broken)) broken = when;
+  };
+  let began = 0;
+  for (const { time, act } of [...acts, { time: LENGTH, act: "none" }]) {
+    tell("values", began);
+    for (let at = began + 1; at <= time && broken < 0; at++) if (c[at] !== c[at - 1] || g[at] !== g[at - 1]) tell("values", at);
+    if (broken < 0) tell("end", time);
+    if (broken >= 0) return broken;
+    if (act === "K" || act === "J") tell("down", time, act === "K" ? "START" : "PRESS");
+    if (act === "reset") tell("reset", time);
+    began = time;
+  }
+  return broken;
+}
+
+/** The cycles at which each guard is open, cycle by cycle; a cycle of a press or of a power cycle counts before it and after it. */
+function instantsOf({ c, g, acts }, guards) {
+  const instants = [];
+  let once = false;
+  let press = -1;
+  const put = (time, isDown) => {
+    once = once || g[time];
+    const isOpen = guards.every(({ kind, limit }) => (kind === "while" ? g[time] : kind === "once" ? once
+      : press >= 0 && (limit === 0 || time - press <= limit)));
+    instants.push({ time, c: c[time], isOpen, isDown, isReset: false });
+  };
+  for (let time = 0; time <= LENGTH; time++) {
+    put(time, false);
+    for (const { act } of acts.filter((each) => each.time === time)) {
+      if (act === "K") press = time;
+      if (act === "reset") {
+        [once, press] = [false, -1];
+        instants.push({ time, c: false, isOpen: false, isDown: false, isReset: true });
+      }
+      put(time, act === "J");
+    }
+  }
+  return instants;
+}
+
+/** When a property is broken, by the words of the manual. */
+const READ = {
+  never: (instants) => (instants.find(({ c, isOpen }) => isOpen && c) || { time: -1 }).time,
+  always: (instants) => (instants.find(({ c, isOpen, isReset }) => isOpen && !isReset && !c) || { time: -1 }).time,
+  "never for": (instants, limit) => {
+    let since = -1;
+    for (const { time, c, isOpen } of instants) {
+      if (since >= 0 && time - since >= limit) return since + limit;
+      if (!(c && isOpen)) since = -1;
+      else if (since < 0) since = time;
+    }
+    return -1;
+  },
+  "after press": (instants, limit) => {
+    let since = -1;
+    for (const { time, c, isOpen, isDown, isReset } of instants) {
+      if (since >= 0 && time > since + limit) return since + limit;
+      if (isReset || c) since = -1;
+      if (isDown && isOpen && !c && since < 0) since = time;
+    }
+    return -1;
+  },
+};
+
+test("guards mean what the manual says, cycle by cycle", () => {
+  const random = randomFrom(11);
+  const { campaign } = campaignOf(`never lamp go on
+always lamp go on
+never lamp go on for 7
+after press PRESS within 9 lamp go on
+once r4 = 1, never lamp go on
+once r4 = 1, always lamp go on
+once r4 = 1, never lamp go on for 7
+once r4 = 1, after press PRESS within 9 lamp go on
+after press START, never lamp go on
+after press START, always lamp go on
+after press START within 13, never lamp go on
+after press START within 13, always lamp go on
+after press START within 13, never lamp go on for 7
+after press START within 13, after press PRESS within 9 lamp go on
+while r4 = 1, after press PRESS within 9 lamp go on
+once r4 = 1, after press START within 13, never lamp go on for 7
+while r4 = 1, after press START within 13, after press PRESS within 9 lamp go on
+`);
+  const properties = campaign.properties.filter(({ line }) => line > 0);
+  assert.equal(properties.length, 17);
+  const seen = new Map();
+  for (let round = 0; round < 1500; round++) {
+    const world = worldOf(random);
+    for (const property of properties) {
+      const told = brokenBy(property, world);
+      const read = READ[property.form](instantsOf(world, property.guards), property.limit);
+      assert.equal(told, read, `${property.text}: ${JSON.stringify(world)}`);
+      seen.set(property.text, (seen.get(property.text) || new Set()).add(read >= 0));
+    }
+  }
+  for (const [text, both] of seen) assert.equal(both.size, 2, text);
+});

@@ -1,0 +1,32 @@
+// Programs in the spelling of Intel and of AS. (checks/tools import has whole programs, with bytes that were assembled by hand.)
+import assert from "node:assert/strict";
+import { test } from "node:test";
+import { evaluate } from "../core/import/expressions.js";
+import { importProgram } from "../core/import/program_import.js";
+
+const names = { isDefined: (name) => name === "X" || name === "LATER", valueOf: (name) => (name === "X" ? 5 : undefined) };
+
+test("expressions have the values that Intel's assembler gives them", () => {
+  const values = {
+    "20H": 32, "$2A": 42, "0x1F": 31, "101B": 5, "17Q": 15, "%11": 3, "12D": 12, "'A'": 65, "X+2*3": 11, "(X+2)*3": 21, "-X": -5,
+    "<X+255": 4, ">100H+X": 1, "LOW(1FFH)": 255, "HIGH(1FFH)": 1, "0FF0H&0F0H": 240, "7/2": 3, "$+2": 18, "*-1": 15,
+  };
+  for (const [text, value] of Object.entries(values)) {
+    assert.deepEqual(evaluate(text, 16, names), { value, isKnown: true, fault: "" }, text);
+  }
+});
+
+test("an expression that cannot be read has a fault, and one of a name without a value is not known", () => {
+  const faults = { "1+": "an operand is missing", "(1": "a bracket is missing", "1/0": "a division by 0", Y: "no line defines the name Y",
+    "9Z": "`9Z` is no number", "1 2": "`2` is not understood", "'\u00e4'": "'\u00e4' has a character that is not of ASCII" };
+  for (const [text, fault] of Object.entries(faults)) assert.equal(evaluate(text, 0, names).fault, fault);
+  assert.deepEqual(evaluate("LATER+1", 0, names), { value: 1, isKnown: false, fault: "" });
+  assert.match(evaluate("(".repeat(60), 0, names).fault, /more than 50 brackets/);
+});
+
+test("names of one beginning stay apart, and each line has one fault at most", () => {
+  const { text } = importProgram("ABCDEFGHIJKLMNOPQ EQU 1\nABCDEFGHIJKLMNOPR EQU 2\nABCDEFGHIJKLMN_2 EQU 3\n");
+  assert.equal(text, "ABCDEFGHIJKLMNOP = 1\nABCDEFGHIJKLMN_2 = 2\nABCDEFGHIJKLMN_3 = 3\n");
+  const { faults } = importProgram(" LDM nowhere+(\n FOO\n");
+  assert.deepEqual(faults.map(({ line }) => line), [1, 2]);
+});

@@ -1,0 +1,96 @@
+// The routine that scans keys, on boards of many kinds: it assembles, and finds the key that is pressed.
+import assert from "node:assert/strict";
+import { test } from "node:test";
+import { readBoard } from "../core/bench/answers.js";
+import { keyScanOf } from "../core/drawing/key_scan.js";
+import { sentText } from "../core/text/text_fault.js";
+import { Engine } from "../core/engine/engine.js";
+import { examplesOfPage, moduleOfPage } from "./page_session.js";
+
+const loading = Engine.load(moduleOfPage);
+
+/** A board with these keys; the chain's lines, and how many chips it has. */
+const boardOf = ({ clock = "rom0.0", data = "rom0.1", chips = 1, first = 0, rows = 4, columns }) => `
+[[rom]]
+chip = 0
+port = "ii00"
+[[rom]]
+chip = 3
+port = "iiii"
+[[rom]]
+chip = 5
+port = "0ii0"
+[[ram]]
+bank = 2
+chips = 4
+[[chain]]
+clock = "${clock}"
+data = "${data}"
+chips = ${chips}
+[keys]
+chain = 0
+first = ${first}
+rows = ${rows}
+columns = [${columns.map((line) => `"${line}"`).join(", ")}]
+`;
+const FOUR = ["rom3.0", "rom3.1", "rom3.2", "rom3.3"];
+const BOARDS = {
+  "four columns of a port": boardOf({ columns: FOUR }),
+  "columns in another order, of several ports": boardOf({ columns: ["rom3.2", "rom0.3", "rom5.1", "rom3.0", "rom5.2", "rom0.2"] }),
+  "ten rows, eight columns": boardOf({ rows: 10, columns: [...FOUR, ...FOUR.slice(0, 2), "rom5.1", "rom5.2"].slice(0, 8) }),
+  "one key": boardOf({ rows: 1, columns: ["rom0.2"] }),
+  "rows that begin later": boardOf({ first: 6, columns: FOUR }),
+  "rows that begin at bit 16": boardOf({ first: 16, chips: 2, rows: 3, columns: FOUR }),
+  "rows that begin at bit 37": boardOf({ first: 37, chips: 5, rows: 2, columns: FOUR.slice(1) }),
+  "clock and data of other ports": boardOf({ clock: "rom5.3", data: "rom0.0", columns: FOUR }),
+  "clock and data of a RAM chip": boardOf({ clock: "ram2.3.3", data: "ram2.3.0", columns: FOUR }),
+  "clock of a RAM chip, data of another one": boardOf({ clock: "ram2.0.1", data: "ram2.1.2", first: 2, columns: FOUR }),
+  "the calculator's": examplesOfPage.find(({ name }) => name === "calculator").board,
+};
+/** So many cycles are more than two scans take. */
+const TWO_SCANS = 30000;
+
+/** The last answers of some lines. */
+function answersOf(engine, session, lines) {
+  const { answers } = engine.serve(session, lines, session);
+  return answers;
+}
+
+for (const [name, text] of Object.entries(BOARDS)) {
+  test(`it finds each key: ${name}`, async () => {
+    const engine = await loading;
+    const session = engine.begin();
+    const wired = answersOf(engine, session, `wire\n${sentText(text, "#")}.\n`);
+    assert.match(wired[0], /^ok/, wired.join());
+    const board = readBoard(engine.ask(session, "board\n").answers);
+    const code = keyScanOf(board, "; a source without instructions\n");
+    const [assembled] = answersOf(engine, session, `asm\n${sentText(code, ";")}.\n`);
+    assert.match(assembled, /^ok \d+ bytes \d+$/, code);
+    const { rows, columns } = board.matrix;
+    const at = /^start: *JMS (\w+)/.exec(code)[1];
+    assert.equal(at, "keys_scan");
+    const found = (lines) => {
+      const regs = answersOf(engine, session, `${lines}run ${TWO_SCANS}\nbreak 2\nrun ${TWO_SCANS}\nunbreak 2\nregs\n`).pop();
+      const [, acc, registers] = /^acc (.) .* r (.{16}) /.exec(regs);
+      return [acc, registers[4], registers[5]].join("");
+    };
+    assert.equal(found("reset\n")[0], "0", "no key is down");
+    for (let row = 0; row < rows; row++) {
+      for (let column = 0; column < columns.length; column++) {
+        const first = columns.indexOf(columns[column]);
+        assert.equal(found(`press ${row} ${column}\n`), `1${row.toString(16).toUpperCase()}${first}`, `key ${row}.${column}`);
+        assert.equal(found(`release ${row} ${column}\n`)[0], "0");
+      }
+    }
+  });
+}
+
+test("labels of the source are not used again, and a source with instructions keeps its begin", async () => {
+  const board = { chains: [{ clock: "rom0.0", data: "rom0.1", chips: 1 }], matrix: { chain: 0, first: 0, rows: 1, columns: ["rom0.2"] } };
+  const one = keyScanOf(board, "loop: NOP\n JUN loop\n");
+  assert.match(one, /^; Scans the keys: bit 0 of chain 0 drives row 0; columns are read at the port of ROM 0\.\n/);
+  assert.match(one, /^keys_scan: +LDM 0$/m);
+  assert.match(keyScanOf(board, one), /^keys1_scan: /m);
+  assert.match(keyScanOf(board, one + keyScanOf(board, one)), /^keys2_scan: /m);
+  assert.equal(keyScanOf({ ...board, matrix: null }, ""), "");
+});

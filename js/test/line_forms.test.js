@@ -1,0 +1,91 @@
+// The forms of lines: what they reject, by number, is what the bench rejects; the words name the word at fault.
+import assert from "node:assert/strict";
+import { test } from "node:test";
+import { FORMS } from "../core/bench/answer_table.js";
+import { refusalOf } from "../core/bench/answers.js";
+import { faultOfLine } from "../core/bench/line_forms.js";
+import { Engine } from "../core/engine/engine.js";
+import { LINES_BY_GROUPS } from "../words/lines.js";
+import { moduleOfPage } from "./page_session.js";
+
+const engine = new Engine(new globalThis.WebAssembly.Module(moduleOfPage));
+const OF_LINES = [10, 11, 12, 14];
+const WORDS = [...FORMS.keys(), ...`acc cy pc dcl r0 r15 r16 rx rom.0 rom.4096 rom.x ram.0.0 ram.7.255 ram.8.1 ram.0.256 ram.0 ram0.0 ram0.4
+  ram7.3.3 ram8.0.0 st.0.0.0 st.7.15.3 st.0.16.0 st.0.0.4 rom0 rom16 rom15.3 rom0.4 chain0 chain4 chain3.79
+  chain0.80 lamps ret src ret0 bogus 0 1 2 7 8 15 16 255 256 4095 4096 100000 100001 4294967295 4294967296 0x0F
+  0X0F 0x -1 1.0 00012 0xfff 0x1000 99999999999999999999 r0x1 r01`.split(/\s+/)];
+
+/** A generator of numbers below 2^31, by its seed. */
+function seeded(seed) {
+  let state = seed;
+  return (count) => {
+    state = (Math.imul(state, 1103515245) + 12345) & 0x7fffffff;
+    return (state >>> 8) % count;
+  };
+}
+
+/** The number by which the bench rejects a line because of its form, 0 for none. */
+function refused(line) {
+  const refusal = refusalOf(engine.ask(engine.begin(), `${line}\n`).answers[0] || "");
+  return refusal && OF_LINES.includes(refusal.number) ? refusal.number : 0;
+}
+
+const numberOf = (line) => (faultOfLine(line) || { number: 0 }).number;
+
+test("each line of words is rejected as the bench does", () => {
+  const next = seeded(4004);
+  const firsts = [...FORMS.keys(), "poke", "poke", "trace", "trace", "list", "watch"];
+  for (let at = 0; at < 6000; at++) {
+    const first = next(8) === 0 ? WORDS[next(WORDS.length)] : firsts[next(firsts.length)];
+    const more = next(10) === 0 ? next(20) : next(4);
+    const line = [first, ...Array.from({ length: more }, () => WORDS[next(WORDS.length)])].join(next(5) === 0 ? "\t " : " ");
+    // A text that is opened is not answered.
+    if (/^(wire|asm|map)$/.test(line)) continue;
+    assert.equal(numberOf(line), refused(line), line);
+  }
+});
+
+test("the ends of ranges", () => {
+  const lines = [
+    "list 0 0", "list 0 1", "list 4095 256", "list 0 257", "list 4096 1", "count 0", "count 1", "count 100000", "count 100001",
+    "run 0", "run 4294967295", "run 4294967296", "test 1", "test 2", "break 4095", "break 4096", "ram 7", "ram 8", "watch 7 255",
+    "watch 7 256", "watch 8 0", "press 255 255", "press 256 0", "press 0 256", "poke pc 4095", "poke pc 4096", "poke cy 2",
+    "poke dcl 8", "poke rom.4095 255", "poke rom.0 256", "poke st.7.15.3 15", "poke st.7.15.3 16", "trace 1 chain3.79",
+    "trace 1 chain3.80", "trace 0 acc",
+  ];
+  for (const line of lines) assert.equal(numberOf(line), refused(line), line);
+});
+
+test("length and characters", () => {
+  const lines = ["", "  \t", " ".repeat(256), `seq${" ".repeat(252)}`, `seq${" ".repeat(253)}`, "seq\x01", "seq é", "seq ; \x7f", " seq "];
+  for (const line of lines) {
+    assert.equal(numberOf(line), refused(line), JSON.stringify(line));
+  }
+});
+
+test("the words name the word at fault", () => {
+  for (const [line, words] of [
+    ["bogus", "bogus is not a command; help shows the commands"],
+    ["pres 1 2", "pres is not a command; did you mean press?"],
+    ["press 1", "press is written as: press r c"],
+    ["asm x", "asm is written as: asm, then a text"],
+    ["run 5 5", "run is written as: run n"],
+    ["press 1 256", "256 is not a number from 0 to 255"],
+    ["poke r16 1", "there is no place r16; help places shows the ranges of the numbers in it"],
+    ["poke rx 1", "rx is not a place; did you mean r0 or r1?"],
+    ["poke foo 1", "foo is not a place; help places shows the places"],
+    ["poke acc 16", "16 is not a number from 0 to 15"],
+    ["count 0", "0 is not a number from 1 to 100,000"],
+    ["test two", "two is not a number from 0 to 1"],
+    [`trace 1 ${"acc ".repeat(17)}`, "trace has at most 16 places"],
+    ["seq é", "a line has ASCII characters and tabs; this one has é"],
+    ["seq \x01", "a line has ASCII characters and tabs; this one has the byte 01"],
+    ["x".repeat(300), "the line has 300 characters; a line has at most 255"],
+  ]) assert.equal(faultOfLine(line).words, words, line);
+  assert.equal(faultOfLine("poke ram.0.0x3F 15"), null);
+});
+
+test("the help has each line of the bench once", () => {
+  const forms = LINES_BY_GROUPS.flatMap(({ lines }) => lines.map(([form]) => form.split(/[ ,]/)[0]));
+  assert.deepEqual([...forms].sort(), [...FORMS.keys()].sort());
+});

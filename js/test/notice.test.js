@@ -1,0 +1,22 @@
+// Which notices make room for a new one.
+import assert from "node:assert/strict";
+import { test } from "node:test";
+import { pushedOut } from "../page/ui/notice.js";
+
+/** The kinds of the notices that make room; the newest comes first. */
+const outOf = (...kinds) => pushedOut(kinds.map((kind) => ({ kind }))).map(({ kind }) => kind);
+
+test("three notices are shown, the newest ones", () => {
+  assert.deepEqual(outOf(), []);
+  assert.deepEqual(outOf("undo", "undo", "file"), []);
+  assert.deepEqual(outOf("undo", "undo", "left", "file"), ["file"]);
+});
+
+test("what went well makes room before what went wrong", () => {
+  assert.deepEqual(outOf("session", "undo", "refusal", "kept"), ["undo"]);
+  assert.deepEqual(outOf("undo", "refusal", "session", "kept"), ["kept"]);
+});
+
+test("the newest stays, whatever it is", () => {
+  assert.deepEqual(outOf("undo", "unended", "unended", "unended"), ["unended"]);
+});

@@ -1,0 +1,225 @@
+// The panel of the terminal, without one: time, keys, what is seen and the rows of its screen, beside the very module.
+import assert from "node:assert/strict";
+import { readFileSync } from "node:fs";
+import { test } from "node:test";
+import { readBoard } from "../core/bench/answers.js";
+import { valueIn } from "../core/bench/state_line.js";
+import { Face } from "../core/board/face.js";
+import { Engine } from "../core/engine/engine.js";
+import { sessionProgram } from "../core/engine/session_program.js";
+import { romCodes } from "../core/engine/rom_codes.js";
+import { lampRowsOf, textOfCell } from "../core/panel/lamp_rows.js";
+import { largeRows } from "../core/panel/large_digits.js";
+import { Panel } from "../core/panel/panel.js";
+import { Screen, hasRoom, middleRows } from "../core/panel/screen.js";
+import { keysIn } from "../core/panel/terminal_keys.js";
+import { sentText } from "../core/text/text_fault.js";
+import { moduleOfPage } from "./page_session.js";
+
+const engine = new Engine(new globalThis.WebAssembly.Module(moduleOfPage));
+const read = (name) => readFileSync(new URL(`../../examples/${name}`, import.meta.url), "utf8");
+const CALCULATOR = { board: read("calculator/board.toml"), program: read("calculator/calculator.asm") };
+const PRINTING = { board: read("printing_calculator/board.toml"), program: read("printing_calculator/printing_calculator.asm") };
+const SIZE = { rows: 24, columns: 80 };
+const SECOND = 1000;
+
+/** A counter in R0 to R3, with two keys, a lamp and RAM of one chip. */
+const COUNTER = {
+  board: `# title: Own\n# row 0: a CE\n# row 1: _ _
+rom = [{ chip = 0, port = "00ii" }]\nram = [{ bank = 2, chips = 1 }]\nlamp = [{ line = "ram2.0.1" }]
+[[chain]]\nclock = "rom0.2"\ndata = "rom0.3"\nchips = 1
+[keys]\nchain = 0\nfirst = 0\nrows = 2\ncolumns = ["rom0.0", "rom0.1"]\n`,
+  program: "count: ISZ R3, count ; low\n\tISZ R2, count\n ISZ R1, count\n ISZ R0, count\n JUN count\n",
+};
+
+/** A panel of a session with these texts; `ask` asks its session, `typed` types characters, `text` is the text of the screen's rows. */
+async function begun({ board, program }, { lines = "", isPaused = false, hasSource = false } = {}) {
+  const state = engine.begin();
+  const ask = async (asked) => engine.serve(state, asked, state).answers;
+  const answers = await ask(`wire\n${sentText(board, "#")}.\nasm\n${program}.\n${lines}`);
+  assert.deepEqual(answers.filter((answer) => answer.startsWith("no ")), []);
+  const sourceOf = () => ({ map: sessionProgram(engine, romCodes(engine, state), program).map, lines: program.split("\n"), before: 0 });
+  const of = {
+    name: "s.mcs", board: readBoard(await ask("board\n")), face: new Face(board), note: "", isPaused,
+    source: hasSource ? sourceOf() : null,
+    wordsOfRefusal: (number) => `words of ${number}`,
+  };
+  const panel = new Panel(ask, of, 0);
+  const screen = new Screen(panel);
+  await panel.begin();
+  let now = 0;
+  const typed = async (keys) => {
+    for (const key of keysIn(keys)) {
+      await panel.type(key, now);
+      await panel.seen.take(middleRows(SIZE));
+    }
+  };
+  /** Time goes on, frame by frame. */
+  const pass = async (milliseconds) => {
+    for (const end = now + milliseconds; now < end;) {
+      now += 100;
+      await panel.keepTime(now);
+    }
+    await panel.seen.take(middleRows(SIZE));
+  };
+  const rows = (size = SIZE) => screen.rows(size).map(({ pieces }) => pieces.map(({ text }) => text).join(""));
+  return { panel, screen, ask, typed, pass, rows, text: (size = SIZE) => rows(size).map((row) => row.trimEnd()).join("\n") };
+}
+
+const keysDown = async (ask) => valueIn((await ask("state\n"))[0], "keys");
+
+test("keys in what a terminal sends", () => {
+  const told = (input) => keysIn(input).map(({ kind, text }) => `${kind} ${JSON.stringify(text)}`);
+  assert.deepEqual(told("a\r\u00e9"), ['character "a"', 'character "\\r"', 'character "\u00e9"']);
+  assert.deepEqual(told("\u001b[C\u001bOD\u001bOC1"), ['arrow "right"', 'arrow "left"', 'arrow "right"', 'character "1"']);
+  assert.deepEqual(told("\u001b[21~\u001bx\u001b\u001b[D"),
+    ['sequence "\\u001b[21~"', 'sequence "\\u001bx"', 'escape "\\u001b"', 'arrow "left"']);
+});
+
+test("large digits", () => {
+  const rows = (number) => largeRows(number).map((row) => row.trimEnd());
+  assert.deepEqual(rows("4.2"), ["         ###", "#   #       #", " ###     ###", "    #   #", "      #  ###"]);
+  assert.deepEqual(rows("-?"), ["       ###", "          #", " ###   ###", "      #", ""]);
+});
+
+test("rows of lamps: a die, a matrix, a grid, and others with names", () => {
+  const shown = (text, count, isLit) => lampRowsOf(new Face(text), count)
+    .map((row) => row.map((cell) => textOfCell(cell, cell.seen && cell.seen.isLit(isLit) ? 3 : 0)).join("").trimEnd());
+  assert.deepEqual(shown("# die 0: 7 lamps\n", 7, "*..*..*"), ["*       .", ".   *   .", ".       *", ""]);
+  assert.deepEqual(shown("# matrix 0: 2 rows of 2 scanned by 2\n", 4, ".**."), [". *", ". .", ""]);
+  assert.deepEqual(shown("# lamp 0: red go_on _ far\n# grid 0: red 2\n# grid 1: _ go_on\n", 4, "*..*"),
+    ["(*) red .", "        ( ) go on", "", "(*) far"]);
+  assert.deepEqual(shown("# bar 0: 14 lamps\n", 14, `*${".".repeat(13)}`), [`*${".".repeat(13)}`, ""]);
+});
+
+test("a calculator: what is typed has its time, and the display is large", async () => {
+  const { typed, pass, text, panel } = await begun(CALCULATOR);
+  await typed("12+30=");
+  await pass(2 * SECOND);
+  assert.match(text(), /^ Desk calculator: s\.mcs {3}\d+ commands {3}running\n {7}###.* display 42\n# {3}# {5}#/);
+  assert.match(text(), / 7 {5}8 {5}9 /);
+  await panel.end();
+  assert.deepEqual([panel.isEnded, panel.seen.down.size], [true, 0]);
+});
+
+test("what was typed last is done before the panel ends", async () => {
+  const { typed, panel, ask } = await begun(CALCULATOR, { lines: "run 2000\n" });
+  await typed("12+30=");
+  await panel.end();
+  assert.equal(await keysDown(ask), "-");
+  await ask("run 20000\n");
+  await panel.seen.take(0);
+  assert.equal(panel.seen.display, "42");
+});
+
+test("time runs as fast as in the chip, and what a slow host misses is left out", async () => {
+  const { panel, pass } = await begun(COUNTER);
+  await pass(SECOND);
+  assert.ok(Math.abs(panel.cycles - 92593) <= 1, String(panel.cycles));
+  await panel.keepTime(100 * SECOND);
+  assert.equal(panel.cycles - 92593 <= 20000, true);
+});
+
+test("a session at a breakpoint is paused; a step is one instruction; breakpoints come and go", async () => {
+  const { typed, text, panel } = await begun(COUNTER, { lines: "poke r3 15\npoke r2 3\nbreak 2\nrun 100\n" });
+  await panel.seen.take(middleRows(SIZE));
+  assert.match(text(), /paused at a breakpoint\n/);
+  assert.match(text(), />\*002 72 00 ISZ R2, 0x000/);
+  await typed("\r");
+  assert.match(text(), /commands {3}paused\n/);
+  assert.match(text(), /> 000 73 00 ISZ R3, 0x000/);
+  assert.match(text(), /P1 40 /);
+  assert.match(text(), /2\.0\.3 0000000000000000 0000/);
+  assert.match(text(), /2\.0 out 0/);
+  await typed("\t");
+  assert.match(text(), />\*000/);
+  await typed("\t");
+  assert.match(text(), /> 000/);
+});
+
+test("paused, a key goes down and up as it is typed; one that was down before stays down at the end", async () => {
+  const { typed, text, panel, ask } = await begun(COUNTER, { lines: "press 0 1\n", isPaused: true });
+  await typed("a");
+  assert.match(text(), /\[a\] {3}\[CE:c\]/);
+  await typed("ac");
+  assert.match(text(), / a {5}CE:c /);
+  await typed("C");
+  assert.match(text(), /\[CE:c\]/);
+  await typed("z");
+  assert.match(text(), /the board has no key z\n/);
+  await typed("\u001b[21~");
+  assert.match(text(), /this key does nothing here; the last line has those that do\n/);
+  await typed("\u0014");
+  assert.match(text(), / test 0 /);
+  await typed("\u0012");
+  const [count] = await ask("seq\n");
+  await typed("\u0004");
+  const released = `seq ${Number(count.slice("seq ".length)) + 1}`;
+  assert.deepEqual([panel.isEnded, await keysDown(ask), await ask("seq\n")], [true, "-", [released]]);
+  const other = await begun(COUNTER, { lines: "press 0 1\n", isPaused: true });
+  const before = await other.ask("seq\n");
+  await other.typed("\u0003");
+  assert.deepEqual([await other.ask("seq\n"), await keysDown(other.ask)], [before, "0.1"]);
+});
+
+test("what is refused is reported", async () => {
+  const breaks = Array.from({ length: 32 }, (_, at) => `break ${100 + at}\n`).join("");
+  const { typed, text } = await begun(COUNTER, { lines: breaks, isPaused: true });
+  await typed("\t");
+  assert.match(text(), /break 0x000 is refused: no (\d+): words of \1\n/);
+});
+
+test("a source: its lines in the listing, and the line that comes next above it", async () => {
+  const { typed, text } = await begun(COUNTER, { isPaused: true, hasSource: true });
+  await typed("\r");
+  assert.match(text(), /\ncount, line 1: count: ISZ R3, count ; low\n/);
+  assert.match(text(), /> 000 count: ISZ R3, count\n/);
+  assert.match(text(), / {2}002 {3}ISZ R2, count\n/);
+  assert.match(text(), / {2}00A 00 {4}NOP\n/);
+});
+
+test("lamps while time runs: levels of brightness; paused, those of an instant", async () => {
+  const board = `# lamp 0: seldom mostly always never\n[[rom]]\nchip = 0\nport = "0000"\n${
+    [0, 1, 2, 3].map((line) => `[[lamp]]\nline = "rom0.${line}"\n`).join("")}`;
+  const program = "FIM P0, 0\nSRC P0\nloop: LDM 5\nWRR\nNOP\nLDM 6\nWRR\nFIM P1, 0\nwait: ISZ R2, wait\nJUN loop\n";
+  const { pass, typed, text, screen } = await begun({ board, program });
+  await pass(200);
+  assert.match(text(), /\(:\) seldom[^]*\(\*\) mostly[^]*\(\*\) always[^]*\( \) never/);
+  const seldom = screen.rows(SIZE).flatMap(({ pieces }) => pieces).find((piece) => piece.text.includes("seldom"));
+  assert.deepEqual([seldom.colour, seldom.level], ["red", 1]);
+  await typed(" ");
+  assert.doesNotMatch(text(), /\(:\)/);
+});
+
+test("paper: what was printed by running and by steps, its last lines", async () => {
+  const { typed, pass, rows, panel } = await begun(PRINTING);
+  const paper = () => {
+    const all = rows().map((row) => row.slice(29, 53).trimEnd());
+    return all.slice(all.indexOf("--- paper --------------") + 1, -2).filter(Boolean).join("/");
+  };
+  await typed("12+30=5");
+  await pass(3 * SECOND);
+  assert.equal(paper(), "12+/30=/42");
+  await typed(" *");
+  for (let steps = 0; steps < 20000 && paper() === "12+/30=/42"; steps++) await panel.step();
+  assert.equal(paper(), "12+/30=/42/5");
+  await typed("* ");
+  await typed("6=2+2=");
+  await pass(4 * SECOND);
+  assert.equal(paper(), "6=/30/2+/2=/4");
+});
+
+test("rows fit the terminal, and no text of others controls it", async () => {
+  const odd = { ...COUNTER };
+  odd.board = COUNTER.board.replace("# title: Own", `# title: O\u001b[2Jwn ${"x".repeat(200)}\n# lamp 0: go\u009b31m`);
+  const { typed, rows, text } = await begun(odd, { isPaused: true });
+  await typed("\u001b[C");
+  for (const size of [SIZE, { rows: 31, columns: 97 }]) {
+    assert.deepEqual(rows(size).map((row) => [...row].length), Array(size.rows).fill(size.columns));
+  }
+  assert.match(text(), /^ O\\x1B\[2Jwn x+\n/);
+  assert.match(text(), /\( \) go\\x9B31m/);
+  // eslint-disable-next-line no-control-regex
+  assert.doesNotMatch(text(), /[\u0000-\u0009\u000b-\u001f\u007f-\u009f]/);
+  assert.deepEqual([hasRoom(SIZE), hasRoom({ rows: 23, columns: 80 }), hasRoom({ rows: 24, columns: 79 })], [true, false, false]);
+});

@@ -1,0 +1,75 @@
+// The layout of a program: its columns, what stays as it is, and that the words of each line stay.
+import assert from "node:assert/strict";
+import { test } from "node:test";
+import { readFileSync, readdirSync } from "node:fs";
+import { changesOf, faultOfLayout, formattedLines } from "../core/text/program_format.js";
+
+const EXAMPLES = new URL("../../examples/", import.meta.url);
+const isHead = (word) => ["ORG", "DB", "LD", "LDM", "FIM", "JUN", "JMS", "JCN", "NOP", "SRC", "WRM", "BBL"].includes(word);
+const BLANKS = { tabSize: 8, insertSpaces: true };
+const formatted = (text, layout = BLANKS) => formattedLines(text.split("\n"), isHead, layout).join("\n");
+
+test("labels, instructions, operands and comments have columns", () => {
+  assert.equal(formatted("start:LDM 5;five\n\tld r3 ;three\nb:  DB  1,2 ,3"), [
+    "start:  LDM 5           ;five",
+    "        ld  r3          ;three",
+    "b:      DB  1, 2, 3"].join("\n"));
+  assert.equal(formatted("a_long_label: JUN a_long_label ; to itself"), "a_long_label: JUN a_long_label  ; to itself");
+  assert.equal(formatted(" only : "), "only:");
+  assert.equal(formatted("NOP\n  \n\t\nNOP  "), "        NOP\n\n\n        NOP");
+});
+
+test("definitions that follow each other have their signs in one column", () => {
+  assert.equal(formatted("a=1\nlonger =0x2 ; two\n\nb=3"), "a      = 1\nlonger = 0x2            ; two\n\nb = 3");
+});
+
+test("a comment without code stays at the margin, or goes to the statements or to the comments", () => {
+  assert.equal(formatted("; a\n   ; b\n                  ; c\n LDM 5 ; d\n\t\t\t; e"),
+    ["; a", "        ; b", "                        ; c", "        LDM 5           ; d", "                        ; e"].join("\n"));
+  assert.equal(formatted(" DB 1, 2, 3, 4, 5, 6 ; d\n                        ; e"),
+    ["        DB  1, 2, 3, 4, 5, 6    ; d", "                                ; e"].join("\n"));
+});
+
+test("what has no right form stays as it is", () => {
+  const wrong = [" JMP  x", "a : b : NOP", "  LDM  5  5", "LDM 5,,6", "x == 3", "  NOP \u00e9", " 1x: NOP", "\u00a0 NOP",
+    "a = b = 3", "R 3,"];
+  for (const line of wrong) {
+    assert.equal(formatted(line), line);
+  }
+  const long = ` DB ${Array(120).fill("1").join(",")} `;
+  assert.equal(formatted(long), long, "a line that would be too long to be sent");
+});
+
+test("tabs, for those who have them", () => {
+  const layout = { tabSize: 8, insertSpaces: false };
+  assert.equal(formatted("start: LDM 5 ; five\n  LD R3", layout), "start:\tLDM 5\t\t; five\n\tLD  R3");
+  assert.equal(formatted("LDM 5", { tabSize: 4, insertSpaces: false }), "\t\tLDM 5");
+});
+
+test("the examples keep their words, and are the same after a second time", () => {
+  const words = (line) => [line.replace(/;.*/, "").replace(/\s+/g, ""), line.replace(/^[^;]*/, "").trim()];
+  for (const name of readdirSync(EXAMPLES)) {
+    if (name.includes(".")) continue;
+    const lines = readFileSync(new URL(`${name}/${name}.asm`, EXAMPLES), "utf8").split("\n");
+    for (const layout of [BLANKS, { tabSize: 8, insertSpaces: false }, { tabSize: 3, insertSpaces: false }]) {
+      const once = formattedLines(lines, () => true, layout);
+      assert.deepEqual(once.map(words), lines.map(words), name);
+      assert.deepEqual(formattedLines(once, () => true, layout), once, name);
+    }
+  }
+});
+
+test("a change has the characters that differ, and a text that would be too long is told of", () => {
+  assert.deepEqual(changesOf(["a: NOP", "same", "LD R3"], ["a:      NOP", "same", "LD  R3"]), [
+    { line: 0, from: 3, to: 3, text: "     " }, { line: 2, from: 3, to: 3, text: " " }]);
+  assert.equal(faultOfLayout(["NOP"]), "");
+  assert.match(faultOfLayout(Array(2000).fill("        a: NOP NOP NOP")), /would have 30,000 characters; at most 16,384/);
+  assert.match(faultOfLayout(Array(2000).fill(`NOP ;${"x".repeat(40)}`)), /; at most 65,536/);
+});
+
+test("long lines of blanks are read in a time that grows with their length alone", () => {
+  const begun = performance.now();
+  const blanks = " ".repeat(60000);
+  for (const line of [`${blanks}\u00e9`, `a${blanks}b`, `a:${blanks}=`, `DB 1${" ,".repeat(30000)}`, "1".repeat(60000)]) formatted(line);
+  assert.ok(performance.now() - begun < 2000);
+});

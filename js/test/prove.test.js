@@ -1,0 +1,216 @@
+// Questions to the prover: conditions become comparisons that mean the same on every machine; what was read becomes keys, and a test.
+import assert from "node:assert/strict";
+import { test } from "node:test";
+import { tracedConditionOf } from "../core/conditions/conditions.js";
+import { Engine } from "../core/engine/engine.js";
+import { readCampaign } from "../core/explore/campaign.js";
+import { subjectOf } from "../core/explore/subject.js";
+import { randomFrom } from "../core/explore/walks.js";
+import { counterexampleOf } from "../core/prove/counterexample.js";
+import { comparisonsOf } from "../core/prove/decided.js";
+import { askedOf, questionOf, readAnswer } from "../core/prove/question.js";
+import { statusOf, tapOf } from "../core/prove/verdicts.js";
+import { runTests } from "../core/testing/testing.js";
+import { NoAccount } from "../core/testing/account.js";
+import { moduleOfPage } from "./page_session.js";
+
+const engine = new Engine(new globalThis.WebAssembly.Module(moduleOfPage));
+
+// Key A lights the lamp `on`, if it is down at 16 looks. The program counts in R5, and shows that at the port of the second RAM chip.
+const BOARD = `# row 0: A B C
+# lamp 0: on
+# test: button WALK
+lamp = [{ line = "ram0.0.0" }, { line = "rom0.3" }, { line = "chain0.2" }]
+rom = [{ chip = 0, port = "0000" }, { chip = 1, port = "iii1" }]
+ram = [{ bank = 0, chips = 2 }]
+[[chain]]
+clock = "rom0.0"
+data = "rom0.1"
+chips = 1
+[keys]
+chain = 0
+first = 0
+rows = 1
+columns = ["rom1.1", "rom1.2", "rom1.3"]
+`;
+const PROGRAM = `        FIM P1, 0
+        FIM P2, 0x10
+        SRC P1
+        LDM 2
+        WRR
+        IAC
+        WRR
+look:   SRC P2
+        RDR
+        XCH R6
+        SRC P1
+        INC R8
+        LD R6
+        RAR
+        RAR
+        JCN 10, look    ; A is up
+        ISZ R7, look
+        LDM 1
+lit:    WMP
+        JUN lit
+`;
+const subject = subjectOf(engine, BOARD, PROGRAM);
+const { board } = subject.names;
+
+/** Reads a cell of a question by what the bench says of its places. */
+const CELLS = {
+  register: (index) => [`r${index}`],
+  character: (index) => [`ram.${Math.floor(index / 256)}.${index % 256}`],
+  status: (index) => [`st.${Math.floor(index / 64)}.${Math.floor(index / 4) % 16}.${index % 4}`],
+  ramport: (index) => [`ram${Math.floor(index / 4)}.${index % 4}`],
+  chain0: (index) => [`chain0.${index}`],
+  romport: (index) => [`rom${index}`],
+  counter: (index) => [["acc", "cy", "dcl", "owed", "pc", "pc", "", "", "", "", "", "", "src"][index]],
+};
+
+/** @type {(state: Uint8Array, comparison: string) => boolean} */
+function isMet(state, comparison) {
+  const [way, list, index, part, low, high] = comparison.split(" ");
+  const [place] = CELLS[list](Number(index));
+  let value;
+  if (place === "owed") value = Number(engine.ask(state, "regs\n").answers[0].split(" ")[7]);
+  else value = parseInt(engine.ask(state, `trace 1 ${place}\n`).answers[0].split(" ").pop(), 16);
+  if (place === "pc") value = index === "4" ? value >> 8 : value & 255;
+  // Lines 1 to 3 of ROM 1 are inputs, of which its latch has 0.
+  if (place === "rom1") value &= 1;
+  if (part !== "whole") value = (value >> Number(part.slice(4))) & 1;
+  return (Number(low) <= value && value <= Number(high)) === (way === "in");
+}
+
+/** States of the bench, with all that conditions look at put at random. */
+function* states() {
+  const random = randomFrom(5);
+  const upTo = (most) => Math.floor(random() * (most + 1));
+  for (let at = 0; at < 25; at++) {
+    const file = subject.file.slice();
+    const before = [...[5, 6, 7, 8].map((register) => `poke r${register} ${upTo(15)}`), `poke acc ${upTo(15)}`, `poke cy ${upTo(1)}`,
+      `poke ram.0.${upTo(3)} ${upTo(15)}`, "press 0 0", `run ${1 + upTo(120)}`, `poke st.0.1.2 ${upTo(15)}`, `poke r5 ${upTo(2)}`,
+      `poke dcl ${upTo(7)}`];
+    engine.serve(file, before.map((line) => `${line}\n`).join(""), file);
+    yield file;
+  }
+}
+
+const CONDITIONS = [
+  "r5 = 1", "r5 > 3 and not r6 = 2", "r5 + r7 > 9", "p3 = 0x31", "acc = 3 or cy = 1", "lamp on on", "lamps *..", "lamps none",
+  "not lamps ?*?", "lamp 2 on or lamp 1 off", "lamps = 5", "ram.0.1 2", "ram.0.0 0 0 0", "st.0.1.2 > 7", "pc > 0x010 and pc < 0x018",
+  "@look", "dcl = 2 or src = 0x10", "chain0 1?????????", "chain0.2 = 0", "rom0 out 3", "ram0.0 out 1", "ram0.1 = 0", "rom1 out 1",
+  "r5 - r7 = 0", "r5 & 3 = 1", "r5 >= 0",
+];
+
+test("comparisons mean what their condition means", () => {
+  const all = [...states()];
+  for (const text of CONDITIONS) {
+    const { condition, fault } = tracedConditionOf(text, subject.names);
+    assert.ok(condition, `${text}: ${fault}`);
+    for (const wanted of [true, false]) {
+      const lists = comparisonsOf(condition, wanted, board);
+      for (const state of all) {
+        const values = condition.places.map((place) => engine.ask(state, `trace 1 ${place}\n`).answers[0].split(" ").slice(6).join(" "));
+        const owed = engine.ask(state, "regs\n").answers[0].split(" ")[7];
+        const holds = condition.holds(values, { test: "", owed, keys: "", cycles: 0, seen: [], printed: [] });
+        const isBroken = lists.some((comparisons) => comparisons.every((comparison) => isMet(state, comparison)));
+        assert.equal(isBroken, holds === wanted, `${text}, ${wanted}: ${JSON.stringify(lists)} ${values}`);
+      }
+    }
+  }
+});
+
+test("conditions are short questions", () => {
+  const listsOf = (text, wanted = true) => comparisonsOf(tracedConditionOf(text, subject.names).condition, wanted, board);
+  assert.deepEqual(listsOf("r5 > 3"), [["in register 5 whole 4 15"]]);
+  assert.deepEqual(listsOf("lamp on on and r5 = 2"), [["in ramport 0 line0 1 1", "in register 5 whole 2 2"]]);
+  assert.deepEqual(listsOf("lamp on on and r5 = 2", false).length, 3);
+  assert.deepEqual(listsOf("r5 >= 0"), [[]]);
+  assert.deepEqual(listsOf("r5 >= 0", false), []);
+  assert.deepEqual(listsOf("@look"), [["in counter 3 whole 0 0", "in counter 4 whole 0 0", "in counter 5 whole 9 9"]]);
+});
+
+test("conditions that look at inputs, or at too much, are refused with the reason", () => {
+  const wrong = (text) => askedOf(readCampaign(`press A\n${text}`, subject).campaign.properties[0], { from: null }, board);
+  assert.deepEqual(wrong("never rom1 in 3"), { nevers: null, words: "its condition looks at rom1, an input" });
+  assert.deepEqual(wrong("never rom1.1 = 1"), { nevers: null, words: "its condition looks at rom1.1, an input" });
+  assert.match(wrong("never r0 + r1 + r2 + r3 + r4 = 9").words, /looks at too much/);
+  assert.match(wrong("never r0 = 1 for 1 ms").words, /of the form "never for" cannot be proved yet/);
+  assert.match(wrong("once r0 = 2, never r0 = 1").words, /guard/);
+  assert.equal(wrong("while r0 = 2, never r1 = 1").nevers.length, 1);
+});
+
+test("a question has its limits, both texts and what must never be", () => {
+  const question = questionOf({ board: "rom = []\n", program: "NOP" }, [["in register 1 whole 0 3", "out counter 1 whole 0 0"], []], 77);
+  assert.deepEqual(question.split("\n"), ["most 77", "pause 1000000", "wire", "rom = []", ".", "asm", "NOP", ".", "never",
+    "in register 1 whole 0 3", "out counter 1 whole 0 0", "never", "prove", ""]);
+});
+
+test("answers", () => {
+  assert.deepEqual(readAnswer("holds 12\n"), { kind: "holds", states: 12 });
+  assert.deepEqual(readAnswer("may fail\n"), { kind: "fails", values: [] });
+  assert.deepEqual(readAnswer("may fail 0 15 1\n"), { kind: "fails", values: [0, 15, 1] });
+  assert.deepEqual(readAnswer("too many\n"), { kind: "more" });
+  assert.deepEqual(readAnswer("gave up\n"), { kind: "lost" });
+  assert.deepEqual(readAnswer("no 90\n"), { kind: "full" });
+  const others = ["", "no 25\n", "no 30 12\n", "wrong line 3\n", "no question\n", "holds\n", "may fail x\n"];
+  for (const other of others) assert.equal(readAnswer(other), null);
+});
+
+/** Reads by the program until its lamp is lit: what A gives, 16 times. */
+const LIGHTS = [0, ...Array(16).fill(3)];
+
+async function counterexample(properties, values, at = 0) {
+  const { campaign } = readCampaign(properties, subject);
+  return { campaign, found: await counterexampleOf(subject, campaign, at, values, async () => {}) };
+}
+
+test("what was read becomes keys, and a test that fails", async () => {
+  const { found } = await counterexample("press A\nnever lamp on on", LIGHTS);
+  assert.equal(found.isTest, true);
+  assert.equal(found.isAllowed, true);
+  assert.match(found.text, /^test never lamp on on\n {2}run \d+\n {2}press A\n {2}run \d+\n {2}expect not lamp on on\n$/);
+  const texts = { boardText: BOARD, programText: PROGRAM, sources: [{ name: "found", text: found.text }] };
+  const { outcomes } = await runTests(engine, texts, async () => true, { Counting: NoAccount });
+  assert.equal(outcomes[0].failure.line, 5);
+});
+
+test("a way that the bench does not confirm is none", async () => {
+  assert.equal((await counterexample("press A\nnever lamp on on", LIGHTS.slice(0, 9))).found, null);
+  assert.equal((await counterexample("press A\nnever r8 = 99 or r5 = 9", [0, 0, 0])).found, null);
+});
+
+test("inputs that the text of properties excludes are known as such", async () => {
+  assert.equal((await counterexample("press B\nnever lamp on on", LIGHTS)).found.isAllowed, false);
+  assert.equal((await counterexample("press A\nheld at most 20\nnever lamp on on", LIGHTS)).found.isAllowed, false);
+  assert.equal((await counterexample("press A\nbegin after 1 s\nnever lamp on on", LIGHTS)).found.isAllowed, false);
+});
+
+test("verdicts are TAP, and decide the exit status", () => {
+  const property = { text: "never # on", isGoal: false, line: 3 };
+  const goal = { ...property, text: "reach it", isGoal: true };
+  const proved = { kind: "proved", states: 96937 };
+  const open = { kind: "open", words: "why" };
+  const found = { kind: "found", found: { steps: 1, cycles: 1200, isAllowed: true, isTest: true, text: "test x\n  run 1\n" } };
+  const text = tapOf([{ property, verdict: proved }, { property, verdict: open }, { property: goal, verdict: found },
+    { property: goal, verdict: proved }], "p");
+  assert.equal(text, `TAP version 13
+1..4
+ok 1 - never \\# on # proved for all inputs (96,937 states)
+not ok 2 - never \\# on # TODO not decided: why
+ok 3 - reach it # reached, 1 step
+  ---
+  message: "reached by 1 step, 1,200 cycles"
+  at: "p:3"
+  test: |
+    test x
+      run 1
+  ...
+not ok 4 - reach it # never reached, for all inputs (96,937 states)
+`);
+  assert.equal(statusOf([{ property, verdict: proved }, { property: goal, verdict: found }]), 0);
+  assert.equal(statusOf([{ property, verdict: proved }, { property, verdict: open }]), 3);
+  assert.equal(statusOf([{ property, verdict: found }, { property, verdict: open }]), 1);
+  assert.equal(statusOf([{ property: goal, verdict: proved }]), 1);
+});

@@ -1,0 +1,56 @@
+// The routines of a program: what each one comes to, what it calls, and from where it is called.
+import assert from "node:assert/strict";
+import { test } from "node:test";
+import { Routines } from "../core/text/routines.js";
+
+const TEXT = `
+        ORG 0
+        JUN main
+table:  DB 1, 2
+main:   JMS show
+        JMS read
+        JCN 4, main
+        JUN main
+show:   SRC P0
+        BBL 0
+other:  JMS read
+        JIN P0
+read:   LDM 1
+loop:   ISZ R0, loop
+        JMS show
+        BBL 1
+unused: NOP
+four = 4
+        LDM four
+`.split("\n");
+const routines = new Routines(TEXT);
+const named = (calls) => calls.map(({ routine, places }) => `${routine.name} ${places.map(({ line }) => line).join(",")}`);
+
+test("routines begin with the program and with what is called", () => {
+  assert.deepEqual(routines.routines.map(({ name, line, last }) => [name, line, last]), [["", 2, 2], ["show", 8, 9], ["read", 12, 15]]);
+});
+
+test("what a routine calls, and by what it is called", () => {
+  assert.deepEqual(named(routines.called(routines.routines[0])), ["show 4", "read 5"]);
+  assert.deepEqual(named(routines.called(routines.routineOf("read"))), ["show 14"]);
+  assert.deepEqual(named(routines.callers(routines.routineOf("show"))), [" 4", "read 14"]);
+  assert.deepEqual(named(routines.callers(routines.routineOf("read"))), [" 5", "other 10"], "a call that nothing comes to is in its label");
+  assert.deepEqual(named(routines.callers(routines.routineOf("unused"))), []);
+});
+
+test("the routine at a line, and how often labels are named", () => {
+  assert.equal(routines.routineAt(13).name, "read");
+  assert.equal(routines.routineAt(4).name, "");
+  assert.equal(routines.routineAt(10), null);
+  assert.equal(routines.routineOf("four"), null);
+  assert.equal(routines.routineOf("none"), null);
+  const uses = routines.uses();
+  assert.deepEqual([uses.get("show"), uses.get("loop"), uses.get("unused"), uses.has("four")],
+    [{ calls: 2, others: 0 }, { calls: 0, others: 1 }, { calls: 0, others: 0 }, false]);
+});
+
+test("texts without statements, and of one instruction", () => {
+  assert.deepEqual(new Routines([""]).routines, []);
+  assert.deepEqual(new Routines(["a: JMS a"]).routines.map(({ name }) => name), ["a"]);
+  assert.deepEqual(named(new Routines(["a: JMS a"]).callers(new Routines(["a: JMS a"]).routines[0])), ["a 0"]);
+});

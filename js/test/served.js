@@ -1,0 +1,40 @@
+// A language server without a process, and one who asks it, for tests.
+import { Connection } from "../core/server/connection.js";
+import { MessageReader, framed } from "../core/server/framing.js";
+import { LanguageServer } from "../core/server/language_server.js";
+import { Engine } from "../core/engine/engine.js";
+import { dataOfPage } from "../node/page_parts.mjs";
+import { moduleOfPage } from "./page_session.js";
+
+const engine = new Engine(new globalThis.WebAssembly.Module(moduleOfPage));
+export const bytesOf = (text) => new TextEncoder().encode(text);
+
+/** A server with one who asks it; `files` are beside the texts. */
+export function served(files = {}) {
+  const reader = new MessageReader();
+  const told = [];
+  let status = null;
+  const connection = new Connection((bytes) => {
+    // What is written after the end is lost.
+    if (status === null) told.push(...[...reader.take(bytes)].map(({ text }) => JSON.parse(text)));
+  }, (ended) => {
+    status = ended;
+  });
+  const host = { readFile: (uri) => files[uri] || null, pause: async () => {} };
+  const server = new LanguageServer(connection, engine, dataOfPage(), host);
+  const answer = async (method, params, id = told.length + 1) => {
+    connection.take(framed({ jsonrpc: "2.0", id, method, params }));
+    for (let turns = 0; turns < 200 && !told.some((each) => each.id === id); turns++) await new Promise(setImmediate);
+    return told.find((each) => each.id === id);
+  };
+  const ask = async (method, params) => (await answer(method, params)).result;
+  const open = async (uri, text, languageId = "asm") => {
+    const textDocument = { uri, languageId, version: 1, text };
+    connection.take(framed({ jsonrpc: "2.0", method: "textDocument/didOpen", params: { textDocument } }));
+    const begin = { line: 0, character: 0 };
+    await ask("textDocument/codeAction", { textDocument: { uri }, range: { start: begin, end: begin } });
+    return told.filter((each) => each.method === "textDocument/publishDiagnostics" && each.params.uri === uri).pop().params.diagnostics;
+  };
+  const at = (uri, line, character) => ({ textDocument: { uri }, position: { line, character } });
+  return { server, connection, told, answer, ask, open, at, begin: (params = {}) => ask("initialize", params), status: () => status };
+}

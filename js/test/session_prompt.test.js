@@ -1,0 +1,150 @@
+// The prompt of sessions, on the module: lines, texts, files, why a line is rejected, help, and what a line can go on with.
+import assert from "node:assert/strict";
+import { test } from "node:test";
+import { SessionPrompt } from "../core/prompt/session_prompt.js";
+import { folded, foldedMessage } from "../core/text/folded.js";
+import { Engine } from "../core/engine/engine.js";
+import { dataOfPage } from "../node/page_parts.mjs";
+import { wordsOfRefusal } from "../node/refused_texts.mjs";
+import { errorsOfText } from "../node/text_errors.mjs";
+import { moduleOfPage } from "./page_session.js";
+
+const engine = new Engine(new globalThis.WebAssembly.Module(moduleOfPage));
+const { manual } = dataOfPage();
+const BOARD = `[[rom]]
+chip = 0
+port = "iiii"
+[[ram]]
+bank = 0
+chips = 1
+[[chain]]
+clock = "ram0.0.0"
+data = "ram0.0.1"
+chips = 1
+[keys]
+chain = 0
+first = 0
+rows = 2
+columns = ["rom0.0", "rom0.1"]
+`;
+
+/** A prompt on a new session, with files, and what came out since it was asked last: answers, and words in parentheses. */
+function prompted(files = {}) {
+  const state = engine.begin();
+  let out = [];
+  const prompt = new SessionPrompt({
+    serve: async (input) => {
+      const { answers } = engine.serve(state, input, state);
+      out.push(...answers);
+      return answers[0] || "";
+    },
+    ask: async (line) => engine.ask(state, `${line}\n`).answers,
+    print: (words) => out.push(...words.split("\n").map((line) => `(${line})`)),
+    complain: (words) => out.push(...words.split("\n").map((line) => `(${line})`)),
+    read: (name) => {
+      if (files[name] === undefined) throw new Error(`cannot read ${name}: there is no such file`);
+      return files[name];
+    },
+    files: (begin) => Object.keys(files).filter((name) => name.startsWith(begin)),
+    errorsOf: (word, text, board) => errorsOfText(word, text, board, { manual, wordsOf: wordsOfRefusal }),
+    wordsOf: wordsOfRefusal,
+    manual: () => manual,
+  });
+  const ask = async (...lines) => {
+    out = [];
+    for (const line of lines) await prompt.take(line);
+    return out;
+  };
+  return { prompt, ask };
+}
+
+test("lines, typed texts, and what is wrong with them", async () => {
+  const { prompt, ask } = prompted();
+  assert.deepEqual(await ask("", "   ", "seq", "test 1"), ["seq 0", "ok 1"]);
+  assert.equal(prompt.label, "mcs4> ");
+  assert.deepEqual(await ask("wire"), []);
+  assert.equal(prompt.label, "wire> ");
+  assert.deepEqual(await ask(...BOARD.split("\n").slice(0, -1), "."), ["ok 2"]);
+  assert.deepEqual(await ask("press 2 0", "poke ram.1.0 1", "break 0x300", "poke rom.256 1", "run 0", "run x"), [
+    "no 41", "(the board has no key 2 0; its rows are 0 to 1, its columns 0 to 1)", "no 43", "(the board has no RAM at ram.1.0)", "ok 3",
+    "no 42", "(the board has no ROM with the address of rom.256; board shows its chips)",
+    "no 44", "(a run takes 1 to 100,000 cycles, not 0)", "no 11", "(x is not a number from 0 to 4,294,967,295)",
+  ]);
+  assert.deepEqual(await ask("asm", "a: JMP b", "b: LDM 17", "."), [
+    "no 30 line 1", "(line 1: JMP is no instruction; JUN?)", "(    a: JMP b)", "(line 2: LDM takes a value, 0 to 15)", "(    b: LDM 17)",
+  ]);
+  const [, why] = await ask("asm", "; \u00e9", ".");
+  assert.match(why, /a byte that is neither a tab nor a printing character of ASCII/);
+});
+
+test("a text that is dropped, and the end of input within one", async () => {
+  const { prompt, ask } = prompted();
+  await ask("asm", " NOP");
+  assert.equal(prompt.rest, "asm\n NOP\n");
+  assert.equal(prompt.drop(), "the text of asm is dropped");
+  assert.deepEqual([prompt.drop(), prompt.rest, prompt.label], ["", "", "mcs4> "]);
+  assert.deepEqual(await ask("quit"), []);
+  assert.equal(prompt.isEnded, true);
+});
+
+test("files in the place of typed texts, without their comments", async () => {
+  const { ask } = prompted({
+    "b.toml": `# \u00e9\n${BOARD}`, "p.asm": "; \u00e9\nloop: JUN loop ; again\n", "bad.asm": "\n JMP 3\n", "far.asm": " ORG 0x300\n NOP\n",
+  });
+  assert.deepEqual(await ask("wire b.toml", "asm p.asm", "map p.asm"), [
+    "ok 1", "ok 2 bytes 2", "map lines 2 names 1", "line 1 000 0", "line 2 000 2", "name loop 000",
+  ]);
+  assert.deepEqual(await ask("asm bad.asm"), ["no 30 line 2", "(bad.asm: line 2: JMP is no instruction; JUN?)", "(     JMP 3)"]);
+  assert.match((await ask("asm far.asm"))[1], /^\(far\.asm: line 2: /);
+  assert.deepEqual(await ask("asm none"), ["(cannot read none: there is no such file)"]);
+});
+
+test("lines of a file, up to an error", async () => {
+  const { prompt, ask } = prompted({
+    one: "test 1\nsource two\nseq\n", two: "seq\nasm\n NOP\n.\npress 1\nseq\n", cut: "asm\n NOP\n", itself: "source itself\n",
+    leave: "seq\nquit\nseq\n",
+  });
+  assert.deepEqual(await ask("source one", "seq"), [
+    "ok 1", "seq 1", "no 42",
+    "(two: line 3: the board has no ROM 0, where this line stands (000): wire a [[rom]] with chip = 0)", "(     NOP)", "seq 1",
+  ]);
+  assert.deepEqual((await ask("source cut")), ["(cut ends too soon; the text of asm is dropped)"]);
+  assert.deepEqual(await ask("source itself"), ["(itself: line 1: files serve the lines of others at most 8 deep)"]);
+  assert.deepEqual(await ask("source"), ["(source is written as: source FILE)"]);
+  assert.deepEqual(await ask("source none"), ["(cannot read none: there is no such file)"]);
+  assert.equal(prompt.sources.files.length, 0);
+  await ask("source leave");
+  assert.equal(prompt.isEnded, true);
+});
+
+test("help of lines, places and refusals", async () => {
+  const { ask } = prompted();
+  const all = await ask("help");
+  assert.ok(all.every((line) => line.length < 82), "a line is too long");
+  assert.match((await ask("help press")).join("\n"), /^\(press r c: the key of row r and column c is down, or up; a repeat is accepted\)$/);
+  assert.deepEqual(await ask("help 44"), ["(no 44: a run of no cycle, or of more than 100,000)"]);
+  assert.ok((await ask("help places")).includes("(  acc: the accumulator, 0 to 15)"));
+  assert.ok((await ask("help poke")).includes("(  cy: the carry, 0 or 1)"));
+  assert.deepEqual(await ask("help source"), ["(source FILE: serves the lines of a file, up to an error)"]);
+  assert.deepEqual(await ask("help no"), ["(no is not a command; help shows the commands)"]);
+});
+
+test("completion of commands, places, keys, and files", async () => {
+  const { prompt, ask } = prompted({ "board.toml": BOARD, "p.asm": "" });
+  await ask("wire board.toml", "break 3", "watch 0 0x12");
+  for (const [line, words, end] of [
+    ["pre", ["press "], "pre"], ["so", ["source "], "so"], ["press ", ["0", "1"], ""], ["press 0 1", ["1"], "1"], ["press 0 0 ", [], ""],
+    ["poke st", ["st."], "st"], ["poke acc ", [], ""], ["trace 5 la", ["lamps"], "la"], ["unbreak ", ["0x003"], ""],
+    ["unwatch ", ["0 0x12"], ""], ["ram ", ["0"], ""], ["help pl", ["places"], "pl"], ["seq ", [], ""], ["constructor ", [], ""],
+    ["wire b", ["board.toml"], "b"], ["source ", ["board.toml", "p.asm"], ""],
+  ]) assert.deepEqual(await prompt.complete(line), [words, end], line);
+  await ask("asm");
+  assert.deepEqual(await prompt.complete("NOP"), [["\t"], ""]);
+});
+
+test("folding at words", () => {
+  assert.equal(folded(" one  two three ", 8), "one two\nthree");
+  assert.deepEqual([folded("one two", 7), folded("one two", 6)], ["one two", "one\ntwo"]);
+  assert.equal(folded("a verylongword b", 6, "- ", "  "), "- a\n  verylongword\n  b");
+  assert.equal(foldedMessage("line 3: one two three\n    one two three four", 12), "line 3: one\n  two three\n    one two three four");
+});

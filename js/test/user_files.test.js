@@ -1,0 +1,173 @@
+// The files of users, as the tools that run by node read and write them, beside what the system says of them.
+import assert from "node:assert/strict";
+import { execFileSync, spawnSync } from "node:child_process";
+import {
+  chmodSync, lstatSync, mkdirSync, mkdtempSync, readFileSync, readdirSync, rmSync, statSync, symlinkSync, writeFileSync,
+} from "node:fs";
+import { tmpdir } from "node:os";
+import { join } from "node:path";
+import { after, test } from "node:test";
+import { Client as ServerClient } from "../../checks/lib/lsp_client.mjs";
+import { Client as AdapterClient } from "../../checks/lib/dap_client.mjs";
+import { isInside, readUserText, replacementOf, writeUserFile } from "../node/user_files.mjs";
+
+const top = mkdtempSync(join(tmpdir(), "user_files."));
+after(() => rmSync(top, { recursive: true }));
+const MODULE = new URL("../node/user_files.mjs", import.meta.url).pathname;
+const MCS4 = new URL("../../mcs4", import.meta.url).pathname;
+
+function folder(name) {
+  const made = join(top, name);
+  mkdirSync(made);
+  return made;
+}
+
+const modeOf = (name) => (statSync(name).mode & 0o7777).toString(8);
+
+/** Runs a line of JavaScript with the functions of the module, in a process of its own, whose files can have so many blocks; its output. */
+function alone(line, file, blocks = "unlimited") {
+  const script = `import * as files from "${MODULE}"; ${line}`;
+  const shell = "ulimit -f \"$1\"; trap '' XFSZ; exec \"$2\" --input-type=module -e \"$3\" \"$4\"";
+  return spawnSync("sh", ["-c", shell, "sh", blocks, process.execPath, script, file], { encoding: "utf8" }).stdout;
+}
+
+test("regular files are read, up to a size", () => {
+  const place = folder("read");
+  writeFileSync(join(place, "text"), "seven \u00e9");
+  assert.equal(readUserText(join(place, "text")), "seven \u00e9");
+  assert.equal(readUserText(join(place, "text"), 8), "seven \u00e9");
+  assert.throws(() => readUserText(join(place, "text"), 7), /^Error: cannot read .*text: it has more than 7 bytes$/);
+  assert.throws(() => readUserText(join(place, "none")), /: there is no such file$/);
+  assert.throws(() => readUserText(place), /: it is a folder$/);
+  // What has no size before it is read is read, too, and no more than it may have.
+  assert.match(readUserText("/proc/self/status"), /^Name:/);
+});
+
+test("devices and FIFOs are rejected without a wait", () => {
+  const place = folder("devices");
+  execFileSync("mkfifo", [join(place, "fifo")]);
+  symlinkSync("/dev/zero", join(place, "zero"));
+  for (const name of ["fifo", "zero"]) {
+    assert.throws(() => readUserText(join(place, name)), /: it is not a regular file$/);
+  }
+});
+
+test("links that lead out of a folder are found", () => {
+  const place = folder("links");
+  mkdirSync(join(place, "in"));
+  writeFileSync(join(place, "out"), "");
+  writeFileSync(join(place, "in", "own"), "");
+  symlinkSync("../out", join(place, "in", "away"));
+  symlinkSync("own", join(place, "in", "link"));
+  assert.deepEqual(["own", "link", "away"].map((name) => isInside(join(place, "in", name), join(place, "in"))), [true, true, false]);
+});
+
+test("a file that is replaced keeps its mode, and links are followed", () => {
+  const place = folder("write");
+  const [file, link, dangling] = ["file", "link", "dangling"].map((name) => join(place, name));
+  writeUserFile(file, "new");
+  assert.equal(modeOf(file), (0o666 & ~process.umask()).toString(8));
+  chmodSync(file, 0o640);
+  symlinkSync("file", link);
+  symlinkSync("there", dangling);
+  writeUserFile(link, "by a link");
+  writeUserFile(dangling, "where it leads");
+  assert.deepEqual([lstatSync(link).isSymbolicLink(), readFileSync(file, "utf8"), modeOf(file)], [true, "by a link", "640"]);
+  assert.equal(readFileSync(join(place, "there"), "utf8"), "where it leads");
+  assert.deepEqual(readdirSync(place).sort(), ["dangling", "file", "link", "there"]);
+});
+
+test("a file of another user keeps its owner", { skip: process.getuid() !== 0 }, () => {
+  const file = join(folder("owner"), "file");
+  writeFileSync(file, "old");
+  execFileSync("chown", ["12345:23456", file]);
+  writeUserFile(file, "new");
+  assert.deepEqual([statSync(file).uid, statSync(file).gid, readFileSync(file, "utf8")], [12345, 23456, "new"]);
+});
+
+test("what cannot be written is rejected, and stays as it is", () => {
+  const place = folder("refused");
+  const file = join(place, "file");
+  writeFileSync(file, "old");
+  chmodSync(file, 0o444);
+  assert.throws(() => writeUserFile(file, "new"), /^Error: cannot write .*file: it is read-only$/);
+  assert.deepEqual([readFileSync(file, "utf8"), readdirSync(place)], ["old", ["file"]]);
+  assert.throws(() => writeUserFile(join(place, "none", "file"), "new"), /: there is no such file$/);
+  assert.throws(() => writeUserFile("/dev/full", "new"), /: no space left on the device$/);
+  symlinkSync("round", join(place, "round"));
+  assert.throws(() => writeUserFile(join(place, "round"), "new"), /: too many symbolic links$/);
+});
+
+test("where a file does not fit, nothing of it is left", () => {
+  const place = folder("full");
+  const file = join(place, "file");
+  writeFileSync(file, "old");
+  const line = "try { files.writeUserFile(process.argv[1], 'x'.repeat(100000)); } catch ({ message }) { console.log(message); }";
+  assert.match(alone(line, file, "8"), /: it would exceed the size limit for files\n$/);
+  assert.deepEqual([readFileSync(file, "utf8"), readdirSync(place)], ["old", ["file"]]);
+});
+
+test("a file that waits to be put into its place is new, and goes with its process", () => {
+  const place = folder("pending");
+  const file = join(place, "file");
+  writeFileSync(file, "old");
+  const line = "console.log(files.replacementOf(process.argv[1], 'new').name); process.exit(1);";
+  const names = [1, 2].map(() => alone(line, file));
+  assert.notEqual(names[0], names[1]);
+  assert.deepEqual(readdirSync(place), ["file"]);
+  const own = replacementOf(file, "new");
+  assert.equal(statSync(own.name).isFile(), true);
+  own.drop();
+  assert.deepEqual([readFileSync(file, "utf8"), readdirSync(place)], ["old", ["file"]]);
+});
+
+/** A folder with a program, and `name`, which is a FIFO, a device or a link out of the folder. */
+function hostile(name, kind) {
+  const place = mkdtempSync(join(top, `${kind}.`));
+  writeFileSync(join(place, "p.asm"), "start:  LDM 1\n        JUN start\n");
+  if (kind === "fifo") execFileSync("mkfifo", [join(place, name)]);
+  if (kind === "zero") symlinkSync("/dev/zero", join(place, name));
+  return place;
+}
+
+test("the language server answers beside a device or a FIFO", async () => {
+  for (const [name, kind] of [["mcs4.toml", "zero"], ["mcs4.toml", "fifo"], ["board.toml", "zero"], ["board.toml", "fifo"]]) {
+    const place = hostile(name, kind);
+    const client = new ServerClient(MCS4);
+    await client.begin();
+    const uri = `file://${join(place, "p.asm")}`;
+    assert.deepEqual(await client.open(uri, readFileSync(join(place, "p.asm"), "utf8")), []);
+    assert.equal(await client.end(), 0);
+  }
+});
+
+test("the debug adapter rejects a device, a FIFO and a link out of the project", async () => {
+  for (const kind of ["zero", "fifo"]) {
+    const place = hostile("board.toml", kind);
+    const client = new AdapterClient(MCS4);
+    await client.ask("initialize", {});
+    assert.match((await client.answer("launch", { program: join(place, "p.asm") })).message, /^cannot read .*board.toml/);
+    assert.equal(await client.end(), 0);
+  }
+  const place = hostile("", "link");
+  mkdirSync(join(place, "in"));
+  writeFileSync(join(place, "board.toml"), "[[rom]]\nchip = 0\nport = \"0000\"\n");
+  symlinkSync("../board.toml", join(place, "in", "board.toml"));
+  writeFileSync(join(place, "in", "p.asm"), "NOP\n");
+  writeFileSync(join(place, "in", "mcs4.toml"), "board = \"board.toml\"\nprogram = \"p.asm\"\n");
+  const client = new AdapterClient(MCS4);
+  await client.ask("initialize", {});
+  const words = /board.toml is a link that leads out of the project's folder$/;
+  for (const given of [{ project: join(place, "in") }, { program: join(place, "in", "p.asm") }]) {
+    assert.match((await client.answer("launch", given)).message, words);
+  }
+  assert.equal(await client.end(), 0);
+});
+
+test("the prompt rejects a device and a FIFO", () => {
+  for (const kind of ["zero", "fifo"]) {
+    const place = hostile("b.toml", kind);
+    const { status, stderr } = spawnSync(MCS4, ["debug", join(place, "b.toml"), join(place, "p.asm")], { encoding: "utf8", input: "" });
+    assert.deepEqual([status, /^debug: cannot read /.test(stderr)], [1, true]);
+  }
+});

@@ -1,0 +1,841 @@
+// What a person reads of the commands of mcs4: their help, from which manual pages and completions are made, too, and what is wrong with
+// arguments.
+
+import { didYouMean } from "./text.js";
+
+/**
+ * The help of a command: a summary of a few words; its text, with a blank line between paragraphs; its options by their long names;
+ * examples with what they do; and what its exit status means. Line breaks within a paragraph do not count.
+ * @typedef {{ summary: string, text: string, options: Record<string, string>, examples: [string, string][],
+ *   status: string[] }} CommandWords
+ */
+
+// Sentences of several commands.
+const BOARD_AND_PROGRAM = `
+      BOARD and PROGRAM are texts, or scripts of lines that contain such a text (\`wire\`, \`asm\`): the first one is used. Without them,
+      the command uses the board and the program that mcs4.toml names in this folder.`;
+const PROGRAM_ALONE = `
+      PROGRAM is a text, or a script of lines that contains one (\`asm\`): the first one is used. Without it, the command uses the program
+      that mcs4.toml names in this folder.`;
+const OF_FOLDER = "Uses the project in FOLDER: the files that its mcs4.toml names.";
+const OF_SESSION = "Counts the next cycles of the session in the file SESSION.";
+const WHAT_IS_COUNTED = `
+      It counts in a run of tests, as \`mcs4 test\` runs them, or in the next CYCLES cycles of a session, on a copy of it. CYCLES is 1 to
+      100,000,000.`;
+const REPORT_OR_ERROR = "1: a test failed, but the report is printed; or an error, which standard error names.";
+const WRONG_ARGUMENTS = "2: wrong arguments.";
+const SERVES_LINES = `
+      Each line of standard input is a command or a question, and has an answer on standard output. An accepted command is on the disk
+      before it is answered.
+
+      If all three standard streams are a terminal, there is a prompt: \`help\` shows the lines, Tab completes them, Up recalls earlier
+      ones, also of other sessions, \`wire FILE\` and \`asm FILE\` take texts of files, \`source FILE\` serves the lines of a file, and
+      errors are explained. The prompt and its words are on standard error. It needs Node, 18 or later; without Node the program reads the
+      lines itself.`;
+const STATUS_OF_PROGRAM = [
+  "0: input ended, and all of it was served, also if lines were answered `no`.",
+  "1: a read, a write or the device failed, or 16,777,216 bytes were read.", WRONG_ARGUMENTS,
+  "3: the session was refused, or there was no memory.",
+];
+
+/** @satisfies {Record<string, CommandWords>} */
+export const COMMAND_WORDS = {
+  back: {
+    summary: "makes a session as it was some commands ago",
+    text: `
+      Makes SESSION as it was N accepted commands ago, if its log still has them, and prints \`session M\` as \`mcs4 open\` does. Without
+      N, it only prints how far back it can go, and changes nothing. N is 1 to 99,999.
+
+      What the N commands did is then gone from the session: copy the file first if you want to keep it.
+
+      The log of a session begins again after a snapshot: when the log is full, or after 4,000,000 cycles. A session file that the page
+      has saved, or one of version 1, has no commands before that.
+
+      One byte of SESSION is written, so a stop in the middle leaves one session or the other. The result is tried on a copy first.
+      Meanwhile SESSION is locked, as mcs4 locks it.`,
+    options: {},
+    examples: [["mcs4 back s.mcs", "prints how far back it can go"], ["mcs4 back s.mcs 3", "goes back by three commands"]],
+    status: [
+      "0: the session has gone back, or it was printed how far it can.",
+      "1: an error, which standard error names: nothing was changed.", WRONG_ARGUMENTS,
+    ],
+  },
+  cover: {
+    summary: "which lines of a program were run, and how often",
+    text: `
+      Prints each line of the source with the number of times it was run. A conditional jump has two numbers: how often it was taken,
+      and how often it was not. Below the source are a summary and the lines that were never run.
+
+      ${WHAT_IS_COUNTED} The last instruction counts even if the last cycle only begins it. Breakpoints and watches of the session are
+      ignored.
+
+      ${BOARD_AND_PROGRAM}`,
+    options: {
+      folder: OF_FOLDER,
+      lcov: "Also writes the counts to FILE, in LCOV's format, for genhtml and editors. FILE must be new or such a file.",
+      session: OF_SESSION,
+    },
+    examples: [
+      ["mcs4 cover board.toml program.asm program.test", "counts a run of tests"],
+      ["mcs4 cover --session s.mcs 100000 program.asm", "counts the next 100,000 cycles of a session"],
+      ["mcs4 cover --lcov cover.info", "counts the tests of the project in this folder, and writes the counts for other programs"],
+    ],
+    status: ["0: the report is printed.", REPORT_OR_ERROR, WRONG_ARGUMENTS],
+  },
+  cycles: {
+    summary: "how long the runs of a session took",
+    text: `
+      Reads the answers of mcs4, and prints the sum of the cycles in \`ok N ran K ..\` with the microseconds that a 4004 takes for them,
+      10.8 each. FIRST and LAST are numbers of lines of the answers: only these lines and those between them count.
+
+      With --source, each run has a line of its own. It shows where the run stopped, with the name and the line of the source, if the answer
+      to \`regs\` or \`state\` follows it. PROGRAM must be what is in the ROM of SESSION, byte for byte.`,
+    options: { source: "Shows where runs stopped, by the source PROGRAM of SESSION." },
+    examples: [
+      ["mcs4 cycles < answers.txt", "adds up all runs"],
+      ["mcs4 cycles 5 9 < answers.txt", "adds up the runs in lines 5 to 9; `grep -n ran answers.txt` shows the numbers"],
+      ["mcs4 cycles --source program.asm s.mcs < answers.txt", "shows each run"],
+    ],
+    status: ["0: the sum is printed.", "1: a refusal among these lines, no run, or another error.", WRONG_ARGUMENTS],
+  },
+  dap: {
+    summary: "a debug adapter: breakpoints, steps, back, registers in your editor",
+    text: `
+      An editor starts the debug adapter, and talks with it over standard input and output. It has breakpoints at lines, addresses and
+      labels with conditions, hit counts and log messages; steps over, into, out and back; registers, RAM, ports, lamps and keys, which
+      can be set; the disassembly; and in the console the bench's lines and keys by their names. The manual's chapter "In your editor"
+      has the settings of editors, and what \`launch\` takes.
+
+      A session file that is launched is in use meanwhile, and has at each stop what was done up to there. Nothing else is written.`,
+    options: { stdio: "Does nothing: editors may say how they talk." },
+    examples: [["mcs4 dap", "is what an editor starts"]],
+    status: [
+      "0: the editor ended it by `disconnect`.",
+      "1: the editor has gone otherwise, or another error; what was done in a session file is kept.", WRONG_ARGUMENTS,
+    ],
+  },
+  debug: {
+    summary: "a debugger at the prompt: breakpoints, steps, back, values, keys",
+    text: `
+      Debugs a program at a prompt, with the commands of gdb: breakpoints with conditions, over, into, out, back; registers, RAM, ROM, lamps
+      and keys; what is written where, and since when. \`help\` shows the commands.
+
+      Without BOARD and PROGRAM it debugs the project of this folder. Without SESSION it works in memory. A session file has at each stop
+      what was done up to there. If the source of a session is not known, it is made of what is in ROM.
+
+      If standard input is not a terminal, its lines are commands.`,
+    options: { folder: OF_FOLDER },
+    examples: [
+      ["mcs4 debug", "debugs the project of this folder, in memory"],
+      ["mcs4 debug board.toml program.asm s.mcs", "debugs a session file with this program, or a new one"],
+      ["mcs4 debug board.toml program.asm < commands.txt", "runs commands"],
+    ],
+    status: ["0: all commands were done.", "1: a command was rejected, or another error.", WRONG_ARGUMENTS],
+  },
+  display: {
+    summary: "what a board's display shows, by answers about its lamps",
+    text: `
+      Reads the answers of mcs4, and prints for each answer \`lamps ..\` the number on the board's display. For each answer to
+      \`trace n lamps\`, it prints the number that an eye sees in that time: of each digit what it shows longest.
+
+      Comments of BOARD say which lamps are a display, and which lamps have names. The manual's chapter "The face of a board" has them all.
+
+      \`# display 3: 8 digits with points\` makes a display of lamp 3 and those behind it: five lamps for each digit, the leftmost digit
+      first: those for 8, 4, 2 and 1, and the point. \`# display 0: 2 digits of 7 segments\` has seven lamps for each digit, segments a to
+      g. \`# display 0: 4 digits of 7 segments scanned by 7\` has one set of segments, and from lamp 7 on a lamp for each digit: no instant
+      shows the number, but \`trace 2778 lamps\` does, which is 30 ms. \`# lamp 0: minus overflow\` names lamps: a lit \`minus\` stands
+      before the number, other names after it.
+
+      Leading zeros are dark, and so is a point after the last digit. Lamps that are not a digit are shown as \`?\`. Nothing is printed if
+      there is an error.`,
+    options: { folder: OF_FOLDER },
+    examples: [["mcs4 new s.mcs < product.txt | mcs4 display board.toml", "shows the product"]],
+    status: ["0: the numbers are printed.", "1: an error, which standard error names.", WRONG_ARGUMENTS],
+  },
+  explain: {
+    summary: "what was rejected in a script, where, and why",
+    text: `
+      Reads the answers to SCRIPT, and prints each refusal among them: the line of SCRIPT, the line inside a program or the part of a board
+      that is at fault, and what the refusal means. It finds the part of a board by trying the text without one part after the other.
+
+      With --source, an address in a rejected line is also shown with its name and its line of the source. PROGRAM must be what is in the
+      ROM of SESSION, byte for byte.`,
+    options: { source: "Shows addresses by the source PROGRAM of SESSION." },
+    examples: [
+      ["mcs4 explain script.txt < answers.txt && echo all was accepted", "explains the answers to a script"],
+      ["mcs4 explain --source program.asm s.mcs script.txt < answers.txt", "shows addresses by their names, too"],
+    ],
+    status: ["0: nothing was refused.", "1: something was refused, or another error.", WRONG_ARGUMENTS],
+  },
+  explore: {
+    summary: "searches for keys that break a property of a program",
+    text: `
+      Searches for key presses, and times at which they come, that break a property or reach a goal. PROPERTIES has what may be pressed and
+      what must hold: the manual's chapter "Looking for what breaks it" has its lines. A counterexample is minimised, and printed as a test
+      that \`mcs4 test\` has seen fail. The output is TAP, a line for each property, and then what was run of the program and what was not.
+
+      Ctrl-C ends the search early, and reports what was found so far. Each job is a search of its own, with the seeds SEED, SEED + 1 and so
+      on. The same seed makes the same walks.
+
+      \`model COMMAND\` in the properties is a command of your shell. It runs only with --allow-model, which prints it first. Without that
+      option it is reported as not run, and the exit status is 1. Look at properties of others before you allow it.
+
+      ${BOARD_AND_PROGRAM} So for PROPERTIES, if the project names one text of them.`,
+    options: {
+      folder: OF_FOLDER,
+      seconds: "Searches for SECONDS, 1 to 86,400; 10 if nothing is given.",
+      jobs: "Runs JOBS searches at once, 1 to 64; 1 if nothing is given.",
+      seed: "Begins with the seed SEED, 1 to 99,999,999; 1 if nothing is given.",
+      out: "Also writes the counterexamples to FINDS.test.",
+      report: "Also writes a report to REPORT, which --merge joins with others.",
+      "allow-model": "Allows the command of a model in the properties to run.",
+      merge: "Joins reports of searches, also of other machines: the shortest counterexamples, and all that was run.",
+    },
+    examples: [
+      ["mcs4 explore board.toml program.asm program.props", "searches for ten seconds"],
+      ["mcs4 explore board.toml program.asm program.props --seconds 60 --jobs 4 --seed 7 --out finds.test", "searches longer"],
+      ["mcs4 explore board.toml program.asm program.props --seed 7 --report 7.json", "does a part of a campaign, on any machine"],
+      ["mcs4 explore --merge --out finds.test 7.json 8.json", "joins the parts"],
+    ],
+    status: [
+      "0: no property was broken, and each goal was reached.",
+      "1: a property was broken, a goal was not reached, or an error, which standard error names.", WRONG_ARGUMENTS,
+    ],
+  },
+  import: {
+    summary: "a program in Intel's or AS's spelling is brought into this one",
+    text: `
+      Prints a program for the 4004 in Intel's spelling, or in that of the macro assembler AS, in the spelling of the bench: a line for
+      each line, with its comments. A name is written as the line that defines it has it, and changed if the bench cannot take it. An
+      expression becomes its number, and is noted in the comment. CPU, TITLE, PAGE, LISTING and the like become comments.
+
+      It takes labels with a comma, with a colon, or at the first column; comments from \`;\`, from \`*\` at the first column, and from
+      \`/\` at the first column or behind a blank; EQU, SET, =, ORG, DB, DATA, BYTE, DS, ALIGN, END; numbers as 20H, $20, 0x20, 101B,
+      17Q, 'A'; registers as R5, 5 or a name; pairs as 0P, P0, R0R1, RP0, or as 0< and 2<, by their first register; conditions as TZ,
+      TN, CZ, CN, AZ, AN, or Z, NZ, C, NC, T, NT; and expressions with + - * & / and brackets, $ or * for the address of the line, < and
+      > for the lower and the upper byte.
+
+      It does not take macros, INCLUDE, IF and instructions of the 4040. The result is tried on the bench: an error of the bench names
+      the line of the source, too. Nothing is printed if anything is wrong. PROGRAM can be -, standard input.`,
+    options: {},
+    examples: [
+      ["mcs4 import busy.src > busy.asm", "writes the program in the bench's spelling"],
+      ["mcs4 import - < busy.src > busy.asm", "reads it from standard input"],
+    ],
+    status: ["0: the program is printed.", "1: a line that cannot be taken, or a file that cannot be read.", WRONG_ARGUMENTS],
+  },
+  keys: {
+    summary: "lines that press keys by their names",
+    text: `
+      Prints lines for mcs4 that press KEYS one after the other, and then ask for the lamps. KEYS is one argument: names of keys with blanks
+      between them, or written together if each is one character. A comment \`# row R: NAME NAME ..\` of the board names the keys of a row
+      by rising column, \`_\` for none. Nothing is printed before all keys are known.
+
+      ${BOARD_AND_PROGRAM}`,
+    options: {
+      folder: OF_FOLDER,
+      down: "Keeps each key down for CYCLES cycles, 1 to 100,000; 4,000 (43 ms) if nothing is given.",
+      up: "Waits for CYCLES cycles after each key, 1 to 100,000; 16,000 if nothing is given.",
+      "until-stop": "Presses the keys on SESSION itself, prints the answers, and stops at a breakpoint, a watch, or a code that is not an "
+        + "instruction: the key is still down then.",
+    },
+    examples: [
+      ["mcs4 keys board.toml 'C5+7=' | mcs4 open calc.mcs | mcs4 display board.toml", "presses five keys, and shows the result"],
+      ["mcs4 keys --down 900 --up 2000 board.toml 12", "presses two keys for a shorter time"],
+      ["mcs4 keys --until-stop calc.mcs board.toml '7='", "presses them up to the first stop"],
+    ],
+    status: ["0: the lines are printed, or the keys were pressed.", "1: an error, which standard error names.", WRONG_ARGUMENTS],
+  },
+  listing: {
+    summary: "a program with addresses and bytes, as assemblers print it",
+    text: `
+      Prints each line of the source with its address and its bytes, and below them the names with their values, all in hexadecimal. They
+      are those of the bench: the program is assembled on a board with all ROMs.
+
+      ${PROGRAM_ALONE}`,
+    options: {
+      folder: OF_FOLDER,
+      names: "Prints the names alone, a line `NAME VALUE` for each.",
+      labels: "Prints those names alone that are labels.",
+    },
+    examples: [
+      ["mcs4 listing program.asm", "prints a listing"],
+      ["mcs4 listing --names program.asm", "prints the names with their values"],
+    ],
+    status: ["0: the listing is printed.", "1: an error, which standard error names with its line.", WRONG_ARGUMENTS],
+  },
+  lsp: {
+    summary: "a language server: errors, help and names in your editor",
+    text: `
+      An editor starts the language server, and talks with it over standard input and output. As you type, it shows all errors of
+      programs and boards with their places, what words mean, the values of names, and the bytes and cycles of lines. It goes to
+      definitions and references, renames, completes, lists names, offers quick fixes and colours. The manual's chapter "In your editor"
+      has the settings of editors.
+
+      A program is tried on the board that mcs4.toml names, in its folder or one above it; else on the \`board.toml\` beside it; else on a
+      board with all ROMs. Nothing is written.`,
+    options: { stdio: "Does nothing: editors may say how they talk." },
+    examples: [["mcs4 lsp", "is what an editor starts"]],
+    status: ["0: the editor ended it by `shutdown` and `exit`.", "1: the editor has gone otherwise, or another error.", WRONG_ARGUMENTS],
+  },
+  names: {
+    summary: "puts addresses in the place of @NAME into lines",
+    text: `
+      Reads lines for mcs4, and prints them with numbers in the place of names: \`@NAME\` becomes the number that the assembler gives NAME,
+      and \`set PLACE = VALUE\` becomes the lines that set the place. Texts after \`wire\`, \`asm\` and \`map\` stay as they are.
+      Nothing is printed if there is an error.
+
+      ${PROGRAM_ALONE}`,
+    options: { folder: OF_FOLDER },
+    examples: [["printf 'break @scan\\nrun 100000\\n' | mcs4 names program.asm | mcs4 open s.mcs", "runs up to a label"]],
+    status: ["0: the lines are printed.", "1: a name that the program lacks, or another error.", WRONG_ARGUMENTS],
+  },
+  new: {
+    summary: "begins a session in a file, and serves lines",
+    text: `
+      Makes FILE, or takes one that is empty or blank, and begins a session in it. Any other file stays as it is.
+${SERVES_LINES}`,
+    options: {},
+    examples: [["mcs4 new s.mcs", "begins a session"], ["mcs4 new s.mcs < script.txt", "serves the lines of a file"]],
+    status: STATUS_OF_PROGRAM,
+  },
+  open: {
+    summary: "continues the session in a file, and serves lines",
+    text: `
+      Continues the session in FILE.
+${SERVES_LINES}`,
+    options: {},
+    examples: [["mcs4 open s.mcs", "continues a session"], ["echo lamps | mcs4 open s.mcs", "shows the lamps of a session"]],
+    status: STATUS_OF_PROGRAM,
+  },
+  panel: {
+    summary: "the front panel of a board, live in the terminal",
+    text: `
+      Shows the front panel of a board in a terminal of 80 by 24 or more: keys and lamps with their names, colours and places, and the
+      number on the display in large digits. Comments of BOARD name them: the manual's chapter "The face of a board". Beside it are the
+      registers, RAM, and the instructions round the counter. Below the lamps are the last lines of the printer's paper.
+
+      Time runs as fast as in the real chip, 92,593 cycles a second. It is paused at first if the session is at a breakpoint. What is
+      done goes into SESSION; to look at a paused session changes nothing.
+
+      While time runs, lamps and displays are shown as an eye sees them, over 30 ms: \`(*)\` is on, \`(+)\` is on for a part of the time,
+      \`(:)\` for a small part, \`( )\` is off. Colours are brighter and darker, unless NO_COLOR is set. While time is paused, lamps are
+      shown at that instant.
+
+      The keys of the board are typed by their names. A key with a longer name has a character of its own, which is shown behind the
+      name. While time runs, a key goes up by itself after 43 ms, and the next one goes down 22 ms later. While time is paused, a key
+      stays down until it is typed again. Other keys:
+
+      \`space\` pauses time, or lets it run. \`Enter\` runs one instruction. \`Tab\` sets a breakpoint at the counter, or clears it.
+      \`Ctrl-T\` turns the TEST pin. \`Ctrl-R\` is a power cycle (\`reset\`). \`Left\` and \`Right\` show other RAM chips. \`Ctrl-D\` or
+      \`Ctrl-C\` ends the panel: keys that went down here go up, and the terminal is as it was.
+
+      With --source, or if mcs4.toml names the program, the listing has the lines of the program's source, and the line that comes next
+      is above it with its name, its number and its comment. PROGRAM must be what is in the ROM of SESSION, byte for byte.`,
+    options: {
+      folder: OF_FOLDER,
+      stopped: "Begins with time paused.",
+      source: "Shows the lines of PROGRAM, the text of the program in ROM.",
+    },
+    examples: [
+      ["mcs4 panel examples/calculator/board.toml calc.mcs", "shows the calculator of the session calc.mcs"],
+      ["mcs4 panel -C examples/calculator calc.mcs", "shows it with the lines of its program"],
+      ["mcs4 panel --stopped board.toml s.mcs", "shows a session, and changes nothing"],
+    ],
+    status: [
+      "0: it was ended by Ctrl-D or Ctrl-C.",
+      "1: the session has another board or program, it cannot be opened, there is no terminal or a small one, a signal, or another error.",
+      WRONG_ARGUMENTS,
+    ],
+  },
+  profile: {
+    summary: "where the cycles of a program go",
+    text: `
+      Prints for each label the cycles of its own instructions, the number of its calls, and the cycles of its calls with all they
+      call. For tests that press keys, it also prints how long the lamps took to answer.
+
+      ${WHAT_IS_COUNTED}
+
+      ${BOARD_AND_PROGRAM}`,
+    options: { folder: OF_FOLDER, session: OF_SESSION },
+    examples: [
+      ["mcs4 profile board.toml program.asm program.test", "counts a run of tests"],
+      ["mcs4 profile --session s.mcs 100000 program.asm", "counts the next 100,000 cycles of a session"],
+    ],
+    status: ["0: the report is printed.", REPORT_OR_ERROR, WRONG_ARGUMENTS],
+  },
+  project: {
+    summary: "a project of the page, taken apart or put together",
+    text: `
+      \`split\` takes a project of the page apart into files of FOLDER: board.toml, program.asm, session.mcs and name; program.test,
+      program.props, breakpoints and values if the project has them; and mcs4.toml, which names the texts. FOLDER is new, or has none of
+      these files.
+
+      \`join\` puts the files of FOLDER together into the project FILE, to the byte as the page saves it. FILE is new, or a project. The
+      texts are those that mcs4.toml names; without it, those of the names above. Without session.mcs, the project gets a new session
+      with the board and the program; without name, the name of the folder. A link that leads out of FOLDER is rejected.
+
+      Nothing is written if anything is wrong. The manual's chapter "A project file" describes the file.`,
+    options: {},
+    examples: [
+      ["mcs4 project split lock.mcsp lock", "writes the parts of a project into the folder `lock`"],
+      ["mcs4 project join lock lock.mcsp", "puts them together again"],
+    ],
+    status: [
+      "0: the files are written.",
+      "1: a file that is no project, is cut off or damaged, would be lost, or cannot be read or written.",
+      WRONG_ARGUMENTS,
+    ],
+  },
+  prove: {
+    summary: "proves that properties of a program hold for all inputs",
+    text: `
+      Searches all states that the program can reach from power-on, whatever its keys and its TEST pin do, and at whatever moments. If
+      no state breaks a property, the property is proved: for all inputs, at every moment. A counterexample is minimised, and printed as
+      a test that \`mcs4 test\` has seen fail. The output is TAP, a line for each property. PROPERTIES is a text as \`mcs4 explore\` has
+      it; the manual's chapter "Proving it for all inputs" says which of its lines can be proved.
+
+      The search stops at N states. It needs some 150 bytes for each, and more for boards with more chips. Ctrl-C ends it.
+
+      ${BOARD_AND_PROGRAM} So for PROPERTIES, if the project names one text of them.`,
+    options: {
+      folder: OF_FOLDER,
+      most: "Searches N states at most, 1 to 999,999,999; 1,000,000 if nothing is given.",
+    },
+    examples: [
+      ["mcs4 prove board.toml program.asm program.props", "proves what it can"],
+      ["mcs4 prove --most 10000000", "searches longer, for the properties of the project in this folder"],
+    ],
+    status: [
+      "0: all properties are proved, and each goal was reached.",
+      "1: a property is broken, or a goal is never reached; or an error, which standard error names.", WRONG_ARGUMENTS,
+      "3: nothing of that, but some property is not decided.",
+    ],
+  },
+  resume: {
+    summary: "goes on with a script that was interrupted",
+    text: `
+      Sends SESSION what it has not got of SCRIPT yet, and prints its answers. The count in \`session N\` shows what it has got. Questions
+      after the last accepted command are asked again.
+
+      First, the part of SCRIPT up to the N-th accepted command is served to a new session in a temporary folder. If its answers differ from
+      those of SESSION, SESSION has not begun with SCRIPT, and nothing is sent. Board, ROM, RAM, registers, ports, chains, keys, lamps,
+      breakpoints and watches are compared.`,
+    options: {},
+    examples: [["mcs4 resume script.txt s.mcs > more.txt", "goes on with `mcs4 new s.mcs < script.txt`, which was interrupted"]],
+    status: ["0: all was sent.", "1: SESSION has not begun with SCRIPT, or another error.", WRONG_ARGUMENTS],
+  },
+  rom: {
+    summary: "images of ROMs, in and out: binary, Intel HEX, BNPF, S-records",
+    text: `
+      \`load\` prints lines \`asm\` .. that put an image into ROM. ADDRESS is added to the addresses in the file; a binary file and
+      words of BNPF begin there. \`ask\` prints questions for the COUNT bytes from FIRST on, and \`save\` prints the bytes in the
+      answers as an image: a binary file, Intel HEX, or BNPF, in which Intel took the masks of 4001s (BNNNPNPNNF for each byte). Numbers
+      are decimal, or hexadecimal with 0x.
+
+      A file that begins with \`:\`, or whose name ends in .hex, is read as Intel HEX, one that begins with S and a digit as S-records,
+      a text with a word of BNPF as BNPF, and one with bytes that are in no text as binary. Any other text is rejected. What is between
+      words of BNPF is ignored. Of Intel HEX, records of type 00 and 01 are used; types 02 and 04 must be zero, and types 03 and 05,
+      where a program begins, are ignored.
+
+      An image that needs several texts is loaded whole or not at all: each text has a byte of each of its ROMs, so each one is rejected
+      (42) if the board lacks one. Nothing is printed if anything is wrong.`,
+    options: {
+      hex: "The image is Intel HEX.",
+      srec: "The image is S-records.",
+      bnpf: "The image is BNPF.",
+      binary: "The image is a binary file.",
+    },
+    examples: [
+      ["mcs4 rom load multiply.hex | mcs4 open s.mcs", "puts an image into the ROM of a session"],
+      ["mcs4 rom load multiply.bin 0x100 | mcs4 open s.mcs", "puts a binary file there, from address 100 on"],
+      ["mcs4 rom ask 0 512 | mcs4 open s.mcs > answers.txt", "asks for the first 512 bytes"],
+      ["mcs4 rom save --hex 0 512 < answers.txt > multiply.hex", "saves them as Intel HEX"],
+    ],
+    status: [
+      "0: the lines or the image are printed.",
+      "1: a file that is no image, a bad record, an address past FFF, a refusal among the answers, or a byte that no answer shows.",
+      WRONG_ARGUMENTS,
+    ],
+  },
+  script: {
+    summary: "lines that wire a board, load a program, press keys",
+    text: `
+      Prints lines for mcs4 that wire BOARD, assemble PROGRAM, run for 2,000 cycles, press KEYS one after the other, and ask for the lamps.
+      \`mcs4 help keys\` has how keys are written. Board and program are tried first: nothing is printed if one of them is rejected.
+
+      Comments of the texts stay in the script, unless a text is too long with them for the bench.
+
+      ${BOARD_AND_PROGRAM}`,
+    options: { folder: OF_FOLDER },
+    examples: [["mcs4 script board.toml calculator.asm '22/7=' > quotient.txt", "makes a script that divides"]],
+    status: ["0: the lines are printed.", "1: an error, which standard error names with its line.", WRONG_ARGUMENTS],
+  },
+  test: {
+    summary: "runs tests of a program, and prints the results as TAP",
+    text: `
+      Runs the tests in the texts TEST on a board with a program, each test on a session of its own in memory. It prints the results as TAP,
+      which \`prove\` reads. The manual's chapter "Testing a program" has the language of tests.
+
+      ${BOARD_AND_PROGRAM} Without any TEST, it also runs the tests of the project.
+
+      For each test that failed, standard error has a line with file and line. Below \`not ok\`, the results show the lamps, the registers
+      and the last instructions.`,
+    options: { folder: OF_FOLDER },
+    examples: [
+      ["mcs4 test board.toml program.asm program.test", "runs the tests of one text"],
+      ["mcs4 test -C examples/calculator", "runs the tests of a project"],
+      ["prove --exec 'mcs4 test board.toml program.asm' tests/*.test", "runs the tests of many texts by prove"],
+    ],
+    status: ["0: all tests passed.", "1: a test failed, or an error, which standard error names with its place.", WRONG_ARGUMENTS],
+  },
+  trace: {
+    summary: "what it does next, an instruction a line",
+    text: `
+      Prints what a session does next, a line for each instruction: the cycles before it, its address, bytes and text, and the
+      accumulator and the carry after it. Behind them are its changes of registers, the command register, return addresses, RAM, ports,
+      chains and lamps, as in \`r0 6\`, \`ram.1.0x65 9\`, \`out 1.1 9\` or \`lamps *..\`.
+
+      The session stays as it is: a copy is run, without its breakpoints and watches. CYCLES is 1 to 100,000.
+
+      With --last, it prints the last N instructions before the session stops: at a breakpoint, after a watched character changed,
+      before a code that is no instruction, or at the end of CYCLES, which is then 1 to 100,000,000. N is 1 to 10,000.`,
+    options: {
+      folder: "Uses the program of the project in FOLDER, as --source does.",
+      names: "Prints labels, and names of targets. PROGRAM is the text of the program in ROM.",
+      source: "Prints the lines of PROGRAM, with their numbers, in place of the disassembly. PROGRAM is the text of the program in ROM.",
+      last: "Prints the last N instructions before the stop.",
+    },
+    examples: [
+      ["mcs4 trace s.mcs 40", "prints the next 40 cycles"],
+      ["mcs4 trace --last 10 s.mcs 100000", "prints the last 10 instructions before the session stops"],
+      ["mcs4 trace --source program.asm s.mcs 40", "prints the next 40 cycles with the lines of the source"],
+    ],
+    status: [
+      "0: the trace is printed.",
+      "1: a session that cannot be read or opened, or a program that is not the one in ROM; standard error names it.",
+      WRONG_ARGUMENTS,
+    ],
+  },
+  wave: {
+    summary: "lines over time, as a VCD file",
+    text: `
+      Prints what the lines of a board do in the next CYCLES cycles, as a VCD file for programs that show waveforms: GTKWave, PulseView,
+      Surfer. Each change is exact to the cycle; 108 units of time are a cycle, 10.8 microseconds. CYCLES is 1 to 10,000,000.
+
+      The session stays as it is: a copy is run, without its breakpoints and watches. If it reaches a code that is no instruction, the
+      file ends there, and standard error says so. The same session, board and program make the same file.
+
+      LINE is \`rom0.3\`, \`ram0.1.3\` or \`chain0.5\`, as in a board's text; \`lamp0\` or, if it has a name, \`lamp.NAME\`; \`key2.3\`
+      (row and column) or \`key.NAME\`; \`test\`, the TEST pin; \`pc\`, the counter, 12 bits; \`label\`, the label at the counter or
+      nearest below it, as text. \`rom0\`, \`ram0.1\`, \`chain0\`, \`lamps\` and \`keys\` are all lines of that part.
+
+      LINE can be a value, too, as a number of some bits: \`acc\`, \`cy\`, \`dcl\`, \`src\`, \`r5\`, \`p2\`, \`ram.0.0x12\` and
+      \`st.0.1.2\`, as \`poke\` names them, and \`rom0[3:0]\`, \`ram0.1[3:0]\` and \`chain0[9:0]\`, a port or a chain. Without any LINE,
+      all lines are printed, but no values, no \`pc\` and no \`label\`.
+
+      With --wav, it writes a WAV file instead: 16 bits, one channel, a sample for each cycle, 92,593 a second. The buzzer is an output
+      line: LINE, or the one that the comment \`# buzzer rom0.3: NAME\` of the board's text names.`,
+    options: {
+      folder: "Uses the board and the program of the project in FOLDER.",
+      board: "Uses the names of lamps and keys in the comments of BOARD, the text of the session's board.",
+      names: "Uses the labels of PROGRAM, the text of the program in ROM, for the line `label`.",
+      lines: "Prints the names of the lines, and records nothing.",
+      wav: "Writes the sound of a buzzer to OUT. OUT must be new or a WAV file.",
+    },
+    examples: [
+      ["mcs4 wave s.mcs 10000 > out.vcd", "records all lines of the board for 10,000 cycles"],
+      ["mcs4 wave s.mcs 10000 rom0.0 chain0 test > out.vcd", "records these lines, in this order"],
+      ["mcs4 wave --lines s.mcs", "prints the names of the lines"],
+      ["mcs4 wave --wav out.wav --board board.toml s.mcs 600000", "writes the sound of the board's buzzer"],
+    ],
+    status: [
+      "0: the file is written.",
+      "1: a session that cannot be read or opened, a line that the board lacks, a board or a program that is not the session's, or a "
+        + "file that cannot be written.",
+      WRONG_ARGUMENTS,
+    ],
+  },
+};
+
+/** @typedef {keyof typeof COMMAND_WORDS} CommandName */
+
+// --- mcs4 itself ---
+
+/** The forms of use, and what each does. */
+export const MCS4_FORMS = [
+  ["mcs4 new FILE", "begins a session in FILE, and serves lines"],
+  ["mcs4 open FILE", "goes on with the session in FILE"],
+  ["mcs4 COMMAND ..", "runs a command of the workbench"],
+  ["mcs4 help [COMMAND]", "prints this help, or that of a command"],
+  ["mcs4 help refusals", "prints what the number of each refusal, `no NN`, means"],
+  ["mcs4 version", "prints the version, and which program is started"],
+];
+export const MCS4_SUMMARY = "a bench for boards of Intel's MCS-4 chips, and its workbench";
+export const MCS4_TEXT = `
+      \`mcs4 new\` and \`mcs4 open\` are the proved program, with a prompt at a terminal. Commands need Node, 18 or later; \`new\`,
+      \`open\`, \`help\` and \`version\` work without it. \`mcs4 COMMAND --help\` prints the help of a command. Options may stand
+      anywhere; \`--\` ends them.`;
+export const MCS4_ENVIRONMENT = [
+  "MCS4 names the program that commands start, if it is not the one of mcs4 itself.",
+  "TMPDIR names the folder of temporary files.",
+  "XDG_STATE_HOME names the folder of mcs4/history, the lines typed at prompts; without it that is ~/.local/state.",
+  "NO_COLOR, if it is not empty, leaves out colours.",
+];
+export const MCS4_STATUS = [
+  "0: all was done.",
+  "1: an error, or a test that failed.",
+  "2: wrong arguments, also a value that is not a number or out of range.",
+];
+export const MCS4_COMPLETED = {
+  help: "the commands, or the use of one",
+  version: "which program is started",
+};
+export const ENVIRONMENT_HEAD = "Environment:";
+/** @type {(top: string) => string} */
+export const whereManualIs = (top) => `The manual is ${top}/docs/MANUAL.md, the page ${top}/page/fethsaim.html.`;
+/** @type {(word: string) => string} */
+export const tooMuchBehind = (word) => `there is too much behind ${word}`;
+
+// --- help ---
+
+export const GROUPS = { tests: "a program and its tests", session: "a session", texts: "texts of others" };
+export const OPTIONS_HEAD = "Options:";
+export const EXAMPLES_HEAD = "Examples:";
+export const STATUS_HEAD = "Exit status:";
+export const HELP_OPTION = "Prints this help.";
+
+// --- wrong arguments ---
+
+/** @type {(lines: string[]) => string} */
+export const usageOf = ([first, ...others]) => [`usage: ${first}`, ...others.map((line) => `       ${line}`)].join("\n");
+/** @type {(word: string, meant: string[]) => string} */
+export const noCommand = (word, meant) => `there is no command ${word}${didYouMean(meant, "mcs4 help shows which there are")}`;
+export const MANUAL_SECTIONS = {
+  name: "NAME", synopsis: "SYNOPSIS", description: "DESCRIPTION", options: "OPTIONS", commands: "COMMANDS", examples: "EXAMPLES",
+  status: "EXIT STATUS", environment: "ENVIRONMENT", files: "FILES", seeAlso: "SEE ALSO",
+};
+export const FILES_OF_MCS4 = ["mcs4.toml", "names the files of the project in its folder"];
+export const MANUAL_IS = "The manual, docs/MANUAL.md where Fethsaim stands, as `mcs4 version` shows.";
+export const TITLE_OF_PAGES = "The bench Fethsaim";
+/** @type {(word: string, meant: string[]) => string} */
+export const noOption = (word, meant) => `there is no option ${word}${didYouMean(meant, "")}`;
+/** @type {(value: string, option: string) => string} */
+export const valueMissing = (value, option) => `${value} is missing after ${option}`;
+/** @type {(option: string) => string} */
+export const noValue = (option) => `${option} takes no value`;
+/** @type {(option: string) => string} */
+export const optionTwice = (option) => `${option} is given twice`;
+/** @type {(word: string) => string} */
+export const oneTooMany = (word) => `'${word}' is one argument too many`;
+export const EMPTY_ARGUMENT = "an argument is empty; it names a file";
+/** @type {(names: string[], hasNoProject: boolean) => string} */
+export const missing = (names, hasNoProject) => {
+  const [last, ...others] = [...names].reverse();
+  const list = others.length > 0 ? `${others.reverse().join(", ")} and ${last} are` : `${last} is`;
+  return `${list} missing${hasNoProject ? ", and there is no mcs4.toml here" : ""}`;
+};
+/** @type {(name: string, most: number) => string} */
+export const notInRange = (name, most) => `${name} is a decimal number, 1 to ${most}`;
+/** @type {(file: string, what: string) => string} */
+export const namesNone = (file, what) => `${file} names no ${what}; name some there, or behind the command`;
+/** @type {(version: string) => string} */
+export const oldNode = (version) => `it needs node 18 or later, and this is ${version}`;
+/** @type {(one: string, other: string) => string} */
+export const excludeEachOther = (one, other) => `${one} and ${other} exclude each other`;
+
+// --- errors of several commands ---
+
+/** @type {(session: string) => string} */
+export const inUse = (session) => `${session} is in use: it changed while it was read; end the program that uses it, or try again`;
+/** @type {(name: string) => string} */
+export const noNamedProver = (name) => `MCS4_PROVE names ${name}, which is not there; unset it, or name another program`;
+/** @type {(fault: string) => string} */
+export const noProver = (fault) => (
+  `the program that searches, shipped/mcs4-prove, is not started: ${fault}; tools/build mcs4_prove proves and builds it`);
+/** @type {(session: string, number: number, words: string) => string} */
+export const sessionRefused = (session, number, words) => `the session ${session} was refused: no ${number}: ${words}`;
+/** @type {(program: string, address: string, is: string, line: number, makes: string) => string} */
+export const otherProgram = (program, address, is, line, makes) => (
+  `the session has another program than ${program}: at ${address} stands ${is}, and line ${line} makes ${makes}`);
+/** @type {(cycles: number, why: string) => string} */
+export const sessionStopped = (cycles, why) => `the session stopped after ${cycles} cycles: ${why}`;
+
+// --- the files of commands ---
+
+export const NO_LCOV = "does not begin as a file of LCOV's format does (TN:)";
+/** @type {(name: string) => string} */
+export const isFolder = (name) => `${name} is a folder, not a file`;
+/** @type {(name: string) => string} */
+export const isRead = (name) => `${name} is read here, so it is not written; name another file`;
+/** @type {(name: string, why: string) => string} */
+export const isForeign = (name, why) => `${name} is there, and ${why}; name another file, or move it away`;
+/** @type {(name: string) => string} */
+export const noFolderToWrite = (name) => `cannot write ${name}: its folder is not there, or cannot be written`;
+
+// --- wave ---
+
+export const NO_NAMES_OF_SOUND = "--wav writes the sound of a line; it needs no --names";
+export const NO_WAV = "is no WAV file";
+/** @type {(board: string) => string} */
+export const otherBoard = (board) => `the session has another board than ${board}`;
+const BUZZER_COMMENT = "a comment `# buzzer rom0.3: NAME`";
+export const NO_BUZZER_GIVEN = `no line of a buzzer is given; name it, or give --board BOARD, whose text has ${BUZZER_COMMENT}`;
+/** @type {(board: string) => string} */
+export const noBuzzer = (board) => `${board} has no buzzer: ${BUZZER_COMMENT} makes one`;
+/** @type {(line: string) => string} */
+export const noOutputLine = (line) => `the board has no output line ${line}; a buzzer is at one, as rom0.3, ram0.1.3 or chain0.5`;
+/** @type {(board: string, line: number, place: string) => string} */
+export const noOutputAt = (board, line, place) => `${board}: line ${line}: the board has no output line ${place}`;
+/** @type {(cycles: number) => string} */
+export const stoppedAtCode = (cycles) => `the session stopped after ${cycles} cycles, before a code that is no instruction`;
+
+// --- project ---
+
+export const SPLIT_OR_JOIN = "split or join is missing";
+/** @type {(word: string) => string} */
+export const neitherSplitNorJoin = (word) => `'${word}' is neither split nor join`;
+/** @type {(name: string, folder: string) => string} */
+export const leadsOutOf = (name, folder) => `${name} is a link that leads out of ${folder}`;
+/** @type {(name: string) => string} */
+export const zeroBytes = (name) => `${name} has zero bytes; it is not a text`;
+/** @type {(name: string) => string} */
+export const notUtf8 = (name) => `${name} is not a text in UTF-8`;
+/** @type {(file: string, count: number, kind: string) => string} */
+export const tooManyTexts = (file, count, kind) => `${file} names ${count} texts of ${kind}; a project of the page has one`;
+/** @type {(name: string) => string} */
+export const noSessionFile = (name) => `${name} is not a session file`;
+/** @type {(name: string) => string} */
+export const emptyName = (name) => `${name} is empty; it is the name of the session`;
+/** @type {(folder: string) => string} */
+export const noFolder = (folder) => `${folder} is no folder`;
+export const NO_PROJECT = "is no project";
+/** @type {(folder: string) => string} */
+export const isNoFolder = (folder) => `${folder} is there, and is no folder`;
+/** @type {(name: string) => string} */
+export const isThere = (name) => `${name} is there already; name another folder, or move it away`;
+
+// --- rom ---
+
+export const LOAD_ASK_OR_SAVE = "load, ask or save is missing";
+/** @type {(word: string) => string} */
+export const noRomAction = (word) => `'${word}' is none of load, ask and save`;
+/** @type {(action: string, form: string) => string} */
+export const noFormOf = (action, form) => `rom ${action} takes no --${form}`;
+export const ADDRESS_RANGE = "ADDRESS is 0 to 4095, decimal or with 0x";
+export const NUMBERS_OF_RANGE = "FIRST and COUNT are numbers, decimal or with 0x";
+export const RANGE = "FIRST is 0 to 4095, COUNT is from 1 on, and 4096 is the address after the last one";
+/** @type {(name: string) => string} */
+export const textNoImage = (name) => (
+  `${name} is a text, and no Intel HEX, S-records or BNPF; where its letters are the bytes of an image: rom load --binary`);
+export const IS_IT_BINARY = " (is it a binary file? --binary)";
+export const NO_TERMINAL = "an image is no text for a terminal; write it to a file (> IMAGE), or as --hex";
+export const NO_ANSWERS = "no answers on standard input; it reads what mcs4 has answered, as in: mcs4 rom save FIRST COUNT < ANSWERS";
+/** @type {(line: number, text: string) => string} */
+export const answersRefusal = (line, text) => `line ${line} of the answers is a refusal: ${text}; mcs4 explain says why`;
+/** @type {(address: string) => string} */
+export const noAnswerShows = (address) => `no answer shows the byte at ${address}; mcs4 rom ask makes the questions`;
+
+// --- board_texts.mjs, keys ---
+/** @type {(board: string, key: string) => string} */
+export const noKeyOnBoard = (board, key) => `${board} has no key ${key}`;
+/** @type {(board: string) => string} */
+export const keysWithoutNames = (board) => `${board} has no comments \`# row R: NAME ..\` that name its keys`;
+/** @type {(answer: string, words: string) => string} */
+export const benchRejected = (answer, words) => `the bench answered: ${answer}: ${words}`;
+
+// --- session_program.mjs ---
+/** @type {(words: string) => string} */
+export const programEnded = (words) => `the session has ended: ${words || "no answer"}`;
+/** @type {(session: string, words: string) => string} */
+export const sessionWasRefused = (session, words) => `the session ${session} was refused: ${words}`;
+
+// --- names ---
+/** @type {(line: number, words: string) => string} */
+export const inLine = (line, words) => `line ${line}: ${words.replace(/\.$/, "")}`;
+
+// --- answers on standard input ---
+/** @type {(command: string) => string} */
+export const noAnswers = (command) => (
+  `no answers on standard input; it reads what mcs4 has answered, as in: mcs4 ${command} .. < ANSWERS`);
+
+// --- cycles ---
+/** @type {(word: string) => string} */
+export const notALine = (word) => `FIRST and LAST are numbers of lines, and '${word}' is not a number`;
+export const FIRST_AND_LAST = "FIRST is from 1 on, and LAST is not before it";
+
+// --- explain ---
+/** @type {(words: string) => string} */
+export const otherAnswers = (words) => `these are not the answers to this script: ${words}`;
+/** @type {(character: string) => string} */
+export const foreignCharacter = (character) => `: \`${character}\``;
+/** @type {(digits: string) => string} */
+export const foreignByte = (digits) => `: the byte ${digits}`;
+/** @type {(line: number, number: number, at: { from: number, to: number } | null, words: string) => string} */
+export const refusedLine = (line, number, at, words) => {
+  const place = !at ? ":" : at.from === at.to ? `, line ${at.from} of the text:` : `, lines ${at.from} to ${at.to} of the text:`;
+  return `line ${line}: no ${number}${place} ${words}`;
+};
+/** @type {(number: number, words: string) => string} */
+export const sessionWasRefusedBy = (number, words) => `the session was refused: no ${number}: ${words}`;
+/** @type {(line: number, isLast: boolean) => string} */
+export const notAnswered = (line, isLast) => `line ${line} ${isLast ? "was" : "and those after it were"} not answered`;
+
+// --- resume ---
+/** @type {(session: string, script: string, words: string, differing: string[]) => string} */
+export const notBegun = (session, script, words, differing) => [
+  `${session} has not begun with ${script}: ${words}${differing.length > 0 ? ` (< ${session}, > what ${script} leads to)` : ""}`,
+  ...differing,
+].join("\n");
+/** @type {(session: string) => string} */
+export const changedMeanwhile = (session) => `${session} is in use: it changed meanwhile; end the program that uses it, or try again`;
+
+// --- back ---
+export const NO_FLOCK = "the program flock is not found; on Debian: apt-get install util-linux";
+/** @type {(session: string) => string} */
+export const usedByAnother = (session) => `${session} is in use by another program; wait until that has ended`;
+/** @type {(name: string) => string} */
+export const cannotWrite = (name) => `cannot write ${name}`;
+/** @type {(commands: number, records: number) => string} */
+export const howFarBack = (commands, records) => {
+  if (records === 0) return `session ${commands}: its log has no commands, so it cannot go back`;
+  if (records === 1) return `session ${commands}: back by 1 command, to session ${commands - 1}`;
+  return `session ${commands}: back by 1 to ${records} commands, to session ${commands - 1} to ${commands - records}`;
+};
+/** @type {(session: string, records: number, commands: number, count: number) => string} */
+export const logIsShorter = (session, records, commands, count) => (
+  `the log of ${session} has ${records} of its ${commands} commands, so it cannot go back by ${count}; those before are one snapshot`);
+/** @type {(session: string, wanted: number, opened: string) => string} */
+export const wouldBeOther = (session, wanted, opened) => `${session} would not be session ${wanted} but ${opened}; nothing was changed`;
+
+// --- temporary.mjs ---
+/** @type {(place: string) => string} */
+export const noFolderIn = (place) => `cannot make a folder in ${place}; TMPDIR names another place for temporary files`;
+
+// --- debug ---
+export const NO_BREAKPOINTS_FILE = "does not begin as a file of breakpoints does (# Breakpoints of mcs4 debug)";
+
+// --- explore ---
+export const NO_FINDS = "does not begin as a file of its finds does (# Found by mcs4 explore)";
+export const NO_REPORT = "is no report of mcs4 explore";
+/** @type {(file: string, names: string[]) => string} */
+export const oneText = (file, names) => `${file} names ${names.length} texts of properties; name one of them: ${names.join(" ")}`;
+/** @type {(properties: string, line: number, message: string, state: string) => string} */
+export const testsMustSave = (properties, line, message, state) => (
+  `${properties}:${line}: ${message}; its tests have to save the state ${state}`);
+/** @type {(how: string, words: string) => string} */
+export const modelEnded = (how, words) => `the model has ended with ${how}${words && `: ${words}`}`;
+/** @type {(lines: number, chains: number) => string} */
+export const modelPrinted = (lines, chains) => `the model has printed ${lines} lines for ${chains} lines of keys`;
+/** @type {(properties: string, line: number, command: string) => string} */
+export const runsModel = (properties, line, command) => `${properties}:${line}: --allow-model runs this command: ${command}`;
+/** @type {(test: string) => string} */
+export const notSeenToFail = (test) => `mcs4 test does not see this fail, so it is not counted:\n${test}`;
+/** @type {(place: string, text: string, isGoal: boolean, steps: string) => string} */
+export const wasFound = (place, text, isGoal, steps) => `${place}: ${text}: ${isGoal ? "reached" : "broken"} by ${steps}`;
+/** @type {(status: number | null) => string} */
+export const jobEnded = (status) => `a job has ended with status ${status}`;
+/** @type {(name: string) => string} */
+export const noReport = (name) => `${name} is no report of mcs4 explore (--report)`;
+/** @type {(name: string, first: string) => string} */
+export const ofOtherTexts = (name, first) => `${name} is of another board, program or properties than ${first}`;

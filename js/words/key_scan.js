@@ -1,0 +1,39 @@
+// What people read of a routine that scans keys, which the page writes for a board: comments of the source.
+
+/** @type {(one: string, last: number, first: number, until: number) => string} */
+const from = (one, last, first, until) => (last === 0 ? `${one} ${first}` : `${one}s ${first} to ${until}`);
+/** @type {(rows: number, first: number, chain: number, ports: string[]) => string} */
+export const scansKeys = (rows, first, chain, ports) => (
+  `Scans the keys: ${from("bit", rows - 1, first, first + rows - 1)} of chain ${chain} drive${rows === 1 ? "s" : ""} `
+  + `${from("row", rows - 1, 0, rows - 1)}; columns are read at ${ports.join(" and ")}.`);
+/** @type {(name: string) => string} */
+export const callIt = (name) => `JMS ${name}: the accumulator is 1 if a key is down, with its row in R4 and its column`;
+/** @type {(registers: string) => string} */
+export const usesThese = (registers) => `in R5; else it is 0. It uses R0, R1 and R4 to ${registers}, and calls one level deeper.`;
+/** @type {(ports: string[]) => string} */
+export const writesPorts = (ports) => `It writes 0 to the other lines of ${ports.join(" and ")}.`;
+/** @type {(bank: number) => string} */
+export const designates = (bank) => `It designates bank ${bank}.`;
+/** @type {(chip: number) => string} */
+export const romPort = (chip) => `the port of ROM ${chip}`;
+/** @type {(bank: number, chip: number) => string} */
+export const ramPort = (bank, chip) => `the port of RAM ${bank}.${chip}`;
+export const FIRST_ROW = "row 0 comes first";
+/** @type {(rows: number) => string} */
+export const counts = (rows) => `counts ${rows === 1 ? "1 row" : `${rows} rows`}`;
+export const ONE_COMES_IN = "a single 1 comes into the chain";
+/** @type {(bit: number) => string} */
+export const goesTo = (bit) => `it goes on to bit ${bit}`;
+/** @type {(column: number) => string} */
+export const columnInCarry = (column) => `column ${column} is in the carry`;
+export const NEXT_ROW = "the 1 drives the next row";
+export const NO_KEY = "no key is down";
+/** @type {(column: number) => string} */
+export const columnIsDown = (column) => `the key is in column ${column}`;
+export const LEAVES_ROWS = "the 1 leaves the rows";
+export const KEY_IS_DOWN = "a key is down";
+export const BIT_COMES = "the bit that comes into the chain";
+export const CLOCK_LOW = "data, with the clock at 0";
+export const DATA = "data";
+export const CLOCK_RISES = "the clock rises: all bits move on";
+export const WAITS = "a program of your own goes on here";

@@ -1,0 +1,67 @@
+// What people read of the lines of the bench: what each does, and why one is rejected.
+
+import { didYouMean } from "./text.js";
+
+/**
+ * Lines by groups: the form of each, and what it does. Each is written to be read alone.
+ * @type {{ title: string, lines: [string, string][] }[]}
+ */
+export const LINES_BY_GROUPS = [
+  { title: "Texts, up to a line that has a dot alone:",
+    lines: [
+      ["wire, then a text", "replaces the board by the one that the text has"],
+      ["asm, then a text", "assembles the text and puts its bytes into ROM"],
+      ["map, then a text", "shows the addresses of a program's lines and names"],
+    ] },
+  { title: "Commands:",
+    lines: [
+      ["press r c", "holds down the key in row r, column c"],
+      ["release r c", "lets the key in row r, column c go up"],
+      ["run n", "runs for n cycles, or to a breakpoint or watch"],
+      ["step", "runs one instruction"],
+      ["poke place v", "puts the value v into a register, RAM, ROM, .."],
+      ["test b", "sets the TEST pin to b, 0 or 1"],
+      ["reset", "cycles the power; ROM, keys, TEST and stops stay"],
+      ["break a", "stops runs before the instruction at address a"],
+      ["unbreak a", "removes the breakpoint at the address a"],
+      ["watch b s", "stops runs when RAM character s of bank b changes"],
+      ["unwatch b s", "removes the watch of that character"],
+    ] },
+  { title: "Questions, which change nothing:",
+    lines: [
+      ["lamps", "shows each lamp: * is on, . is off"],
+      ["regs", "shows accumulator, carry, counter and registers"],
+      ["ram b", "shows characters and ports of RAM bank b"],
+      ["list a n", "shows n instructions in ROM from the address a"],
+      ["board", "shows the text of the board"],
+      ["breaks", "shows the breakpoints"],
+      ["watches", "shows the RAM characters that are watched"],
+      ["seq", "shows how many commands were accepted"],
+      ["state", "shows all but ROM and RAM, in one line"],
+      ["count n", "shows how often n cycles would run each address"],
+      ["trace n place ..", "shows what n cycles would change at these places"],
+    ] },
+];
+/** The form of each line, by its first word. */
+const FORM_OF = new Map(LINES_BY_GROUPS.flatMap(({ lines }) => lines.map(([form]) => [form.split(/[ ,]/)[0], form])));
+
+// --- bench/line_forms.js ---
+/** @type {(word: string, like: string[]) => string} */
+export const noLine = (word, like) => `${word} is not a command${didYouMean(like) || "; help shows the commands"}`;
+/** @type {(word: string) => string} */
+export const otherForm = (word) => `${word} is written as: ${FORM_OF.get(word)}`;
+/** @type {(word: string, like: string[]) => string} */
+export const noPlace = (word, like) => `${word} is not a place${didYouMean(like) || "; help places shows the places"}`;
+/** @type {(word: string) => string} */
+export const noSuchPlace = (word) => `there is no place ${word}; help places shows the ranges of the numbers in it`;
+/** @type {(most: number) => string} */
+export const tooManyPlaces = (most) => `trace has at most ${most} places`;
+/** @type {(word: string, first: number, last: number) => string} */
+export const notInRange = (word, first, last) => `${word} is not a number from ${first} to ${last.toLocaleString("en")}`;
+/** @type {(most: number, length: number) => string} */
+export const tooLong = (most, length) => `the line has ${length} characters; a line has at most ${most}`;
+/** @type {(character: string) => string} */
+export const foreign = (character) => {
+  const code = /** @type {number} */ (character.codePointAt(0)).toString(16).toUpperCase();
+  return `a line has ASCII characters and tabs; this one has ${character > "\x7f" ? character : `the byte ${code.padStart(2, "0")}`}`;
+};

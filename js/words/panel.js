@@ -1,0 +1,45 @@
+// What people read at the panel of a terminal, `mcs4 panel`.
+
+// --- panel/panel.js ---
+/** @type {(line: string, answer: string, words: string) => string} */
+export const refused = (line, answer, words) => `${line} is refused: ${answer}: ${words}`;
+export const NOTHING_HERE = "this key does nothing here; the last line has those that do";
+/** @type {(key: string) => string} */
+export const noKey = (key) => `the board has no key ${key}`;
+
+// --- panel/screen.js ---
+/** @type {(title: string, session: string, commands: string, state: string) => string} */
+export const headLine = (title, session, commands, state) => ` ${title && `${title}: `}${session}   ${commands} commands   ${state}`;
+export const RUNNING = "running";
+/** @type {(why: string) => string} */
+export const paused = (why) => `paused${why && ` ${why}`}`;
+/** @type {(text: string) => string} */
+export const display = (text) => `display ${text}`;
+/** @type {(lamps: string) => string} */
+export const lamps = (lamps_) => `lamps ${lamps_}`;
+/** @type {(place: string, line: number, text: string) => string} */
+export const sourceHere = (place, line, text) => `${place}, line ${line}: ${text}`;
+/** @type {(place: string) => string} */
+export const returnTo = (place) => `  ret ${place}`;
+/** @type {(chip: string, out: string) => string} */
+export const portOf = (chip, out) => `${chip} out ${out}`;
+export const PAPER = "--- paper --------------";
+/** @type {(test: string, hasMoreRam: boolean) => string} */
+export const keyLine = (test, hasMoreRam) => (
+  `space pause/run  Enter step  Tab break  ^T ${test}  ^R reset  ^D end${hasMoreRam ? "  arrows RAM" : ""}`);
+export const TEST_PIN = "test";
+/** @type {(name: string) => string} */
+export const testKey = (name) => `${name}:^T`;
+/** @type {(line: number, words: string) => string} */
+export const noteOfBoard = (line, words) => `line ${line}: ${words}`;
+
+// --- node/commands/panel.mjs, node/panel_terminal.mjs ---
+export const NO_TERMINAL = "standard input and output have to be a terminal";
+/** @type {(kind: string) => string} */
+export const isDumb = (kind) => `it draws on the whole screen, and a terminal of the kind '${kind}' (TERM) cannot do that`;
+/** @type {(least: string, columns: number, rows: number) => string} */
+export const tooSmall = (least, columns, rows) => `it needs a terminal of ${least}, and this one has ${columns} by ${rows}`;
+/** @type {(columns: number, rows: number) => string} */
+export const columnsByRows = (columns, rows) => `${columns} columns by ${rows} lines`;
+/** @type {(least: string, columns: number, rows: number) => string} */
+export const needsRoom = (least, columns, rows) => `panel: needs ${least}, this is ${columns} by ${rows}`;

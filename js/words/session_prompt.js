@@ -1,0 +1,33 @@
+// What people read at the prompt of mcs4 new and mcs4 open, beside the answers.
+
+// --- prompt/session_prompt.js ---
+export const BEGINNING = "help shows the lines, quit leaves.";
+export const OWN_TITLE = "At this prompt:";
+/** Lines of the prompt itself, and what they do. @type {[string, string][]} */
+export const OWN_LINES = [
+  ["wire FILE, asm FILE", "takes the text of the board, or program, in a file"],
+  ["map FILE", "shows the addresses of the program in a file"],
+  ["source FILE", "serves the lines of a file, up to an error"],
+  ["help LINE", "explains a line; also help places, help 41"],
+  ["quit", "leaves; so does Ctrl-D"],
+];
+export const KEYS_OF_PROMPT = "Tab completes a line, Up recalls earlier ones, Ctrl-C drops what is typed.";
+/** The title of the manual's section of places. */
+export const PLACES_TITLE = "Places";
+/** @type {(word: string) => string} */
+export const textDropped = (word) => `the text of ${word} is dropped`;
+/** @type {(name: string, line: number, words: string) => string} */
+export const inFile = (name, line, words) => `${name}: line ${line}: ${words}`;
+/** @type {(name: string, line: number, words: string) => string} */
+export const inText = (name, line, words) => `${name && `${name}: `}${line > 0 ? `line ${line}: ` : ""}${words}`;
+export const SOURCE_FORM = "source is written as: source FILE";
+/** @type {(most: number) => string} */
+export const tooDeep = (most) => `files serve the lines of others at most ${most} deep`;
+/** @type {(name: string, dropped: string) => string} */
+export const endsTooSoon = (name, dropped) => `${name} ends too soon; ${dropped}`;
+/** @type {(key: string, row: number, column: number) => string} */
+export const noKey = (key, row, column) => `the board has no key ${key}; its rows are 0 to ${row}, its columns 0 to ${column}`;
+/** @type {(place: string) => string} */
+export const noRomAt = (place) => `the board has no ROM with the address of ${place}; board shows its chips`;
+/** @type {(cycles: string) => string} */
+export const noRun = (cycles) => `a run takes 1 to 100,000 cycles, not ${cycles}`;

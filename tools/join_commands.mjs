@@ -1,0 +1,34 @@
+// Joins the modules of each command, or of some, to one file: `node join_commands.mjs FOLDER [NAME ..]`. For each command there is then FOLDER/NAME.cjs, which is
+// NAME's own part of js/node/command_line.mjs, and FOLDER/sources/NAME: a checksum, and below it the files that it is of, those of the sources
+// and the joined one. js/node/joined.cjs compares them before it takes a joined file. tools/ship calls it; it needs esbuild.
+import { execFileSync } from "node:child_process";
+import { mkdirSync, readFileSync, rmSync, writeFileSync } from "node:fs";
+import { join, resolve } from "node:path";
+import { COMMANDS } from "../js/node/commands/table.mjs";
+import { sumOfFiles } from "../js/node/joined.cjs";
+import { TOP } from "../js/node/top.mjs";
+
+const folder = resolve(process.argv[2]);
+const names = process.argv.length > 3 ? process.argv.slice(3) : Object.keys(COMMANDS);
+const ESBUILD = ["--bundle", "--platform=node", "--format=cjs", "--target=node18", "--minify", "--legal-comments=none", "--log-level=error",
+  // CommonJS has no import.meta.
+  "--define:import.meta.url=ownUrl", '--banner:js=const ownUrl=require("node:url").pathToFileURL(__filename).href;'];
+const META = join(folder, "meta.json");
+
+/** Returns the module that runs one command. */
+const entryOf = (name) => `import { runCommand } from "./js/node/command_line.mjs";
+import * as command from "./js/node/commands/${name}.mjs";
+export const run = (words) => runCommand("${name}", words, async () => command);
+`;
+
+mkdirSync(join(folder, "sources"), { recursive: true });
+for (const name of names) {
+  const file = join(folder, `${name}.cjs`);
+  const others = Object.keys(COMMANDS).filter((each) => each !== name).map((each) => `--external:./${each}.mjs`);
+  const words = [...ESBUILD, ...others, `--outfile=${file}`, `--metafile=${META}`, "--sourcefile=entry.mjs"];
+  execFileSync("esbuild", words, { cwd: TOP, input: entryOf(name) });
+  const { inputs } = JSON.parse(readFileSync(META, "utf8"));
+  const sources = Object.keys(inputs).filter((input) => input !== "entry.mjs").sort();
+  writeFileSync(join(folder, "sources", name), `${sumOfFiles([...sources.map((each) => join(TOP, each)), file])}\n${sources.join("\n")}\n`);
+}
+rmSync(META);
