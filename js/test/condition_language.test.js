@@ -3,10 +3,10 @@
 import assert from "node:assert/strict";
 import { readFileSync, readdirSync } from "node:fs";
 import { before, test } from "node:test";
-import { valueOfExpression } from "../core/adapter/values.js";
+import { valueOfExpression } from "../core/adapter/expression_values.js";
 import { Console } from "../core/adapter/console.js";
 import { putNames } from "../core/bench/names_in_lines.js";
-import { conditionOf, expressionOf, testConditionOf, tracedConditionOf } from "../core/conditions/conditions.js";
+import { conditionOf, expressionOf, testConditionOf, tracedConditionOf } from "../core/conditions/condition_language.js";
 import { LONGEST, MOST_DEPTH } from "../core/conditions/parser.js";
 import { readSetting } from "../core/conditions/setting.js";
 import { DebugSession } from "../core/debug/debug_session.js";
@@ -18,7 +18,7 @@ import { namesOfWatched, readWatched } from "../core/debug/watched.js";
 import { readCampaign } from "../core/explore/campaign.js";
 import { randomFrom } from "../core/explore/walks.js";
 import { Engine } from "../core/engine/engine.js";
-import { Prompt } from "../core/prompt/prompt.js";
+import { Prompt } from "../core/prompt/debugger_prompt.js";
 import { Account } from "../core/testing/account.js";
 import { TestSession } from "../core/testing/test_session.js";
 import { readTests } from "../core/testing/test_text.js";
@@ -102,7 +102,7 @@ const MEANT_THERE = [
 
 /** @type {DebugSession} */
 let session;
-/** @type {import("../core/conditions/conditions.js").Names} */
+/** @type {import("../core/conditions/condition_language.js").Names} */
 let names;
 before(() => {
   session = new DebugSession(engine, { board: BOARD, program: PROGRAM });

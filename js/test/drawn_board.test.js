@@ -6,7 +6,7 @@ import { readBoard } from "../core/bench/answers.js";
 import { Face } from "../core/board/face.js";
 import { actOn } from "../core/drawing/acts.js";
 import { sourcesOf } from "../core/drawing/board_lines.js";
-import { Drawing } from "../core/drawing/drawing.js";
+import { Drawing } from "../core/drawing/board_drawing.js";
 import { titleOf } from "../core/session/described.js";
 import { fieldsOf } from "../core/drawing/fields.js";
 import { lampLabels } from "../core/drawing/lamp_labels.js";

@@ -10,7 +10,7 @@ import { sessionProgram } from "../core/engine/session_program.js";
 import { romCodes } from "../core/engine/rom_codes.js";
 import { lampRowsOf, textOfCell } from "../core/panel/lamp_rows.js";
 import { largeRows } from "../core/panel/large_digits.js";
-import { Panel } from "../core/panel/panel.js";
+import { Panel } from "../core/panel/terminal_panel.js";
 import { Screen, hasRoom, middleRows } from "../core/panel/screen.js";
 import { keysIn } from "../core/panel/terminal_keys.js";
 import { sentText } from "../core/text/text_fault.js";

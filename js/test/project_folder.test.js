@@ -6,7 +6,7 @@ import { join } from "node:path";
 import { test } from "node:test";
 import { ProjectFault, readProject } from "../core/project/project_folder.js";
 import { readProjectToml } from "../core/project/project_toml.js";
-import { projectIn } from "../node/project_folder.mjs";
+import { projectIn } from "../node/project_on_disk.mjs";
 
 const GOOD = "board = \"board.toml\"\nprogram = \"main.asm\" # the source\n";
 const bytesOf = (text) => new TextEncoder().encode(text);

@@ -1,7 +1,7 @@
 // The prompt of sessions, on the module: lines, texts, files, why a line is rejected, help, and what a line can go on with.
 import assert from "node:assert/strict";
 import { test } from "node:test";
-import { SessionPrompt } from "../core/prompt/session_prompt.js";
+import { SessionPrompt } from "../core/prompt/bench_prompt.js";
 import { folded, foldedMessage } from "../core/text/folded.js";
 import { Engine } from "../core/engine/engine.js";
 import { dataOfPage } from "../node/page_parts.mjs";

@@ -5,7 +5,7 @@ import { before, test } from "node:test";
 import { Cancelled } from "../core/bench/faults.js";
 import { wordsOfCoverage } from "../core/testing/coverage.js";
 import { withTenths } from "../core/bench/numbers.js";
-import { readTested, runTests } from "../core/testing/testing.js";
+import { readTested, runTests } from "../core/testing/test_suite.js";
 import { Engine } from "../core/engine/engine.js";
 import { moduleOfPage } from "./page_session.js";
 

@@ -4,7 +4,7 @@ import { test } from "node:test";
 import { BenchCalls } from "../core/engine/bench_calls.js";
 import { neededLines, recordPieces } from "../core/engine/wave_stream.js";
 import { VcdText, vcdParts } from "../core/waves/vcd.js";
-import { Waves } from "../core/waves/waves.js";
+import { Waves } from "../core/waves/wave_recording.js";
 import { examplesOfPage, moduleOfPage } from "./page_session.js";
 
 const [module, examples] = [moduleOfPage, examplesOfPage];

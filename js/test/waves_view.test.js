@@ -6,7 +6,7 @@ import { WaveWindow, ticksOf } from "../core/waves/wave_window.js";
 import {
   betweenText, cursorText, cyclesText, instructionText, microseconds, readCycles, recordedText, spokenText, valueText,
 } from "../core/waves/wave_words.js";
-import { Waves } from "../core/waves/waves.js";
+import { Waves } from "../core/waves/wave_recording.js";
 
 /** A line that changes at some moments. */
 function wavesWith(changes, cycles) {

@@ -744,7 +744,7 @@ export const keysWithoutNames = (board) => `${board} has no comments \`# row R: 
 /** @type {(answer: string, words: string) => string} */
 export const benchRejected = (answer, words) => `the bench answered: ${answer}: ${words}`;
 
-// --- session_program.mjs ---
+// --- program_on_file.mjs ---
 /** @type {(words: string) => string} */
 export const programEnded = (words) => `the session has ended: ${words || "no answer"}`;
 /** @type {(session: string, words: string) => string} */

@@ -38,7 +38,7 @@ export const isOneValue = (place) => `${place} is one value`;
 /** @type {(place: string, most: number, word: string) => string} */
 export const holds = (place, most, word) => `${place} holds 0 to ${most}, not ${word}`;
 
-// --- conditions/conditions.js ---
+// --- conditions/condition_language.js ---
 export const NO_CONDITION = "a condition is missing";
 /** @type {(what: string, is: string, want: string, isMany: boolean, isNot: boolean) => string} */
 export const hasToBe = (what, is, want, isMany, isNot) => (
@@ -137,6 +137,6 @@ export const valueIs = (text, value) => `${text} (${value})`;
 /** @type {(text: string) => string} */
 export const holdsAndMayNot = (text) => `${text} holds, and has not to`;
 
-// --- debug/soft_breakpoints.js, waves/trigger.js, adapter/values.js ---
+// --- debug/soft_breakpoints.js, waves/trigger.js, adapter/expression_values.js ---
 /** @type {(fault: string, column: number) => string} */
 export const inColumn = (fault, column) => `${fault} (column ${column + 1})`;

@@ -108,7 +108,7 @@ export const DELETE_LAST_ROW = "The rows of the keys are numbered from 0: delete
 /** @type {(count: number) => string} */
 export const allLampsOf = (count) => `all ${count} lamps of its display`;
 
-// --- drawing/drawing.js ---
+// --- drawing/board_drawing.js ---
 export const CANNOT_READ = "The board's text is written in a way that the picture cannot change; change it in Board.";
 /** @type {(why: string) => string} */
 export const benchRefuses = (why) => `The bench rejects the board's text: ${why}. Board shows where.`;

@@ -67,7 +67,7 @@ export const noNameOrAddress = (word, forms) => `${word} is neither a name of th
 /** @type {(word: string, forms: string) => string} */
 export const noAddress = (word, forms) => `${word} is not an address: ${forms}. Names are known while the source is the same as ROM.`;
 
-// --- machine/heat.js ---
+// --- machine/warmth.js ---
 /** @type {(line: string) => string} */
 export const theLine = (line) => `the line ${line}`;
 /** @type {(who: string) => string} */

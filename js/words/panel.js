@@ -1,6 +1,6 @@
 // What people read at the panel of a terminal, `mcs4 panel`.
 
-// --- panel/panel.js ---
+// --- panel/terminal_panel.js ---
 /** @type {(line: string, answer: string, words: string) => string} */
 export const refused = (line, answer, words) => `${line} is rejected: ${answer}: ${words}`;
 export const NOTHING_HERE = "this key does nothing here; the last line has those that do";

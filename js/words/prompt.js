@@ -62,7 +62,7 @@ export const BENCH_FORM = "it is written as bench LINE, as bench state";
 export const NO_FILE = "there is no file of the source to read";
 export const SOURCE_IN_ROM = "The source is in ROM.";
 
-// --- prompt/command_table.js ---
+// --- prompt/prompt_commands.js ---
 /** @type {(word: string) => string} */
 export const noCommand = (word) => `there is no command ${word}; help shows them all`;
 /** @type {(word: string, names: string) => string} */
@@ -131,7 +131,7 @@ export const backInSubroutine = (where) => `Back in the subroutine, at ${where}:
 /** @type {(where: string) => string} */
 export const backAt = (where) => `Back at ${where}: this instruction is not done.`;
 
-// --- prompt/prompt.js ---
+// --- prompt/debugger_prompt.js ---
 /** How the words of what did nothing begin. */
 export const NOTHING_DONE = "Nothing was done";
 export const PAGE_REMEMBERS = "the page remembers";

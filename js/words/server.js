@@ -87,7 +87,7 @@ export const cyclesOf = (cycles) => `, ${cycles} cycle${cycles === "1" ? "" : "s
 export const lineAt = (line, address, codes, cycles) => `line ${line}: address 0x${address}, ${codes}${cycles}`;
 export const NO_NAME_HERE = "There is no name of the program here.";
 
-// --- server/protocol.js ---
+// --- server/lsp_protocol.js ---
 /** @type {(what: string) => string} */
 export const isText = (what) => `${what} is a text`;
 export const POSITION_IS = "a position has a line and a character, whole numbers from 0";

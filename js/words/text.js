@@ -107,7 +107,7 @@ export const ran = (times) => `run ${times}`;
 /** @type {(taken: string, left: string) => string} */
 export const jumped = (taken, left) => `; it jumped ${taken}, and went on ${left}`;
 
-// --- text/editor_view.js ---
+// --- text/text_editor_view.js ---
 export const FAULTS = "Faults";
 /** @type {(size: string, most: string) => string} */
 export const notPutIn = (size, most) => `It was not put in: the text would have ${size} characters, and ${most} is the most.`;

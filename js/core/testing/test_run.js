@@ -14,8 +14,8 @@ import * as say from "../../words/testing.js";
 
 /**
  * @typedef {import("./account.js").Account} Account
- * @typedef {import("../conditions/conditions.js").Beside} Beside
- * @typedef {import("../conditions/conditions.js").Condition} Condition
+ * @typedef {import("../conditions/condition_language.js").Beside} Beside
+ * @typedef {import("../conditions/condition_language.js").Condition} Condition
  * @typedef {import("../engine/engine_host.js").EngineHost} Engine
  * @typedef {import("./prepared.js").Prepared} Prepared
  * @typedef {import("./test_text.js").Action} Action
