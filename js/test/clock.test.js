@@ -2,7 +2,7 @@
 import assert from "node:assert/strict";
 import { mock, test } from "node:test";
 import { Clock } from "../page/time/clock.js";
-import { REAL_CYCLES } from "../core/time/real_time.js";
+import { CYCLES_PER_SECOND } from "../core/time/mcs4_time.js";
 import { SPEEDS, speedOf } from "../core/time/speeds.js";
 
 /** Gives a clock that runs from 0 on, and what it called; `to` goes to a time, with a frame there. */
@@ -52,7 +52,7 @@ test("a key goes along with the cycles that are due and those of a frame, and th
   await to(30);
   assert.equal(calls.length, 2);
   await to(100);
-  assert.equal(sumOf(calls), Math.floor(REAL_CYCLES / 10));
+  assert.equal(sumOf(calls), Math.floor(CYCLES_PER_SECOND / 10));
   assert.equal(clock.now, 100);
 });
 
@@ -76,7 +76,7 @@ test("while a call is under way a key is told apart, and cycles follow at the en
   await settled();
   assert.deepEqual(calls, [[925], [186 + 1543]]);
   await to(60);
-  assert.equal(sumOf(calls), Math.floor(60 * REAL_CYCLES / 1000));
+  assert.equal(sumOf(calls), Math.floor(60 * CYCLES_PER_SECOND / 1000));
 });
 
 test("where that call ends the time nothing follows, and nothing is owed when it goes on", async () => {

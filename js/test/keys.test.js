@@ -2,7 +2,8 @@ import assert from "node:assert/strict";
 import { test } from "node:test";
 import { hintOfKeys, keyOfKeyboard, keysOf } from "../core/board/board_keys.js";
 import { Face } from "../core/board/face.js";
-import { DOWN_CYCLES, KeyQueue, LONGEST_RUN, UP_CYCLES, lineOfChange } from "../core/engine/key_queue.js";
+import { KeyQueue, LONGEST_RUN, lineOfChange } from "../core/engine/key_queue.js";
+import { KEY_DOWN_CYCLES, KEY_UP_CYCLES } from "../core/time/mcs4_time.js";
 
 const lines = (queue, cycles) => queue.plan(cycles).map((step) => step.line);
 
@@ -41,7 +42,7 @@ test("the lines of presses: keys by their places, TEST by its level", () => {
   const queue = new KeyQueue();
   queue.press("test 0");
   queue.release("test 0");
-  assert.deepEqual(lines(queue, 5000), ["test 0", `run ${DOWN_CYCLES}`, "test 1", "run 1000"]);
+  assert.deepEqual(lines(queue, 5000), ["test 0", `run ${KEY_DOWN_CYCLES}`, "test 1", "run 1000"]);
 });
 
 test("what is told below the keys", () => {
@@ -61,9 +62,9 @@ test("a press stays down and then up for its time, over several plans", () => {
   queue.release("0 1");
   queue.press("0 2");
   const first = queue.plan(5000);
-  assert.deepEqual(first.map(({ line }) => line), ["press 0 1", `run ${DOWN_CYCLES}`, "release 0 1", "run 1000"]);
-  queue.done(first, (at) => [0, DOWN_CYCLES, 0, 1000][at]);
-  assert.deepEqual(lines(queue, 1500), [`run ${UP_CYCLES - 1000}`, "press 0 2", "run 500"]);
+  assert.deepEqual(first.map(({ line }) => line), ["press 0 1", `run ${KEY_DOWN_CYCLES}`, "release 0 1", "run 1000"]);
+  queue.done(first, (at) => [0, KEY_DOWN_CYCLES, 0, 1000][at]);
+  assert.deepEqual(lines(queue, 1500), [`run ${KEY_UP_CYCLES - 1000}`, "press 0 2", "run 500"]);
 });
 
 test("a run that stops early leaves the rest of the time to wait", () => {
@@ -72,7 +73,7 @@ test("a run that stops early leaves the rest of the time to wait", () => {
   queue.release("0 1");
   const steps = queue.plan(3000);
   queue.done(steps, () => 10);
-  assert.deepEqual(lines(queue, 4000), [`run ${DOWN_CYCLES - 10}`, "release 0 1", "run 10"]);
+  assert.deepEqual(lines(queue, 4000), [`run ${KEY_DOWN_CYCLES - 10}`, "release 0 1", "run 10"]);
 });
 
 test("changes of a key can be forgotten, and all of them", () => {

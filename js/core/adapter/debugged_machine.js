@@ -2,7 +2,7 @@
 // is told once it stops.
 
 import { Cancelled } from "../bench/faults.js";
-import { CYCLE_TIME } from "../time/cycles.js";
+import { CYCLE_MS, FRAME_CYCLES } from "../time/mcs4_time.js";
 import { Shown } from "./shown.js";
 import { fail, wordsOf } from "./dap_protocol.js";
 import * as say from "../../words/adapter.js";
@@ -33,8 +33,6 @@ const REACHED = { stop: "pause", arrival: "arrival" };
 const MET = { break: "break", change: "watch", beginning: "beginning" };
 /** What is shown is looked at so many milliseconds after it was last. */
 const LOOK_TIME = 100;
-/** In real time so many cycles are done at once: a sixtieth of a second. */
-const REAL_PIECE = 1543;
 
 export class Machine {
   /**
@@ -45,7 +43,7 @@ export class Machine {
    */
   constructor(session, kept, calls, isRealTime = false) {
     this.isRealTime = isRealTime;
-    if (isRealTime) session.largestPiece = REAL_PIECE;
+    if (isRealTime) session.largestPiece = FRAME_CYCLES;
     /** When the move began. */
     this.begun = 0;
     this.session = session;
@@ -164,7 +162,7 @@ export class Machine {
    */
   async waitFor(cycles) {
     this.calls.looked();
-    const left = cycles * CYCLE_TIME - (performance.now() - this.begun);
+    const left = cycles * CYCLE_MS - (performance.now() - this.begun);
     if (left > 0) await new Promise((settle) => { setTimeout(settle, left); });
   }
 

@@ -1,9 +1,8 @@
 // Changes of keys that wait for their time. A program reads the keys only now and then, so that a key has to stay down, and then up,
 // for some time to be seen, however short the press was.
 
-/** 43 ms down and 22 ms up, in cycles. */
-export const DOWN_CYCLES = 4000;
-export const UP_CYCLES = 2000;
+import { KEY_DOWN_CYCLES, KEY_UP_CYCLES } from "../time/mcs4_time.js";
+
 /** The longest run of one line. */
 export const LONGEST_RUN = 100000;
 
@@ -27,7 +26,7 @@ export function runLines(cycles) {
  * @param {Change} change
  */
 function cyclesAfter(change) {
-  return change.word === "press" ? DOWN_CYCLES : UP_CYCLES;
+  return change.word === "press" ? KEY_DOWN_CYCLES : KEY_UP_CYCLES;
 }
 
 /**

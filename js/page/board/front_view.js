@@ -1,7 +1,8 @@
 // The front of a board: its title, its displays and lamps, and its keys, with what is at its TEST pin.
 
 import { hintOfKeys, keysOf } from "../../core/board/board_keys.js";
-import { Brightness, PERSISTENCE } from "../../core/board/brightness.js";
+import { Brightness } from "../../core/board/brightness.js";
+import { EYE_MS } from "../../core/time/mcs4_time.js";
 import { DisplayView } from "./display_view.js";
 import { Cell, block, button, element, oneStop, pressedSwitch, setStop } from "../ui/dom.js";
 import { Face, moreThan, sorted } from "../../core/board/face.js";
@@ -27,7 +28,7 @@ function isBare({ roms, banks, chains, lamps }) {
   return [roms, banks, chains, lamps].every((parts) => parts.length === 0);
 }
 
-const AS_SEEN = say.asSeen(PERSISTENCE);
+const AS_SEEN = say.asSeen(EYE_MS);
 
 /** Longer legends are written smaller. */
 const SHORT_LEGEND = 4;

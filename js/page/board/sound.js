@@ -1,6 +1,6 @@
 // The buzzer of a board: what its line does in real time is heard, by Web Audio, once that is asked for.
 
-import { REAL_CYCLES } from "../../core/time/real_time.js";
+import { CYCLES_PER_SECOND } from "../../core/time/mcs4_time.js";
 import { Cell, block, button, onClick, pressedSwitch } from "../ui/dom.js";
 import { SoundPieces } from "../../core/board/sound_samples.js";
 import * as say from "../../words/board.js";
@@ -41,12 +41,12 @@ class Player {
     if (!samples || this.end > now + MOST_AHEAD) return;
     // Before it runs, a context's time stands at 0.
     if (this.end <= now) this.end = now + AHEAD;
-    const buffer = this.context.createBuffer(1, samples.length, REAL_CYCLES);
+    const buffer = this.context.createBuffer(1, samples.length, CYCLES_PER_SECOND);
     buffer.copyToChannel(samples, 0);
     const source = new AudioBufferSourceNode(this.context, { buffer });
     source.connect(this.into);
     source.start(this.end);
-    this.end += samples.length / REAL_CYCLES;
+    this.end += samples.length / CYCLES_PER_SECOND;
   }
 }
 

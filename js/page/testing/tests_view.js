@@ -2,6 +2,7 @@
 
 import { Cell, below, block, buttonOf, element } from "../ui/dom.js";
 import { hex } from "../../core/bench/numbers.js";
+import { CYCLE_MS } from "../../core/time/mcs4_time.js";
 import { wordsOfCounts, wordsOfTime } from "../../words/results.js";
 import { wordsOfLine } from "../../words/stops.js";
 import * as say from "../../words/testing.js";
@@ -18,7 +19,7 @@ import * as say from "../../words/testing.js";
 
 /** @param {number} cycles */
 function milliseconds(cycles) {
-  return say.cyclesAndTime(cycles.toLocaleString("en"), (cycles * 0.0108).toFixed(1));
+  return say.cyclesAndTime(cycles.toLocaleString("en"), (cycles * CYCLE_MS).toFixed(1));
 }
 
 export class TestsView {

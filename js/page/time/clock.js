@@ -2,7 +2,8 @@
 // But for full speed, a page that is hidden stands still, and so it does while the browser or the machine does not run the page at all.
 // In real time a key does not wait for the next frame: cycles are lent for it.
 
-import { LONG_GAP, MOST_AHEAD, REAL_CYCLES, RealTime } from "../../core/time/real_time.js";
+import { CYCLES_PER_SECOND } from "../../core/time/mcs4_time.js";
+import { LONG_GAP, MOST_AHEAD, RealTime } from "../../core/time/real_time.js";
 import { REAL, isFollowed, keepsKeys } from "../../core/time/speeds.js";
 
 /**
@@ -72,7 +73,7 @@ export class Clock {
    */
   setSpeed(speed) {
     this.speed = speed;
-    this.time.perSecond = speed.byInstruction ? 1 : REAL_CYCLES / speed.part;
+    this.time.perSecond = speed.byInstruction ? 1 : CYCLES_PER_SECOND / speed.part;
     if (this.isRunning) this.goOn();
   }
 
