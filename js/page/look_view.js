@@ -195,7 +195,7 @@ export class LookView {
       this.wiring.showTest(test === "1");
     }
     if (this.watcher && (keys || lamps !== undefined)) {
-      this.watcher.seeKeys(this.front.down.size);
+      this.watcher.seeKeys(this.front.down.count);
       this.watcher.seeLamps(this.front.marks);
     }
   }

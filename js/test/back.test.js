@@ -1,6 +1,7 @@
 // Going back and forward, on the module of the page itself.
 import assert from "node:assert/strict";
 import { test } from "node:test";
+import { matrixKey } from "../core/board/key_place.js";
 import { CycleCount } from "../core/engine/accepted.js";
 import { MOST_FORWARD, Timeline } from "../core/engine/timeline.js";
 import { FakeEngine } from "./fake_engine.js";
@@ -50,8 +51,8 @@ test("the last change of a place is told without going there: where going back t
 test("keys that were pressed while time ran are pressed again", async () => {
   const calls = await begin("calculator");
   calls.advance(20000);
-  calls.press("3 0");
-  calls.release("3 0");
+  calls.press(matrixKey(3, 0));
+  calls.release(matrixKey(3, 0));
   for (let frame = 0; frame < 20; frame++) calls.advance(1543);
   calls.halt();
   const after = calls.ask(ALL);

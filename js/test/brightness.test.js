@@ -3,6 +3,7 @@ import assert from "node:assert/strict";
 import { readFileSync } from "node:fs";
 import { test } from "node:test";
 import { Brightness, shineOf } from "../core/board/brightness.js";
+import { matrixKey } from "../core/board/key_place.js";
 import { EYE_MS } from "../core/time/mcs4_time.js";
 import { numberOf } from "../core/board/digit_patterns.js";
 import { DisplayText } from "../core/board/display_text.js";
@@ -213,13 +214,14 @@ test("digits that are shifted in are shown at once when they stand, and nothing 
   const example = examplesOfPage.find(({ name }) => name === "calculator");
   const calls = await begin(example);
   const seen = new Brightness(new Face(example.board), 43);
-  const pass = (cycles, key = "") => {
+  const pass = (cycles, key = null) => {
     seen.add(calls.advance(cycles, key).shone, (FRAME_TIME * cycles) / FRAME);
     return seen.patterns.map(numberOf).join(" ");
   };
   for (let frame = 0; frame < 60; frame++) pass(FRAME);
   let isAtOnce = 0;
-  [["2 0", "1"], ["2 1", "12"], ["2 2", "123"], ["1 0", "1234"], ["1 1", "12345"], ["1 2", "123456"]].forEach(([key, number], at) => {
+  [[2, 0, "1"], [2, 1, "12"], [2, 2, "123"], [1, 0, "1234"], [1, 1, "12345"], [1, 2, "123456"]].forEach(([row, column, number], at) => {
+    const key = matrixKey(row, column);
     const before = pass(FRAME + 137 * at);
     // What is lent for a key, and what was owed.
     isAtOnce += Number(pass(2 * FRAME - 100 * at, key) === number);

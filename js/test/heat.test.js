@@ -2,6 +2,7 @@
 import assert from "node:assert/strict";
 import { test } from "node:test";
 import { Cancelled } from "../core/bench/faults.js";
+import { pinKey } from "../core/board/key_place.js";
 import { PassingHeat, warmthOf, wordsOfHeat, wordsOfHeated, wordsOfPassing, wordsOfSeen } from "../core/machine/warmth.js";
 import { bytesOfSource, namesOfCharacters } from "../core/machine/ram_names.js";
 import { SourceMap } from "../core/machine/source_map.js";
@@ -56,7 +57,7 @@ test("while time runs the same is told of the cycles that pass, frame by frame",
   calls.watchRam(true);
   const passing = new PassingHeat();
   for (let frame = 0; frame < 20; frame++) {
-    if (frame === 5) calls.press("test 1");
+    if (frame === 5) calls.press(pinKey(1));
     const { warmed, cycles } = calls.advance(FRAME);
     assert.deepEqual([warmed.cycles, warmed.chips], [cycles, 1]);
     passing.add(warmed, cycles, 20 * FRAME);

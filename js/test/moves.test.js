@@ -2,6 +2,7 @@
 import assert from "node:assert/strict";
 import { test } from "node:test";
 import { begin, counterOf } from "./page_session.js";
+import { matrixKey } from "../core/board/key_place.js";
 
 /** How a goal was reached. */
 async function goOn(calls, goal, most) {
@@ -156,14 +157,14 @@ test("a goal among presses of keys comes at the cycle at which it is reached", a
   const before = calls.ask("lamps\n")[0];
   assert.equal((await calls.goOn({ kind: "change", place: "lamps" }, 100000)).found.end, "bound");
   const begun = calls.session.count.total;
-  let told = calls.advance(5000, "2 1");
+  let told = calls.advance(5000, matrixKey(2, 1));
   for (let frame = 0; !told.stop && frame < 100; frame++) told = calls.advance(1543);
   assert.deepEqual([told.stop.why, told.stop.cycles], ["goal", calls.session.count.total - begun]);
   assert.notEqual(calls.ask("lamps\n")[0], before);
   // A cycle before it they were as before.
   const again = await begin("calculator");
   again.advance(100000);
-  again.press("2 1");
+  again.press(matrixKey(2, 1));
   again.advance(told.stop.cycles - 1);
   assert.equal(again.ask("lamps\n")[0], before);
   again.advance(1);

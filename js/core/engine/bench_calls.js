@@ -33,6 +33,7 @@ import { recordAfter, recordBefore } from "./wave_recorder.js";
  * @typedef {import("./program_check.js").Checked} Checked
  * @typedef {import("./program_check.js").Program} Program
  * @typedef {import("../bench/protocol.js").Frame} Frame
+ * @typedef {import("../board/key_place.js").Key} Key
  * @typedef {import("../bench/protocol.js").ReachedLines} ReachedLines
  * @typedef {import("../bench/protocol.js").BrokenLines} BrokenLines
  * @typedef {import("../debug/soft_breakpoints.js").Placed} Placed
@@ -507,12 +508,12 @@ export class BenchCalls {
   /**
    * Lets so many cycles pass.
    * @param {number} cycles
-   * @param {string} [key] goes down before them, or when its time comes
+   * @param {Key | null} [key] goes down before them, or when its time comes
    * @returns {Frame}
    */
-  advance(cycles, key = "") {
-    if (key !== "") this.press(key);
-    const { look, ...told } = this.debugger.advance(cycles, key !== "");
+  advance(cycles, key = null) {
+    if (key) this.press(key);
+    const { look, ...told } = this.debugger.advance(cycles, key !== null);
     return { ...told, ...this.shown(look, false) };
   }
 
@@ -563,20 +564,20 @@ export class BenchCalls {
 
   /**
    * A key goes down while time runs; gives the changes that wait, as do the next two.
-   * @param {string} key
+   * @param {Key} key
    */
   press(key) {
     this.session.queue.press(key);
     return this.session.queue.changes;
   }
 
-  /** @param {string} key */
+  /** @param {Key} key */
   release(key) {
     this.session.queue.release(key);
     return this.session.queue.changes;
   }
 
-  /** @param {string} key a key whose changes that wait are forgotten */
+  /** @param {Key} key a key whose changes that wait are forgotten */
   forget(key) {
     this.session.queue.forget(key);
     return this.session.queue.changes;

@@ -38,7 +38,7 @@ export async function backOver(session, goesOn) {
 /**
  * A key is down for a while, and up; time passes meanwhile, up to a stop.
  * @param {DebugSession} session
- * @param {string} key `0 2`, or `test 0`
+ * @param {import("../board/key_place.js").Key} key
  * @param {GoesOn} goesOn
  */
 export function pressed(session, key, goesOn) {

@@ -7,11 +7,12 @@ import { LONG_GAP, MOST_AHEAD, RealTime } from "../../core/time/real_time.js";
 import { REAL, isFollowed, keepsKeys } from "../../core/time/speeds.js";
 
 /**
+ * @typedef {import("../../core/board/key_place.js").Key} Key
  * @typedef {import("../../core/time/speeds.js").Speed} Speed
  *
  * What the clock calls: so many cycles are due, perhaps with a key that goes down; an instruction is due; full speed begins; time stood
  * still for so many milliseconds; a call failed.
- * @typedef {{ advance: (cycles: number, key: string) => Promise<void>, instruct: () => Promise<void>, runFull: () => Promise<void>,
+ * @typedef {{ advance: (cycles: number, key: Key | null) => Promise<void>, instruct: () => Promise<void>, runFull: () => Promise<void>,
  *   stoodStill: (time: number, wasHidden: boolean) => void, failed: (fault: unknown) => void }} ClockCalls
  */
 
@@ -103,7 +104,7 @@ export class Clock {
   /**
    * A key goes down: it does not wait for the next frame. Gives whether it went along with the cycles; else it is yet to be told, and
    * where a call is under way, cycles follow at its end.
-   * @param {string} key
+   * @param {Key} key
    */
   pressNow(key) {
     if (!this.isRunning || this.isFull || this.speed.byInstruction) return false;
@@ -120,9 +121,9 @@ export class Clock {
    * Lets the cycles pass that are due; gives whether there are any.
    * @param {number} now
    * @param {number} [ahead] so many milliseconds are lent
-   * @param {string} [key] goes down before them
+   * @param {Key | null} [key] goes down before them
    */
-  frame(now, ahead = 0, key = "") {
+  frame(now, ahead = 0, key = null) {
     // Some browsers call a hidden page now and then. What is due while a call is under way is due at the next frame.
     if (document.hidden || this.isBusy) return false;
     const skipped = this.time.skipGap(now, Date.now());
@@ -134,7 +135,7 @@ export class Clock {
 
   /**
    * @param {number} due
-   * @param {string} key
+   * @param {Key | null} key
    */
   async pass(due, key) {
     this.isBusy = true;

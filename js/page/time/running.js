@@ -17,6 +17,7 @@ import * as say from "../../words/time.js";
  * @typedef {import("../../core/debug/goals.js").Goal} Goal
  * @typedef {import("../../core/bench/bench_client.js").Bench} Bench
  * @typedef {import("../session/current_session.js").CurrentSession} CurrentSession
+ * @typedef {import("../../core/board/key_place.js").Key} Key
  * @typedef {import("../../core/time/speeds.js").Speed} Speed
  *
  * What it calls: time begins to run, and stands still; what it has done is shown, logged and counted; what is drawn more seldom is drawn
@@ -146,10 +147,10 @@ export class Running {
 
   /**
    * @param {number} cycles
-   * @param {string} key goes down before them, "" for none
+   * @param {Key | null} key goes down before them
    */
   async advance(cycles, key) {
-    const arrived = key === "" ? () => {} : this.asked.send({ word: "press", key });
+    const arrived = key ? this.asked.send({ word: "press", key }) : () => {};
     const frame = await this.bench.call("advance", [cycles, key]).finally(arrived);
     this.ran(frame);
   }
@@ -279,7 +280,7 @@ export class Running {
   /**
    * A change of a key for the time that runs.
    * @param {"press" | "release" | "forget"} word
-   * @param {string} key
+   * @param {Key} key
    */
   queue(word, key) {
     const { bench, current, calls } = this;
@@ -293,7 +294,7 @@ export class Running {
 
   /**
    * Whether a key will be down once all is done that was asked for; while keys are as fingers put them, whether it is.
-   * @param {string} key
+   * @param {Key} key
    * @param {boolean} isDown whether the bench tells that it is
    */
   willBeDown(key, isDown) {

@@ -25,7 +25,7 @@ const CHANGES = { serve: true, serveTyped: true, goOn: true, goBack: true, goFor
  * @param {any[]} words
  */
 function pressesKey(call, words) {
-  return call === "advance" && words.length > 1 && words[1] !== "";
+  return call === "advance" && words.length > 1 && words[1] !== null;
 }
 
 class BenchWorker {
