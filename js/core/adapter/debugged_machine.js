@@ -18,9 +18,17 @@ import { stoppedAt } from "../../words/stops.js";
  *
  * How a move ended: its reason as the protocol has it, the words, and the breakpoint that stopped it, 0 for none.
  * @typedef {{ reason: string, words: string, id: number }} Ended
- *
- * @typedef {{ stopped: (ended: Ended) => void, output: (words: string, category: "console" | "stdout" | "stderr") => void,
- *   pause: () => Promise<void>, looked: () => void }} MachineCalls `pause` lets others have their turn; what is shown may be another now
+ */
+
+/**
+ * What a moved session calls of its front end.
+ * @typedef {object} MachineCalls
+ * @property {(ended: Ended) => void} stopped Reports that a move has ended. Called once for each move, after the session stands.
+ * @property {(words: string, category: "console" | "stdout" | "stderr") => void} output Prints words, which end with a line feed, in one of
+ *   the client's categories.
+ * @property {() => Promise<void>} pause Resolves after other work had its turn; called between the pieces of a move.
+ * @property {() => void} looked Reports that time has passed, so what a view shows may be old. Called at most ten times a second while
+ *   time runs.
  */
 
 /** @type {Record<string, string>} what the protocol calls why a run stopped */

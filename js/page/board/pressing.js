@@ -5,12 +5,18 @@ import { textOfKey } from "../../core/board/key_place.js";
 /**
  * @typedef {import("../../core/board/board_keys.js").BoardKey} BoardKey
  * @typedef {import("../../core/board/key_place.js").Key} Key
- *
- * What it calls: whether time runs; whether the bench tells a key to be down; changes of keys that wait for their time; and a change at
- * once, while time stands still.
- * @typedef {{ isRunning: () => boolean, isDown: (key: Key) => boolean, press: (key: Key) => void,
- *   release: (key: Key) => void, change: (word: "press" | "release", key: Key) => void,
- *   meant: (event: KeyboardEvent) => BoardKey | undefined }} PressingCalls
+ */
+
+/**
+ * What fingers and the keyboard call.
+ * @typedef {object} PressingCalls
+ * @property {() => boolean} isRunning Returns whether time runs, so that keys wait for their time.
+ * @property {(key: Key) => boolean} isDown Returns whether a key will be down after all that was asked for.
+ * @property {(key: Key) => void} press A key goes down when its time comes, while time runs.
+ * @property {(key: Key) => void} release A key goes up when its time comes, while time runs.
+ * @property {(word: "press" | "release", key: Key) => void} change Presses or releases a key at once, while time is paused.
+ * @property {(event: KeyboardEvent) => BoardKey | undefined} meant Returns the key of the board that a key of the keyboard stands for;
+ *   undefined if none, or if something else wants it.
  */
 
 /**

@@ -7,9 +7,13 @@ import * as say from "../../words/board.js";
 
 /**
  * @typedef {import("../../core/engine/sounding.js").Heard} Heard
- *
- * What it calls: the bench tells the edges of this line from here on, "" for none; whether time is at the speed of the real chip.
- * @typedef {{ listen: (line: string) => void, isReal: () => boolean }} SoundCalls
+ */
+
+/**
+ * What the buzzer calls.
+ * @typedef {object} SoundCalls
+ * @property {(line: string) => void} listen Asks the bench to report the edges of a line from here on; "" for none.
+ * @property {() => boolean} isReal Returns whether time runs at the speed of the real chip; else nothing is heard.
  */
 
 /** What is played at once, in cycles: 45 ms. */

@@ -9,11 +9,18 @@ import { REAL, isFollowed, keepsKeys } from "../../core/time/speeds.js";
 /**
  * @typedef {import("../../core/board/key_place.js").Key} Key
  * @typedef {import("../../core/time/speeds.js").Speed} Speed
- *
- * What the clock calls: so many cycles are due, perhaps with a key that goes down; an instruction is due; full speed begins; time stood
- * still for so many milliseconds; a call failed.
- * @typedef {{ advance: (cycles: number, key: Key | null) => Promise<void>, instruct: () => Promise<void>, runFull: () => Promise<void>,
- *   stoodStill: (time: number, wasHidden: boolean) => void, failed: (fault: unknown) => void }} ClockCalls
+ */
+
+/**
+ * What the clock calls as time becomes due.
+ * @typedef {object} ClockCalls
+ * @property {(cycles: number, key: Key | null) => Promise<void>} advance Lets cycles pass, with a key that goes down before them if it is
+ *   not null. Resolves once they are done.
+ * @property {() => Promise<void>} instruct Lets one instruction pass, at the speed of one a second.
+ * @property {() => Promise<void>} runFull Begins full speed, at which the worker goes on by itself.
+ * @property {(time: number, wasHidden: boolean) => void} stoodStill Time stood still for this many milliseconds, which are left out;
+ *   `wasHidden` if the page was hidden.
+ * @property {(fault: unknown) => void} failed Reports an error that a call threw.
  */
 
 export class Clock {

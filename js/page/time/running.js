@@ -19,13 +19,24 @@ import * as say from "../../words/time.js";
  * @typedef {import("../session/current_session.js").CurrentSession} CurrentSession
  * @typedef {import("../../core/board/key_place.js").Key} Key
  * @typedef {import("../../core/time/speeds.js").Speed} Speed
- *
- * What it calls: time begins to run, and stands still; what it has done is shown, logged and counted; what is drawn more seldom is drawn
- * now, and the listing; whether an instruction is in its middle; the cycles that were counted; where time stands still, with its name and
- * its line; when a breakpoint stops, in words; how many breakpoints have an error; what a refusal means; a step is served; a call failed.
- * @typedef {{ began: () => void, stood: () => void, took: (frame: Frame) => void, drawRest: () => void, drawListing: () => void,
- *   isOwed: () => boolean, cycles: () => number, where: () => string, when: (id: number) => string, unreadable: () => number,
- *   wordsOfRefusal: (number: number) => string, step: () => Promise<string | null>, failed: (fault: unknown) => void }} RunningCalls
+ */
+
+/**
+ * What running time calls of the page.
+ * @typedef {object} RunningCalls
+ * @property {() => void} began Time begins to run.
+ * @property {() => void} stood Time is paused, after all of it is shown.
+ * @property {(frame: Frame) => void} took Shows, logs and counts what time has done in a frame.
+ * @property {() => void} drawRest Draws what is drawn less often while time runs.
+ * @property {() => void} drawListing Draws the listing, which follows the counter or stays, by the speed.
+ * @property {() => boolean} isOwed Returns whether the counter is inside an instruction, whose second cycle is pending.
+ * @property {() => number} cycles Returns the cycles that the session has counted in all.
+ * @property {() => string} where Returns the counter with its name and its line, as words.
+ * @property {(id: number) => string} when Returns when the breakpoint with an id stops, as words.
+ * @property {() => number} unreadable Returns how many breakpoints have an error and stop each time.
+ * @property {(number: number) => string} wordsOfRefusal Returns what the number of a refusal means.
+ * @property {() => Promise<string | null>} step Serves a step. Resolves to its answer, null if the call failed.
+ * @property {(fault: unknown) => void} failed Reports an error that a call threw.
  */
 
 /** How often the session is kept while time runs. */
