@@ -290,7 +290,7 @@ test("what no trace shows is refused where nothing else is asked", () => {
 test("errors point at their column, and propose", () => {
   for (const [text, column, fault] of [
     ["accu = 10", 0, "accu: no such place; the accumulator is acc"], ["cy = 1 and carry = 1", 11, "carry: no such place; the carry is cy"],
-    ["r5 = 10 or (r4 = 3", 11, "this parenthesis is not closed"], ["r5 = 12x", 5, "12x is no number; numbers are 10, 0xA or 0b1010"],
+    ["r5 = 10 or (r4 = 3", 11, "this parenthesis is not closed"], ["r5 = 12x", 5, "12x is not a number; numbers are 10, 0xA or 0b1010"],
     ["r5 = 10)", 7, "): a condition ends before this; join two by and, or"], ["r5 = limits", 5, "limits: no such place; perhaps limit"],
     ["r5 ? 3", 3, "? has no meaning in a condition"], ["r5 =", 3, "a value is missing after ="], ["cy = 2", 5, "cy holds 0 to 1, not 2"],
     ["count > 16", 8, "count holds 0 to 15, not 16"], ["lamp 9 on or r5 = 1", 0, "the board has no lamp 9; it has: 1 2 4 8 or"],

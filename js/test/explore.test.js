@@ -105,7 +105,7 @@ test("what is wrong with a text of properties is told with what there is", () =>
   assert.match(faultsOf("wait 1 to 2 s")[0], /^1: it is written as `wait TIME to TIME`/);
   assert.match(faultsOf("wait 10 ms to 1 ms")[0], /^1: it is written as `wait TIME to TIME`/);
   assert.match(faultsOf("sometimes lamp on on")[0], /^1: no line begins with `sometimes`; they begin with press, test/);
-  assert.match(faultsOf("reach line 1000")[0], /^1: no instruction stands in line 1000/);
+  assert.match(faultsOf("reach line 1000")[0], /^1: line 1000 of the program has no instruction/);
   assert.match(faultsOf("model ./sum")[0], /names no display/);
   assert.match(faultsOf("lamp on on only after A")[0], /only after press KEY, press KEY/);
   assert.match(faultsOf("after press A lamp on on")[0], /after press KEY within TIME CONDITION/);
@@ -412,10 +412,10 @@ test("what is wrong with the state to begin with is told", async () => {
     return faults.map(({ line: at, words }) => `${at}: ${words}`).join();
   };
   assert.equal(await faultOf("from there"), "1: no test saves a state there; there is: lit both");
-  assert.equal(await faultOf("from lit", ""), "1: there are no tests, of which one saves the state lit");
+  assert.equal(await faultOf("from lit", ""), "1: there are no tests, so none saves the state lit");
   assert.match(await faultOf("from lit of"), /^1: it is written as `from STATE` or `from STATE of FILE.test`/);
   assert.match(await faultOf("from lit\nfrom both"), /^2: it begins from a state in a line before/);
-  assert.match(await faultOf("from lit", SAVING.replace("run 400", "rune 400")), /^1: its tests have a fault in line 3: no line of a test/);
+  assert.match(await faultOf("from lit", SAVING.replace("run 400", "rune 400")), /^1: its tests have an error in line 3: no line of a test/);
   const failing = SAVING.replace("run 400", "expect lamp on on");
   assert.match(await faultOf("from lit", failing), /^1: line 3 of its tests fails: expect lamp on on: /);
 });
@@ -441,7 +441,7 @@ test("what came of it is told in words", () => {
   assert.equal(wordsOfEnd(report({ ...property, found }, { ...goal, found }), true), "Stopped. 1 property is broken.");
   assert.equal(wordsOfProperty({ ...property, found }, report()), "broken by 2 steps, 1,200 cycles");
   assert.equal(wordsOfProperty(property, report()), "");
-  assert.equal(wordsOfProperty({ ...property, applied: false }, report()), "never looked at");
+  assert.equal(wordsOfProperty({ ...property, applied: false }, report()), "never checked");
   assert.equal(wordsOfProperty({ ...property, states: 12 }, report()), "holds for all 12 states");
   const skipped = { ...property, text: "model ./says", isSkipped: true };
   assert.match(wordsOfProperty(skipped, report()), /^a page cannot run a command; mcs4 explore --allow-model can$/);

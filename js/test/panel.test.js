@@ -166,7 +166,7 @@ test("what is refused is reported", async () => {
   const breaks = Array.from({ length: 32 }, (_, at) => `break ${100 + at}\n`).join("");
   const { typed, text } = await begun(COUNTER, { lines: breaks, isPaused: true });
   await typed("\t");
-  assert.match(text(), /break 0x000 is refused: no (\d+): words of \1\n/);
+  assert.match(text(), /break 0x000 is rejected: no (\d+): words of \1\n/);
 });
 
 test("a source: its lines in the listing, and the line that comes next above it", async () => {

@@ -94,7 +94,7 @@ export const DOT_ALONE = "a line that is a dot alone";
 export const noBoardBeside = (program) => `there is no board.toml beside ${program}: "board" names the board's text`;
 /** @type {(session: string) => string} */
 export const sessionNotThere = (session) => `${session} is not there; with "board" and "program" it is made`;
-export const PROGRAM_HAS_FAULTS = "the program has faults";
+export const PROGRAM_HAS_FAULTS = "the program has errors";
 /** @type {(hasRom: boolean, address: string) => string} */
 export const romDiffers = (hasRom, address) => `ROM has ${hasRom ? "another byte" : "no chip"} at 0x${address}`;
 /** @type {(program: string, session: string, why: string) => string} */

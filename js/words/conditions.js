@@ -15,7 +15,7 @@ export const otherPattern = (wanted, count) => `a pattern of ${wanted} lamps; th
 export const litLamps = (names) => `; lit: ${names}`;
 export const LAMP_FORM = "it is written as `lamp NAME on` or `lamp NAME off`";
 export const NO_DISPLAY = "the board's text names no display (`# display 0: 4 digits`)";
-export const DISPLAY_FORM = "it is written as `display TEXT`, as in: display -18; its text is compared, and is no number";
+export const DISPLAY_FORM = "it is written as `display TEXT`, as in: display -18; its text is compared, not as a number";
 export const NO_PRINTER = "the board's text names no printer (`# printer rom0.2: ram0.2 0 1 2 + feed`)";
 export const PRINTED_FORM = "it is written as `printed TEXT`, the last lines of the paper, as in: printed 12+ 30= 42";
 export const CYCLES_FORM = "it is written as `cycles TIME`, `cycles at most TIME` or `cycles at least TIME`";
@@ -58,7 +58,7 @@ export const NO_END_OF_TEXT = "a text ends with a quotation mark";
 /** @type {(word: string) => string} */
 export const noSign = (word) => `${word} has no meaning in a condition`;
 /** @type {(text: string) => string} */
-export const noNumeral = (text) => `${text} is no number; numbers are 10, 0xA or 0b1010`;
+export const noNumeral = (text) => `${text} is not a number; numbers are 10, 0xA or 0b1010`;
 
 // --- conditions/parser.js ---
 /** @type {(most: number) => string} */

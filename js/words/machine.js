@@ -150,7 +150,7 @@ export const DOT_ENDS = "a line with only a dot ends the text";
 /** @type {(line: number) => string} */
 export const inThatLine = (line) => ` in line ${line}`;
 /** @type {(where: string, what: string) => string} */
-export const sourceHasFault = (where, what) => `The source has a fault${where}: ${what}.`;
+export const sourceHasFault = (where, what) => `The source has an error${where}: ${what}.`;
 /** @type {(address: string, line: number) => string} */
 export const noRomAt = (address, line) => `The board has no ROM at ${address}, where line ${line} of the source goes.`;
 /** @type {(address: string, line: number) => string} */

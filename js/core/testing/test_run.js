@@ -187,7 +187,7 @@ export class TestRun {
     return stop === "code" ? say.runStopped(session.elapsed, this.wordsOfCode(session)) : "";
   }
 
-  /** @param {TestSession} session stands before a code that is no instruction */
+  /** @param {TestSession} session stands before a code that is not an instruction */
   wordsOfCode({ counter }) {
     return say.beforeCode(this.named(counter));
   }
