@@ -16,21 +16,21 @@ test("one stop back undoes what was done last, and forward does it again, to the
     await calls.serve(lines);
     seen.push(calls.ask(ALL));
   }
-  const file = Buffer.from(calls.session.file);
-  const { total, reset } = calls.session.count;
+  const file = Buffer.from(calls.bench.session.file);
+  const { total, reset } = calls.bench.session.count;
   for (const before of seen.slice(0, -1).reverse()) {
     assert.equal((await calls.goBack({ kind: "stop" })).isDone, true);
     assert.deepEqual(calls.ask(ALL), before);
   }
   assert.equal((await calls.goBack({ kind: "stop" })).why, "short");
-  assert.equal(calls.session.count.total, 0);
+  assert.equal(calls.bench.session.count.total, 0);
   for (const after of seen.slice(1)) {
     assert.equal(calls.goForward().isDone, true);
     assert.deepEqual(calls.ask(ALL), after);
   }
   assert.equal(calls.goForward().isDone, false);
-  assert.equal(Buffer.compare(file, calls.session.file), 0);
-  assert.deepEqual([calls.session.count.total, calls.session.count.reset], [total, reset]);
+  assert.equal(Buffer.compare(file, calls.bench.session.file), 0);
+  assert.deepEqual([calls.bench.session.count.total, calls.bench.session.count.reset], [total, reset]);
 });
 
 test("the last change of a place is told without going there: where going back to it leads", async () => {
@@ -70,8 +70,8 @@ test("an instruction back is where the trace has it, through stops and frames", 
   }
   const other = await begin("three lamps");
   // The frames end in the middle of instructions.
-  while (other.session.count.total < calls.session.count.total) {
-    other.advance(Math.min(7, calls.session.count.total - other.session.count.total));
+  while (other.bench.session.count.total < calls.bench.session.count.total) {
+    other.advance(Math.min(7, calls.bench.session.count.total - other.bench.session.count.total));
   }
   for (const counter of trace.reverse()) {
     assert.equal((await other.goBack({ kind: "instruction" })).isDone, true);

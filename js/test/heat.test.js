@@ -76,7 +76,7 @@ test("of several chips one is looked at in each frame, and of full speed a sampl
   assert.deepEqual(told.map(({ cells }) => cells.map(({ place, count }) => `${place} ${count}`)), [
     ["ram.0.0x12 10"], [], [], ["ram.0.0x12 10"], [], []]);
   assert.equal(calls.advance(50000).warmed, null);
-  const { warmed } = calls.session.senseAhead();
+  const { warmed } = calls.bench.session.senseAhead();
   assert.deepEqual([warmed.chips, warmed.cycles, warmed.cells.length], [3, 2778, 1]);
   assert.equal(wordsOfPassing(warmed, false), "Counted while time runs, in one of 3 chips at a time, at full speed in samples.");
   assert.equal(wordsOfPassing({ chips: 1 }, true), "Counted while time runs.");
@@ -122,7 +122,7 @@ test("long runs are looked through in parts, with the same result", async () => 
 
 test("it is cancelled like other long work, and a board without RAM has none", async () => {
   const calls = await ran(SETUP + 20 * TURN);
-  calls.goesOn = async () => false;
+  calls.bench.goesOn = async () => false;
   await assert.rejects(calls.heat(1000), Cancelled);
   const bare = await begin("three lamps");
   await bare.serve("wire\n[[rom]]\nchip = 0\nport = \"0000\"\n.\nrun 20\n");

@@ -54,7 +54,7 @@ test("the session is the same with and without a recording", async () => {
     calls.advance(5000);
   }
   assert.deepEqual(plain.calls.ask("state\n"), recording.calls.ask("state\n"));
-  assert.deepEqual(plain.calls.session.file, recording.calls.session.file);
+  assert.deepEqual(plain.calls.bench.session.file, recording.calls.bench.session.file);
 });
 
 test("only the last cycles are kept, and they are what they were", async () => {
