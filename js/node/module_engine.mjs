@@ -3,7 +3,6 @@
 import { closeSync, existsSync, openSync } from "node:fs";
 import { join } from "node:path";
 import { Engine } from "../core/engine/engine.js";
-import { runsOnModule } from "../words/commands.js";
 import { IS_RUN_BY_COMMAND } from "./children.mjs";
 import joined from "./joined.cjs";
 import { printError } from "./output.mjs";
@@ -26,10 +25,10 @@ function isFirstTime() {
 
 /**
  * Starts the module.
- * @param {string} fault why no native program is started
+ * @param {string} words say that it is used, and why; "" if that need not be said
  */
-export function startModule(fault) {
+export function startModule(words) {
   const engine = new Engine(new WebAssembly.Module(moduleOfPage()));
-  if (!process.env[IS_RUN_BY_COMMAND] && isFirstTime()) printError(`mcs4: ${runsOnModule(fault)}\n`);
+  if (words !== "" && !process.env[IS_RUN_BY_COMMAND] && isFirstTime()) printError(`mcs4: ${words}\n`);
   return engine;
 }

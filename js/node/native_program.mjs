@@ -1,6 +1,7 @@
 // Which program runs the sessions of commands, and the engine on it: the native program, or the proved module where no program is for the system.
 import { spawnSync } from "node:child_process";
 import { existsSync } from "node:fs";
+import { type } from "node:os";
 import { join } from "node:path";
 import { BenchRefusal } from "../core/bench/faults.js";
 import { readSource, sessionProgram } from "../core/engine/session_program.js";
@@ -8,7 +9,9 @@ import { MOST_GIVEN } from "./given_texts.mjs";
 import { NativeEngine } from "./native_engine.mjs";
 import { CommandError } from "./output.mjs";
 import { TOP } from "./top.mjs";
-import { inUse, needsProgram, noNamedProver, noProver, noProverHere, notForSystem, otherProgram, sessionRefused } from "../words/commands.js";
+import {
+  NO_PROGRAM_IN_COPY, inUse, needsProgram, noNamedProver, noProver, noProverHere, notForSystem, otherProgram, runsOnModule, sessionRefused,
+} from "../words/commands.js";
 
 /**
  * @typedef {import("../core/engine/engine_host.js").EngineHost} EngineHost
@@ -22,13 +25,15 @@ const STARTER = 'top=$0; . "$top/tools/lib/start.sh"; ';
 const FIND_PROGRAM = `${STARTER}find_or_build >&2; printf "%s\\n%s" "$program" "$fault"`;
 const FIND_PROVER = `${STARTER}find_prover; printf "%s\\n%s\\n" "$program" "$fault"; if is_without_program; then echo 1; fi`;
 
+const hasStarter = existsSync(join(TOP, "tools/lib/start.sh"));
+
 /**
  * Runs a script of the starter, which prints a program and why there is none; null where the starter or the shell is missing.
  * @param {string} script
  * @returns {Found | null}
  */
 function ask(script) {
-  if (!existsSync(join(TOP, "tools/lib/start.sh"))) return null;
+  if (!hasStarter) return null;
   const { status, stdout, error } = spawnSync("/bin/sh", ["-c", script, TOP], { encoding: "utf8", stdio: ["ignore", "pipe", "inherit"] });
   if (error) return null;
   if (status !== 0) process.exit(status || 1);
@@ -36,8 +41,8 @@ function ask(script) {
   return { program, fault, isForOthers: program === "" && isForOthers === "1" };
 }
 
-/** @returns {Found} what is found where no starter runs */
-const noneHere = () => ({ program: "", fault: notForSystem(process.platform, process.arch), isForOthers: true });
+/** @returns {Found} what is found where no starter runs: in an editor's extension there is none, and Windows has no shell for it */
+const noneHere = () => ({ program: "", fault: hasStarter ? notForSystem(type(), process.arch) : NO_PROGRAM_IN_COPY, isForOthers: true });
 
 /** @type {Found | null} the program, once it was looked for */
 let found = null;
@@ -81,7 +86,7 @@ export async function startEngine() {
   endOnSignals();
   if (program === "") {
     const { startModule } = await import("./module_engine.mjs");
-    return startModule(fault);
+    return startModule(hasStarter ? runsOnModule(fault) : "");
   }
   const engine = new NativeEngine(program);
   started = engine;

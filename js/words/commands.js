@@ -656,6 +656,7 @@ export const noProver = (fault) => (
 /** @type {(fault: string) => string} */
 export const noProverHere = (fault) => (
   `the program that searches, shipped/mcs4-prove, is not started: ${fault}. mcs4 explore tries keys here, but proves nothing`);
+export const NO_PROGRAM_IN_COPY = "this copy of the bench has no native program";
 /** @type {(platform: string, machine: string) => string} */
 export const notForSystem = (platform, machine) => `it is for Linux on x86-64, and this is ${platform} on ${machine}`;
 /** @type {(fault: string) => string} */

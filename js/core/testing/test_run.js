@@ -65,6 +65,8 @@ export class TestRun {
     this.up = UP;
     /** Whether a test may put other bytes into ROM, so that each one reads them again. */
     this.changesRom = true;
+    /** @type {(session: TestSession) => void} takes the session of each test at its end */
+    this.ran = () => {};
   }
 
   /**
@@ -91,6 +93,7 @@ export class TestRun {
     this.up = UP;
     const failure = await this.runSteps(session, steps, []);
     session.end();
+    this.ran(session);
     return { name, line, cycles: session.elapsed, failure };
   }
 
