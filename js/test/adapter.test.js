@@ -453,7 +453,8 @@ const THREE = "test it shows 12\n  run 10\n  save shown\n\ntest it goes on\n  fr
   + "test it fails\n  from shown\n  run 20\n  expect acc 9\n  run 5\n";
 
 test("a test is debugged: where it fails, or at its end, with its past", async () => {
-  const files = { ...FILES, "/lock/mcs4.toml": `${FILES["/lock/mcs4.toml"].replace(/^tests.*$/m, "")}\ntests = ["a b.test"]\n`, "/lock/a b.test": THREE };
+  const project = FILES["/lock/mcs4.toml"].replace(/^tests.*$/m, 'tests = ["a b.test"]');
+  const files = { ...FILES, "/lock/mcs4.toml": project, "/lock/a b.test": THREE };
   const { ask, begin, move, told } = served(files);
   await begin({ test: "it fails", tests: "/lock/a b.test" });
   const output = () => told.filter(({ event }) => event === "output").map(({ body }) => body.output).join("");
@@ -484,10 +485,11 @@ test("a client that draws the board is told what is printed, and clears it", asy
   await begin({ program: "/p/p.asm" });
   assert.deepEqual((await ask("watchBoard")).printed.codes, []);
   const lines = async (text) => {
-    for (const line of text.split("; ")) assert.equal((await answer("evaluate", { expression: line, context: "repl" })).success, true, line);
+    for (const line of text.split("; ")) assert.ok((await answer("evaluate", { expression: line, context: "repl" })).success, line);
   };
   await lines("run 20000; press 7; run 4000; release 7; run 16000; press +; run 4000; release +; run 60000");
-  const printed = () => told.filter(({ event, body }) => event === "boardShown" && body.printed).map(({ body }) => body.printed.codes.length);
+  const printed = () => told.filter(({ event, body }) => event === "boardShown" && body.printed)
+    .map(({ body }) => body.printed.codes.length);
   assert.ok(Math.max(...printed()) > 1, `what was printed: ${printed()}`);
   await ask("tearPaper");
   await lines("run 10");
