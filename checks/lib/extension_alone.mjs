@@ -58,7 +58,7 @@ async function tryTexts(editor) {
   const wrong = editor.open("lock/wrong.asm", "plaintext");
   verdict(wrong.languageId, "mcs4", "an .asm beside a board");
   const line = readFileSync(wrong.fileName, "utf8").split("\n").findIndex((each) => each.includes("JMP enter"));
-  verdict(await diagnosticsOf(editor, wrong), [[line, "JMP is no instruction; JUN?"]], "errors of a text, where no mcs4 is on the PATH");
+  verdict(await diagnosticsOf(editor, wrong), [[line, "JMP is not an instruction; JUN?"]], "errors of a text, where no mcs4 is on the PATH");
   verdict(await diagnosticsOf(editor, editor.open("lone/three_lamps.4004", "mcs4")), [], "a program called .4004");
   verdict(await diagnosticsOf(editor, editor.open("lone/three_lamps.test", "plaintext")), [], "its tests");
 }

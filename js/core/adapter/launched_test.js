@@ -5,14 +5,14 @@ import { DebugSession } from "../debug/debug_session.js";
 import { LONGEST_RUN } from "../engine/key_queue.js";
 import { besideOf } from "../server/kinds.js";
 import { failureLine } from "../testing/tap.js";
-import { runTests } from "../testing/testing.js";
-import { AdapterError } from "./protocol.js";
+import { runTests } from "../testing/test_suite.js";
+import { AdapterError } from "./dap_protocol.js";
 import * as say from "../../words/adapter.js";
 
 /**
  * @typedef {import("../engine/engine_host.js").EngineHost} Engine
  * @typedef {import("../testing/test_session.js").TestSession} TestSession
- * @typedef {import("../testing/testing.js").TestedTexts} TestedTexts
+ * @typedef {import("../testing/test_suite.js").TestedTexts} TestedTexts
  *
  * The texts of a test: the whole names of the texts of tests up to its own, board and program, and its name.
  * @typedef {{ name: string, file: string, tests: string[], board: string, program: string }} TestTexts
