@@ -19,12 +19,13 @@ elsewhere() {
     env -u MCS4 PATH="$other/bin:$PATH" XDG_CACHE_HOME="$other/cache" "$other/tree/mcs4" "$@"
 }
 
-# Compares output, errors and status of a command on both; standard input is a file.
+# Compares output, errors and status of a command on both, which run at a time; standard input is a file.
 same_on_module() {
     input=$1
     shift
-    outcome ./mcs4 "$@" < "$input" > "$folder/native"
+    outcome ./mcs4 "$@" < "$input" > "$folder/native" &
     outcome elsewhere "$@" < "$input" > "$folder/by_module"
+    wait "$!"
     verdict_of_files "$folder/by_module" "$folder/native" "on the module: mcs4 $*"
 }
 
@@ -42,7 +43,6 @@ for toml in examples/*/mcs4.toml; do
     name=${example#examples/}
     count=$((count + 1))
     for command in test cover profile; do same_on_module /dev/null $command -C "$example"; done
-    same_on_module /dev/null cover -C "$example" --lcov
     ./mcs4 script -C "$example" > "$folder/$name.txt"
     same_on_module /dev/null script -C "$example"
     begins "$name" < "$folder/$name.txt"
