@@ -7,7 +7,7 @@ import { firstChoice } from "../core/waves/wave_catalog.js";
 import { find, readSearch } from "../core/waves/wave_search.js";
 import { readTrigger } from "../core/waves/trigger.js";
 import { vcdParts } from "../core/waves/vcd.js";
-import { Waves } from "../core/waves/waves.js";
+import { Waves } from "../core/waves/wave_recording.js";
 import { begin, examplesOfPage } from "./page_session.js";
 
 const BOARD = readBoard([

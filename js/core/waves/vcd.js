@@ -2,7 +2,7 @@
 
 import { isDecoder } from "./decoders.js";
 
-/** @typedef {import("./waves.js").Waves} Waves */
+/** @typedef {import("./wave_recording.js").Waves} Waves */
 
 /** Units of time in a cycle of 10.8 microseconds: a unit is 100 ns. */
 const UNITS = 108;
