@@ -162,12 +162,12 @@ function nameInGutter(line) {
 }
 
 /**
- * The value at the active cursor; the label's stands in its row.
+ * The value at the active cursor; that of a label or a decoder stands in its row.
  * @param {Picture} picture
  * @param {number} line
  */
 function valueInGutter({ waves, view }, line) {
-  return waves.lines[line].kind === "label" ? "" : waves.valueAt(line, view.moment);
+  return waves.lines[line].kind === "label" || isDecoder(waves.lines[line]) ? "" : waves.valueAt(line, view.moment);
 }
 
 /**
