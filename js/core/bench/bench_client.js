@@ -23,6 +23,13 @@ import { WorkerDied, unpackFault } from "./faults.js";
  * @typedef {{ frame: (frame: Frame) => void, failed: (fault: Error) => void, died: () => void }} Listener
  */
 
+/**
+ * What makes the requests of some parts: each user declares the parts that it needs.
+ * @template Part
+ * @typedef {{ call<Name extends CallName & keyof Part>(call: Name, words: Parameters<Requests[Name]>, ways?: Ways):
+ *   Promise<Awaited<ReturnType<Requests[Name]>>> }} Caller
+ */
+
 /** A worker is asked for a sign of life so often, in milliseconds, while it owes something. */
 const WATCH_TIME = 1000;
 /** After so many times without one it counts as dead. */
