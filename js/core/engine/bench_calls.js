@@ -271,7 +271,7 @@ export class BenchCalls {
    * @returns {Promise<TypedLines>}
    */
   async serveTyped(lines) {
-    const typed = { id: 0, cut: "", cycles: 0, tally: NO_TALLY };
+    const typed = { id: 0, why: "", change: "", cut: "", cycles: 0, tally: NO_TALLY };
     const told = await this.served(async () => {
       const served = await this.debugger.serveTyped(lines, (done) => this.goesOn(done, lines.length));
       Object.assign(typed, served.typed);
