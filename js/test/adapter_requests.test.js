@@ -102,7 +102,8 @@ test("progress of a long run and of a search in the past is reported, and stoppe
     await until(() => stops().length === 3);
     const [start, ...more] = events().slice(before);
     assert.deepEqual([start.event, start.body.title, more[more.length - 1].event], ["progressStart", "Searching the past", "progressEnd"]);
-    assert.ok(more.slice(0, -1).every(({ event, body: { progressId } }) => event === "progressUpdate" && progressId === start.body.progressId));
+    const isOfThat = ({ event, body: { progressId } }) => event === "progressUpdate" && progressId === start.body.progressId;
+    assert.ok(more.slice(0, -1).every(isOfThat));
   }
 });
 
@@ -124,9 +125,10 @@ test("numbers are in the base that the client asks for", async () => {
   const ports = Object.values(await values(4, { hex: false }));
   assert.ok(ports.includes("0000000000") && ports.includes("out 0, in 0"), "bits are no number");
   const evaluated = async (expression, format) => (await ask("evaluate", { expression, format, context: "watch" })).result;
-  assert.deepEqual(await Promise.all([undefined, { hex: true }, { hex: false }].map((format) => evaluated("acc + 1", format))), ["12", "0xC", "12"]);
-  assert.deepEqual([await evaluated("acc - 12", { hex: true }), await evaluated("rom1.2", { hex: true }), await evaluated("acc", { hex: false })],
-    ["-0x1", "0x0", "11"]);
+  const sums = await Promise.all([undefined, { hex: true }, { hex: false }].map((format) => evaluated("acc + 1", format)));
+  assert.deepEqual(sums, ["12", "0xC", "12"]);
+  const others = [["acc - 12", { hex: true }], ["rom1.2", { hex: true }], ["acc", { hex: false }]].map((each) => evaluated(...each));
+  assert.deepEqual(await Promise.all(others), ["-0x1", "0x0", "11"]);
   assert.deepEqual([await evaluated("hash", { hex: true }), await evaluated("acc = 11", { hex: true })], ["0x0B", "true"]);
   assert.equal((await ask("setVariable", { variablesReference: 1, name: "acc", value: "12", format: { hex: false } })).value, "12");
   assert.equal((await ask("setExpression", { expression: "acc", value: "9", format: { hex: false } })).value, "9");
@@ -136,8 +138,8 @@ test("numbers are in the base that the client asks for", async () => {
   assert.deepEqual(await frames({ hex: true, line: true }), ["show + 0x2, line 81", "ready + 0x1, line 29"]);
   assert.ok((await ask("scopes", { frameId: 1, format: { hex: true } })).scopes.length > 0);
   for (const format of [3, { hex: "yes" }, []]) {
-    for (const [command, args] of [["variables", { variablesReference: 1 }], ["evaluate", { expression: "acc" }], ["stackTrace", { threadId: 1 }],
-      ["scopes", { frameId: 1 }]]) {
+    for (const [command, args] of [["variables", { variablesReference: 1 }], ["evaluate", { expression: "acc" }],
+      ["stackTrace", { threadId: 1 }], ["scopes", { frameId: 1 }]]) {
       assert.match((await answer(command, { ...args, format })).message, /^(format is an object|hex is true or false)/);
     }
   }
@@ -170,7 +172,8 @@ test("references of memory are numbers, by which a client can count", async () =
   assert.deepEqual(await read("0x000", -3, 3), ["-0x003", [], 3]);
   const bytes = (...all) => Buffer.from(all).toString("base64");
   assert.deepEqual(await ask("writeMemory", { memoryReference: "0x10010", offset: 1, data: bytes(4, 5) }), { offset: 0, bytesWritten: 2 });
-  assert.deepEqual(told.filter(({ event }) => event === "memory").map(({ body }) => body), [{ memoryReference: "0x10010", offset: 1, count: 2 }]);
+  const written = told.filter(({ event }) => event === "memory").map(({ body }) => body);
+  assert.deepEqual(written, [{ memoryReference: "0x10010", offset: 1, count: 2 }]);
   assert.deepEqual(await read("0x10010", 0, 4), ["0x10010", [0, 4, 5, 0], undefined]);
   const beyond = { memoryReference: "0x1003F", data: bytes(6, 6) };
   assert.match((await answer("writeMemory", beyond)).message, /outside/);
@@ -253,6 +256,23 @@ test("an error after a response leaves the requests that follow in their order",
   connection.follow({ after: () => { throw new Error("too late"); } });
   await until(({ body }) => body && body.output === "too late\n");
   assert.deepEqual((await ask("threads")).threads.length, 1);
+});
+
+test("what is asked while a stop is written to the session file is answered", async () => {
+  const file = sessionOfLock();
+  const { begin, ask, send, answerTo } = served(FILES, { "/s.mcs": file });
+  await begin({ session: "/s.mcs" });
+  const write = file.ask.bind(file);
+  let asked = 0;
+  file.ask = async (lines) => {
+    // It comes while the stop is being written.
+    asked = asked || send("setExceptionBreakpoints", { filters: ["calls"] });
+    for (let turn = 0; turn < 20; turn++) await new Promise(setImmediate);
+    return write(lines);
+  };
+  await ask("stepIn", { threadId: 1 });
+  for (let turn = 0; turn < 50 && asked === 0; turn++) await new Promise(setImmediate);
+  assert.ok((await answerTo(asked)).success);
 });
 
 test("of a message whose rest does not come the client gets the error", () => {

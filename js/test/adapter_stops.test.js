@@ -108,7 +108,8 @@ test("what is watched stops steps over, runs in the console and going back, and 
   assert.deepEqual([over.reason, /lamp 0 changed from \. to \*/.test(over.description)], ["data breakpoint", true]);
   assert.match(over.description, /; the return from the subroutine was not reached\.$/);
   await move("restart", {});
-  assert.match(await evaluate("run 5000", "repl"), /ran \d+ end\nPaused at .*lamp 0 changed from \. to \*\. The line run 5000 ended there\.$/);
+  const ended = /ran \d+ end\nPaused at .*lamp 0 changed from \. to \*\. The line run 5000 ended there\.$/;
+  assert.match(await evaluate("run 5000", "repl"), ended);
   await watch(server, { dataId: "r0" });
   const there = [];
   for (let stop = 0; stop < 4; stop++) {

@@ -149,8 +149,11 @@ export class Machine {
       ended = { reason: isPause ? "pause" : "exception", words, id: 0 };
     }
     this.isOpen = () => false;
-    await this.doWaiting();
-    await this.stand();
+    // What comes while the session is kept is done, too: nobody would do it later.
+    do {
+      await this.doWaiting();
+      await this.stand();
+    } while (this.waiting.length > 0);
     if (this.work) this.work.end();
     this.isMoving = false;
     this.calls.stopped(ended);
