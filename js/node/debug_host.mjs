@@ -3,7 +3,7 @@ import { closeSync, existsSync, fsyncSync, openSync, realpathSync } from "node:f
 import { dirname, isAbsolute, join, resolve } from "node:path";
 import { holderOf, readUnlocked } from "./file_locks.mjs";
 import { CommandError } from "./output.mjs";
-import { openProgram } from "./session_program.mjs";
+import { openProgram } from "./program_on_file.mjs";
 import { heldBy } from "../words/adapter.js";
 import { isInside, readUserFile, readUserText, replacementOf } from "./user_files.mjs";
 

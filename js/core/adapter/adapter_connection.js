@@ -4,7 +4,7 @@
 import { Cancelled } from "../bench/faults.js";
 import { fieldOf } from "../server/framing.js";
 import { MessageStream } from "../server/message_stream.js";
-import { AdapterError, CANCELLED, fail, needNumber, textOrNone, wordsOf } from "./protocol.js";
+import { AdapterError, CANCELLED, fail, needNumber, textOrNone, wordsOf } from "./dap_protocol.js";
 import * as say from "../../words/adapter.js";
 import { INITIALIZE_FIRST, INITIALIZE_ONCE, NOT_JSON } from "../../words/server.js";
 

@@ -3,13 +3,13 @@
 
 import { watchedPlaces } from "../bench/answers.js";
 import { LAST_ADDRESS } from "../bench/numbers.js";
-import { conditionOf } from "../conditions/conditions.js";
+import { conditionOf } from "../conditions/condition_language.js";
 import { BreakpointList, MOST_BREAKPOINTS, MOST_ON, instructionOfAddress, instructionOfLine } from "../debug/breakpoints.js";
 import { placeOf } from "../conditions/places.js";
 import { watchablePlace } from "../debug/data_watches.js";
 import { LARGEST_PIECE } from "../debug/debug_session.js";
 import { FRAME_CYCLES } from "../debug/usual_faults.js";
-import { listOf, needNumber, needText, textOrNone, wordsOf } from "./protocol.js";
+import { listOf, needNumber, needText, textOrNone, wordsOf } from "./dap_protocol.js";
 import * as say from "../../words/adapter.js";
 import { inColumn, noLabel } from "../../words/conditions.js";
 import { KINDS } from "../../words/debug.js";

@@ -16,12 +16,12 @@ import { Answering } from "./answering.js";
 import { ClientBreakpoints, dataOf } from "./client_breakpoints.js";
 import { Console, addressOf } from "./console.js";
 import { attach, differenceWords, launch } from "./launching.js";
-import { Machine } from "./machine.js";
+import { Machine } from "./debugged_machine.js";
 import { referenceOf } from "./memory.js";
-import { Moves, THREAD } from "./moves.js";
+import { Moves, THREAD } from "./move_requests.js";
 import { baseOf } from "./number_format.js";
 import { Progress } from "./progress.js";
-import { NOT_STOPPED, fail, listOf, needNumber, needText, textOrNone } from "./protocol.js";
+import { NOT_STOPPED, fail, listOf, needNumber, needText, textOrNone } from "./dap_protocol.js";
 import { Scopes } from "./scopes.js";
 import { ShownBoard, changeKey } from "./shown_board.js";
 import * as say from "../../words/adapter.js";
@@ -31,7 +31,7 @@ import * as say from "../../words/adapter.js";
  * @typedef {import("./adapter_connection.js").AdapterConnection} AdapterConnection
  * @typedef {import("./launching.js").Host} Host
  * @typedef {import("./launching.js").Launched} Launched
- * @typedef {import("./machine.js").Ended} Ended
+ * @typedef {import("./debugged_machine.js").Ended} Ended
  *
  * What is there once a session is launched.
  * @typedef {{ launched: Launched, machine: Machine, breakpoints: ClientBreakpoints, console: Console, answering: Answering }} Open

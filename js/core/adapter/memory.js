@@ -6,7 +6,7 @@ import { readRam, refusalOf } from "../bench/answers.js";
 import { LAST_ADDRESS, hex, numberOf } from "../bench/numbers.js";
 import { STATUS, placeOf } from "../conditions/places.js";
 import { romBytes } from "./disassembly.js";
-import { fail, flagOf, needNumber, needText } from "./protocol.js";
+import { fail, flagOf, needNumber, needText } from "./dap_protocol.js";
 import * as say from "../../words/adapter.js";
 
 /**

@@ -2,7 +2,7 @@
 // client asks for it (`format.hex`).
 
 import { fieldOf } from "../server/framing.js";
-import { fail, flagOf } from "./protocol.js";
+import { fail, flagOf } from "./dap_protocol.js";
 import * as say from "../../words/adapter.js";
 
 /** @typedef {"usual" | "hex" | "decimal"} Base */

@@ -1,6 +1,6 @@
 // Long work that the client shows (`progressStart`, `progressUpdate`, `progressEnd`), if it can, and that its user can stop.
 
-import { AdapterError } from "./protocol.js";
+import { AdapterError } from "./dap_protocol.js";
 import * as say from "../../words/adapter.js";
 
 /** Work is reported after so many milliseconds, and then again each time that so many have passed. */

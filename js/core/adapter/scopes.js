@@ -6,7 +6,7 @@ import { keysOf } from "../board/board_keys.js";
 import { Standing, wordsOfCharacter } from "../debug/standing.js";
 import { numberOfPlace, referenceOf, referenceOfBank } from "./memory.js";
 import { inBase, numberInBase } from "./number_format.js";
-import { setPlace } from "./setting.js";
+import { setPlace } from "./set_place.js";
 import * as say from "../../words/adapter.js";
 import { sourceOfBank } from "../../words/debug.js";
 
@@ -14,7 +14,7 @@ import { sourceOfBank } from "../../words/debug.js";
  * @typedef {import("../debug/debug_session.js").DebugSession} DebugSession
  * @typedef {import("../board/face.js").Face} Face
  *
- * A value with its name, what evaluates to it, and a reference to what is inside it, 0 for nothing. `place`: what setting.js sets it by,
+ * A value with its name, what evaluates to it, and a reference to what is inside it, 0 for nothing. `place`: what set_place.js sets it by,
  * "" where nothing does; `memory`: where it is for who reads memory; `isDecimal`: its value is a decimal number; `watched`: the place whose
  * changes can stop time.
  * @typedef {{ name: string, value: string, evaluateName?: string, place: string, inside: number, count?: number,

@@ -2,7 +2,7 @@
 // watches. They are found ahead, by questions, so that nothing of them is ever in the session.
 
 import { readBoard } from "../bench/answers.js";
-import { MOST_PLACES, tracedConditionOf } from "../conditions/conditions.js";
+import { MOST_PLACES, tracedConditionOf } from "../conditions/condition_language.js";
 import { placeOf } from "../conditions/places.js";
 import { LastChange } from "../engine/going_back.js";
 import { cyclesOf } from "../engine/rom_codes.js";
@@ -12,8 +12,8 @@ import { boardLacks, inColumn, tooManyPlaces } from "../../words/conditions.js";
 import { changedFrom, CHANGES_ALWAYS } from "../../words/debug.js";
 
 /**
- * @typedef {import("../conditions/conditions.js").Condition} Condition
- * @typedef {import("../conditions/conditions.js").Names} Names
+ * @typedef {import("../conditions/condition_language.js").Condition} Condition
+ * @typedef {import("../conditions/condition_language.js").Names} Names
  * @typedef {import("../conditions/places.js").Place} Place
  * @typedef {import("../engine/engine_host.js").EngineHost} Engine
  * @typedef {import("../engine/key_queue.js").PlannedLine} PlannedLine

@@ -27,7 +27,7 @@ import * as say from "../../words/debug.js";
  * A fault: the address of the instruction that is about to make it, after so many cycles of the lines, and what it is, in words. `isAgain`:
  * one of its kind was reported before.
  * @typedef {{ kind: Kind, address: number, cycles: number, words: string, isAgain?: boolean }} UsualFault
- * @typedef {import("../conditions/conditions.js").Condition} Condition
+ * @typedef {import("../conditions/condition_language.js").Condition} Condition
  * @typedef {{ faults: UsualFault[], stop: number }} Looked
  */
 

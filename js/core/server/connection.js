@@ -2,7 +2,9 @@
 
 import { fieldOf } from "./framing.js";
 import { MessageStream } from "./message_stream.js";
-import { CANCELLED, INTERNAL_ERROR, INVALID_REQUEST, METHOD_NOT_FOUND, NOT_INITIALIZED, PARSE_ERROR, ProtocolError } from "./protocol.js";
+import {
+  CANCELLED, INTERNAL_ERROR, INVALID_REQUEST, METHOD_NOT_FOUND, NOT_INITIALIZED, PARSE_ERROR, ProtocolError,
+} from "./lsp_protocol.js";
 import { IT_WAS_CANCELLED } from "../../words/bench.js";
 import * as say from "../../words/server.js";
 

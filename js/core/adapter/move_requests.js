@@ -7,14 +7,14 @@ import { fieldOf } from "../server/framing.js";
 import { Followed } from "./adapter_connection.js";
 import { framesOf } from "./frames.js";
 import { referenceOf } from "./memory.js";
-import { AdapterError, NOT_STOPPED, fail, needNumber } from "./protocol.js";
+import { AdapterError, NOT_STOPPED, fail, needNumber } from "./dap_protocol.js";
 import * as say from "../../words/adapter.js";
 import { NO_CALL_WAITS } from "../../words/stops.js";
 
 /**
  * @typedef {import("./adapter_connection.js").Act} Act
  * @typedef {import("./debug_adapter.js").DebugAdapter} DebugAdapter
- * @typedef {import("./machine.js").Machine} Machine
+ * @typedef {import("./debugged_machine.js").Machine} Machine
  */
 
 export const THREAD = 1;
