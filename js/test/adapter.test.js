@@ -2,7 +2,7 @@
 import assert from "node:assert/strict";
 import { test } from "node:test";
 import { LONGEST_MESSAGE, framed } from "../core/server/framing.js";
-import { CYCLES_OF_EYE } from "../core/engine/shining.js";
+import { EYE_CYCLES } from "../core/time/mcs4_time.js";
 import { FILES, FakeFile, LOCK, SOURCE, engine, served } from "./served_adapter.js";
 
 test("messages are answered in their order, each by a number of its own; what is none is told", async () => {
@@ -265,7 +265,7 @@ test("a client that draws the board is told it once, what changes, and moves key
   await until(({ event, body }) => event === "boardShown" && body.isRunning === false && news().length > 4);
   assert.ok(news().some(({ lamps }) => lamps === "*.."));
   const seen = news().filter(({ shone }) => shone);
-  assert.ok(seen.some(({ shone }) => shone.cycles === CYCLES_OF_EYE && shone.lamps[0] === CYCLES_OF_EYE));
+  assert.ok(seen.some(({ shone }) => shone.cycles === EYE_CYCLES && shone.lamps[0] === EYE_CYCLES));
   assert.equal(news().pop().shone, undefined);
   assert.equal(news().filter((each) => each.board).length, 0);
   await ask("restart", {});

@@ -8,7 +8,7 @@ import { BreakpointList, MOST_BREAKPOINTS, MOST_ON, instructionOfAddress, instru
 import { placeOf } from "../conditions/places.js";
 import { watchablePlace } from "../debug/data_watches.js";
 import { LARGEST_PIECE } from "../debug/debug_session.js";
-import { FRAME_CYCLES } from "../debug/usual_faults.js";
+import { CYCLES_OF_CALL } from "../debug/usual_faults.js";
 import { listOf, needNumber, needText, textOrNone, wordsOf } from "./dap_protocol.js";
 import * as say from "../../words/adapter.js";
 import { inColumn, noLabel } from "../../words/conditions.js";
@@ -297,7 +297,7 @@ export class ClientBreakpoints {
       return fault ? { verified: false, message: stopsEachTime(inColumn(fault, column)) } : { verified: true };
     });
     // All instructions are looked at only where so many cycles are done at once.
-    if (session.largestPiece >= FRAME_CYCLES) session.largestPiece = usual.stops.size > 0 ? FRAME_CYCLES : LARGEST_PIECE;
+    if (session.largestPiece >= CYCLES_OF_CALL) session.largestPiece = usual.stops.size > 0 ? CYCLES_OF_CALL : LARGEST_PIECE;
     return told;
   }
 
