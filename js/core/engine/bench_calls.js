@@ -5,6 +5,7 @@ import { readBoard, refusalOf } from "../bench/answers.js";
 import { Face } from "../board/face.js";
 import { Debugger, NO_TALLY, bothTallies, nearOf } from "../debug/debugger.js";
 import { Exploring, readExplored, readToExplore } from "../explore/exploring.js";
+import { beginProving, judgedLine } from "../prove/proving.js";
 import { SourceMap } from "../machine/source_map.js";
 import { WorkerSession } from "./worker_session.js";
 import { findBoardFault } from "../bench/board_fault.js";
@@ -71,6 +72,8 @@ export class BenchCalls {
     this.program = null;
     /** @type {Exploring | null} what is looked for */
     this.exploring = null;
+    /** @type {import("../prove/judging.js").Judging | null} what is proved */
+    this.proving = null;
   }
 
   get engine() {
@@ -220,6 +223,32 @@ export class BenchCalls {
   exploreOn(milliseconds) {
     if (!this.exploring) throw new Error("nothing is looked for");
     return this.exploring.goOn(milliseconds);
+  }
+
+  /**
+   * Begins to prove properties; returns the errors of the texts, and the number of properties.
+   * @param {import("../explore/exploring.js").ExploredTexts} texts
+   * @param {number} most states that a question searches
+   */
+  prove(texts, most) {
+    const breathe = async () => {
+      await this.goesOn(0, 0);
+    };
+    const { proving, faults } = beginProving(this.engine, texts, most, {
+      seen: async (states) => {
+        await this.goesOn(states, most);
+      },
+      breathe,
+    });
+    this.proving = proving;
+    return { faults, count: proving ? proving.all.length : 0 };
+  }
+
+  /** Judges the next property; returns null if all are judged. */
+  async proveNext() {
+    if (!this.proving) throw new Error("nothing is proved");
+    const judged = await this.proving.next();
+    return judged && judgedLine(judged);
   }
 
   // --- the session ---

@@ -6,6 +6,7 @@ import { BesideText } from "../text/beside_text.js";
 import { completeProperty, firstProperties, helpForProperty, propertyForms } from "../../core/text/property_words.js";
 import { wordsOfFaults } from "../../words/results.js";
 import { ExploreView } from "./explore_view.js";
+import { Proofs } from "../prove/proofs.js";
 import { markOfReport, wordsOfEnd, wordsSoFar } from "../../words/explored.js";
 import * as say from "../../words/explore.js";
 
@@ -16,19 +17,22 @@ import * as say from "../../words/explore.js";
  * @typedef {import("../../core/explore/exploring.js").Progress} Progress
  * @typedef {import("../../core/explore/report.js").Report} Report
  * @typedef {import("../../core/explore/explorer.js").Ended} Ended
+ * @typedef {import("../prove/proofs.js").ProofsCalls} ProofsCalls
  *
  * What was found in a session: the texts, how far it came, and the session of each find, by its property.
  * @typedef {{ texts: ExploredTexts, report: Report | null, files: Map<number, Uint8Array>, isStopped: boolean }} Explored
  *
  * What it calls: the texts of board, program and tests; the labels of the program; the faults of texts; what breaks properties is looked
- * for; what a refusal means; a line of the source is shown; the session of a find is opened; a test is added to those of the program,
- * which gives words of that; a few words stand on the tab; the text was edited; a call failed.
+ * for; what a refusal means; a line of the source is shown; the session of a find is opened; properties are proved; a session is opened
+ * after lines; a test is added to those of the program, which gives words of that; a few words stand on the tab; the text was edited; a
+ * call failed.
  * @typedef {{ texts: () => Omit<ExploredTexts, "propertiesText">, labels: () => string[],
  *   faults: (texts: ExploredTexts) => Promise<TextFault[]>,
  *   explore: (texts: ExploredTexts, asked: Asked, signal: AbortSignal, tell: (progress: Progress) => void) => Promise<Ended>,
  *   wordsOfRefusal: (number: number) => string, goToSource: (line: number) => void,
- *   open: (name: string, file: Uint8Array, texts: ExploredTexts) => void, addTest: (test: string) => string,
- *   mark: (words: string) => void, edited: () => void, failed: (fault: unknown) => void }} ExploreCalls
+ *   open: (name: string, file: Uint8Array, texts: ExploredTexts) => void, prove: ProofsCalls["prove"], openAfter: ProofsCalls["open"],
+ *   addTest: (test: string) => string, mark: (words: string) => void, edited: () => void,
+ *   failed: (fault: unknown) => void }} ExploreCalls
  */
 
 const NUMBERS = [
@@ -54,6 +58,7 @@ export class ExploreTab {
       faults: () => calls.faults(this.texts),
       counted: (count) => this.mark(count),
       send: () => this.exploreOrStop(),
+      prove: () => this.proofs.proveOrCancel(),
     });
     this.editor = this.beside.editor;
     this.view = new ExploreView({
@@ -66,6 +71,8 @@ export class ExploreTab {
     this.explored = /** @type {Map<string, Explored>} */ (new Map());
     /** The name of the session that is shown. */
     this.session = "";
+    /** How many errors the text has, as far as is known. */
+    this.faultCount = 0;
     /** What was told last of the search. */
     this.told = "";
     /** @type {AbortController | null} what ends the search that is under way */
@@ -73,6 +80,22 @@ export class ExploreTab {
     this.exploreButton = new Cell(button("explore"));
     this.exploreButton.set(say.EXPLORE);
     onClick(button("clear-finds"), () => this.clear());
+    this.proofs = this.makeProofs();
+  }
+
+  makeProofs() {
+    const { calls, editor } = this;
+    return new Proofs({
+      texts: () => this.texts,
+      prove: calls.prove,
+      goTo: (line) => editor.editor.select({ from: line, to: line }),
+      tell: (words) => editor.tell(words),
+      refuse: (faults) => this.refuse(faults),
+      open: calls.openAfter,
+      addTest: calls.addTest,
+      changed: () => this.showProofs(),
+      failed: calls.failed,
+    });
   }
 
   /** @returns {ExploredTexts} */
@@ -93,8 +116,9 @@ export class ExploreTab {
   /** @param {number} count how many faults the text has */
   mark(count) {
     const { shown } = this;
+    this.faultCount = count;
     if (count > 0) this.calls.mark(countOfFaults(count));
-    else this.calls.mark(shown && shown.report ? markOfReport(shown.report) : "");
+    else this.calls.mark((shown && shown.report ? markOfReport(shown.report) : "") || this.proofs.mark);
   }
 
   /**
@@ -106,14 +130,29 @@ export class ExploreTab {
     this.session = session;
     this.view.clear();
     this.show();
+    this.proofs.begin(session);
     this.look();
   }
 
+  /** Clears what was found, and what was proved. */
   clear() {
     this.stop();
     this.explored.delete(this.session);
     this.view.clear();
+    this.proofs.clear();
     this.show();
+  }
+
+  /** Shows what depends on proofs: the mark of the tab, and whether something can be cleared. */
+  showProofs() {
+    this.mark(this.faultCount);
+    this.offerClear();
+  }
+
+  /** What was found or proved can be cleared, once nothing is at work. */
+  offerClear() {
+    const { proofs } = this;
+    button("clear-finds").hidden = this.controller !== null || proofs.controller !== null || !(this.shown || proofs.shown);
   }
 
   /** Shows what was found so far in the session that is shown. */
@@ -121,7 +160,7 @@ export class ExploreTab {
     const { shown } = this;
     const goesOn = this.controller !== null;
     this.exploreButton.set(goesOn ? say.STOP : say.EXPLORE);
-    button("clear-finds").hidden = !shown || goesOn;
+    this.offerClear();
     if (shown && shown.report) this.view.show(shown.report, goesOn);
     this.mark(0);
     this.tell(this.wordsOf(shown, goesOn));

@@ -10,12 +10,12 @@ import * as say from "../../words/session.js";
  * @typedef {{ text: string, open: (session: string, text: string) => void, replaceText: (text: string) => void,
  *   undoOrRedo: (which: "undo" | "redo") => boolean }} TextEditor
  *
- * What it calls: the session that is shown; something is done in it; it is kept; names in the board's text may be others; a source
- * text of what is in ROM; whether each line of a program has an error; texts of a file were taken, of which one is to be seen, with lines
- * for the bench; a call failed.
- * @typedef {{ session: () => KeptSession | null, touch: () => void, keep: () => Promise<string>, named: (boardText: string) => void,
- *   source: () => Promise<string>, isNoProgram: (text: string) => Promise<boolean>, took: (seen: TextName, lines: string) => void,
- *   failed: (fault: unknown) => void }} TextsCalls
+ * What it calls: the session that is shown; something is done in it; it is kept; a text was edited; names in the board's text may be
+ * others; a source text of what is in ROM; whether each line of a program has an error; texts of a file were taken, of which one is to be
+ * seen, with lines for the bench; a call failed.
+ * @typedef {{ session: () => KeptSession | null, touch: () => void, keep: () => Promise<string>, edited: () => void,
+ *   named: (boardText: string) => void, source: () => Promise<string>, isNoProgram: (text: string) => Promise<boolean>,
+ *   took: (seen: TextName, lines: string) => void, failed: (fault: unknown) => void }} TextsCalls
  */
 
 /**
@@ -81,6 +81,7 @@ export class TextsController {
     record.testText = this.tests.text;
     record.propertiesText = this.properties.text;
     this.calls.touch();
+    this.calls.edited();
     clearTimeout(this.editing);
     this.editing = setTimeout(() => {
       this.calls.named(record.boardText);

@@ -16,8 +16,8 @@ import { COLOURS } from "../../core/text/test_colours.js";
  * What it calls as each such text does: the texts that it stands beside; the labels of the program; it was edited; a call failed.
  * @typedef {{ texts: () => { boardText: string }, labels: () => string[], edited: () => void, failed: (fault: unknown) => void }} TextCalls
  *
- * What it calls of its own: the faults of all texts; how many of them are of this one; it is sent.
- * @typedef {{ faults: () => Promise<TextFault[]>, counted: (count: number) => void, send: () => void }} OwnCalls
+ * What it calls of its own: the faults of all texts; how many of them are of this one; it is sent, or proved.
+ * @typedef {{ faults: () => Promise<TextFault[]>, counted: (count: number) => void, send: () => void, prove?: () => void }} OwnCalls
  */
 
 /**
@@ -53,6 +53,7 @@ export class BesideText {
     }, {
       edited: () => this.edited(),
       send: own.send,
+      prove: own.prove,
       toggleBreakpoint: () => {},
     });
     this.faults = new LiveFaults(() => this.find(), (faults) => this.showFaults(faults), calls.failed);

@@ -25,9 +25,9 @@ import * as say from "../../words/text.js";
  *
  * @typedef {import("../machine/breakpoint_row.js").BreakpointField} BreakpointField
  *
- * What an editor calls: its text was edited; it is sent; a breakpoint is wanted at a line, or is not wanted any more; its words are to be
+ * What an editor calls: its text was edited; it is sent; it is proved, if it can be; a breakpoint is wanted at a line, or is not wanted any more; its words are to be
  * edited; the menu of a line's margin is wanted.
- * @typedef {{ edited: (edits: Edit[]) => void, send: () => void, toggleBreakpoint: (line: number) => void,
+ * @typedef {{ edited: (edits: Edit[]) => void, send: () => void, prove?: () => void, toggleBreakpoint: (line: number) => void,
  *   editBreakpoint?: (line: number, what: BreakpointField) => void,
  *   askedMargin?: (line: number, point: { left: number, bottom: number }) => void }} EditorCalls
  *
@@ -92,6 +92,7 @@ export class EditorView {
       ...editorKeys("text.assembleAndRun", () => this.calls.send()),
       ...Object.assign({}, ...acts.map(([name, act]) => (
         editorKeys(/** @type {import("../commands/command_table.js").CommandId} */ (`text.${name}`), act)))),
+      ...(this.calls.prove ? editorKeys("properties.prove", this.calls.prove) : {}),
       ...editorKeys("debug.breakpoint", () => this.toggleBreakpoint()),
       ...editorKeys("debug.condition", () => this.editBreakpoint("condition")),
     };
