@@ -57,7 +57,8 @@ class Proving {
    */
   async ask(nevers) {
     const { board, program } = this.texts;
-    const { stdout, stderr, signal } = await runCommand(this.program, [], questionOf({ board: board.text, program: program.text }, nevers, this.most));
+    const question = questionOf({ board: board.text, program: program.text }, nevers, this.most);
+    const { stdout, stderr, signal } = await runCommand(this.program, [], question);
     const answer = readAnswer(stdout);
     if (!answer) throw new CommandError(say.proverEnded([stdout.trim(), stderr.trim(), signal].filter(Boolean).join("; ")));
     return answer;

@@ -1,13 +1,13 @@
 // Proofs on the page: the bound that doubles, what is asked together, which verdicts still stand, the worker, and what is said of all.
 import assert from "node:assert/strict";
 import { test } from "node:test";
-import { Bench } from "../core/bench/bench.js";
+import { Bench } from "../core/bench/bench_client.js";
 import { BenchCalls } from "../core/engine/bench_calls.js";
 import { Engine } from "../core/engine/engine.js";
 import { Prover } from "../core/prove/prover.js";
-import { beginProving, boundsUpTo, judgedLine } from "../core/prove/proving.js";
-import { lineNow, stillStands } from "../core/prove/standing.js";
-import { markOf, markOfTab, wordsOfEnd, wordsOfVerdict, wordsSoFar } from "../words/proofs.js";
+import { beginProving, boundsUpTo, judgedLine } from "../core/prove/bounded_proof.js";
+import { lineNow, stillStands } from "../core/prove/still_valid.js";
+import { markOf, markOfTab, wordsOfEnd, wordsOfVerdict, wordsSoFar } from "../words/proved.js";
 import { moduleOfPage } from "./page_session.js";
 
 // The lamp is on while TEST is 0; R1 counts how often that was looked at.

@@ -16,7 +16,7 @@ export const BEGINS_LATER = "a proof begins at power-on, and the text begins els
 export const excluded = (steps) => `only inputs that the text excludes break it so far (${steps})`;
 export const NOT_CONFIRMED = "the bench does not confirm the counterexample that was found";
 
-// --- prove/proving.js ---
+// --- prove/bounded_proof.js ---
 /** @type {(states: string) => string} */
 export const moreThan = (states) => `more than ${states} states; a larger number beside Prove allows more`;
 /** @type {(states: string) => string} */
@@ -67,7 +67,7 @@ export const BEFORE_GOAL = "a new session, stopped before the step that reaches 
 export const ADD_TO_TESTS = "Add it to the tests";
 export const AT_END = "at the end of Tests";
 
-// --- words/proofs.js ---
+// --- words/proved.js ---
 /** What is said of a property, in one or two words. */
 export const MARKS = { proved: "proved", never: "never reached", fails: "can fail", reached: "reached", open: "not decided" };
 /** @type {(states: string) => string} */

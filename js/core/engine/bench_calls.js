@@ -5,7 +5,7 @@ import { readBoard, refusalOf } from "../bench/answers.js";
 import { Face } from "../board/face.js";
 import { Debugger, NO_TALLY, bothTallies, nearOf } from "../debug/debugger.js";
 import { Exploring, readExplored, readToExplore } from "../explore/exploring.js";
-import { beginProving, judgedLine } from "../prove/proving.js";
+import { beginProving, judgedLine } from "../prove/bounded_proof.js";
 import { SourceMap } from "../machine/source_map.js";
 import { WorkerSession } from "./worker_session.js";
 import { findBoardFault } from "../bench/board_fault.js";
@@ -16,9 +16,9 @@ import { FullSpeed } from "./full_speed.js";
 import { heatOf } from "./heat.js";
 import { Heating } from "./heating.js";
 import { differenceOf, leftoversOf, readProgram } from "./program_check.js";
-import { sourceOfRom, textsOfFile } from "./sources.js";
+import { sourceOfRom, textsOfFile } from "./texts_of_file.js";
 import { sentText } from "../text/text_fault.js";
-import { readTested, runTests } from "../testing/testing.js";
+import { readTested, runTests } from "../testing/test_suite.js";
 import { tryTexts } from "./trying.js";
 import { recordedProgram } from "../waves/wave_program.js";
 import { LiveRecorder } from "./live_recorder.js";
@@ -181,7 +181,7 @@ export class BenchCalls {
 
   /**
    * What is wrong with a text of tests, or with the texts that it is for.
-   * @param {import("../testing/testing.js").TestedTexts} texts
+   * @param {import("../testing/test_suite.js").TestedTexts} texts
    */
   testFaults(texts) {
     return readTested(this.engine, texts).faults;
@@ -189,7 +189,7 @@ export class BenchCalls {
 
   /**
    * Runs tests on sessions of their own.
-   * @param {import("../testing/testing.js").TestedTexts} texts
+   * @param {import("../testing/test_suite.js").TestedTexts} texts
    */
   runTests(texts) {
     return runTests(this.engine, texts, (done, total) => this.goesOn(done, total));

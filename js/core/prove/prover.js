@@ -4,10 +4,10 @@
 import { WorkerDied } from "../bench/faults.js";
 
 /**
- * @typedef {import("../bench/bench.js").Bench} Bench
+ * @typedef {import("../bench/bench_client.js").Bench} Bench
  * @typedef {import("../explore/exploring.js").ExploredTexts} ExploredTexts
  * @typedef {import("../testing/prepared.js").TextFault} TextFault
- * @typedef {import("./proving.js").JudgedLine} JudgedLine
+ * @typedef {import("./bounded_proof.js").JudgedLine} JudgedLine
  *
  * How far it is: the properties that are judged, the number of all, and the states that the question at work has searched in vain.
  * @typedef {{ judged: JudgedLine[], count: number, states: number }} Progress

@@ -1,6 +1,6 @@
 // Whether a test that was written of a find is judged as the find says.
 
-import { runTests } from "./testing.js";
+import { runTests } from "./test_suite.js";
 
 /**
  * Returns whether a test fails on a board and a program; of a goal, whether it passes.

@@ -2,8 +2,8 @@
 // the texts are those that they were given for.
 
 import { Cell, button, field, onClick } from "../ui/dom.js";
-import { lineNow, stillStands } from "../../core/prove/standing.js";
-import { markOfTab, wordsOfEnd } from "../../words/proofs.js";
+import { lineNow, stillStands } from "../../core/prove/still_valid.js";
+import { markOfTab, wordsOfEnd } from "../../words/proved.js";
 import * as say from "../../words/prove.js";
 import { ProofsView } from "./proofs_view.js";
 
@@ -11,7 +11,7 @@ import { ProofsView } from "./proofs_view.js";
  * @typedef {import("../../core/explore/exploring.js").ExploredTexts} ExploredTexts
  * @typedef {import("../../core/prove/prover.js").Ended} Ended
  * @typedef {import("../../core/prove/prover.js").Progress} Progress
- * @typedef {import("../../core/prove/proving.js").JudgedLine} JudgedLine
+ * @typedef {import("../../core/prove/bounded_proof.js").JudgedLine} JudgedLine
  * @typedef {import("../../core/testing/prepared.js").TextFault} TextFault
  *
  * What came of a session's properties: the texts, how many states were allowed, how far it is.

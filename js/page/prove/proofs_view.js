@@ -1,14 +1,14 @@
 // What comes of proving properties: a row for each of them, with its verdict, and how far the search is.
 
 import { Cell, Switch, below, block, buttonOf, element } from "../ui/dom.js";
-import { isRight, markOf, wordsOfVerdict, wordsSoFar } from "../../words/proofs.js";
+import { isRight, markOf, wordsOfVerdict, wordsSoFar } from "../../words/proved.js";
 import * as say from "../../words/prove.js";
 import { wordsOfLine } from "../../words/stops.js";
 
 /**
  * @typedef {import("../../core/prove/counterexample.js").Counterexample} Counterexample
  * @typedef {import("../../core/prove/prover.js").Progress} Progress
- * @typedef {import("../../core/prove/proving.js").JudgedLine} JudgedLine
+ * @typedef {import("../../core/prove/bounded_proof.js").JudgedLine} JudgedLine
  *
  * @typedef {object} ProofCalls
  * @property {(judged: JudgedLine) => void} goTo shows the line of a property in the text

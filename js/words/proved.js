@@ -6,7 +6,7 @@ import * as say from "./prove.js";
 
 /**
  * @typedef {import("../core/prove/prover.js").Progress} Progress
- * @typedef {import("../core/prove/proving.js").JudgedLine} JudgedLine
+ * @typedef {import("../core/prove/bounded_proof.js").JudgedLine} JudgedLine
  */
 
 /** @param {JudgedLine} judged */

@@ -3,7 +3,7 @@
 import { isSetting } from "../explore/campaign.js";
 
 /**
- * @typedef {import("./proving.js").JudgedLine} JudgedLine
+ * @typedef {import("./bounded_proof.js").JudgedLine} JudgedLine
  * @typedef {{ boardText: string, programText: string, propertiesText: string }} ProvedTexts
  */
 
