@@ -39,6 +39,12 @@ def prove(browser, states=1000000):
     browser.click("#prove")
 
 
+def prove_to_end(browser, what, states=1000000):
+    """Proves, and waits for the end: the button is itself again."""
+    prove(browser, states)
+    comes(browser, what, BUTTON, "Prove", LONG)
+
+
 def proved_by_tool(browser, folder, mcs4):
     """What mcs4 prove says of the texts of the page."""
     names = [("board", "board.toml"), ("program", "program.asm"), ("properties", "some.props")]
@@ -100,6 +106,7 @@ def check_counterexample(browser):
     browser.click(row)
     comes(browser, "it is opened", NAME, "never lamp lit on")
     comes(browser, "before the step that breaks it", STATUS, "The next step breaks: never lamp lit on")
+    comes(browser, "the way back to the session is offered", NOTICE, re.compile('The session "empty bench" is kept'))
     verdict("with the source in front", browser.script("return document.getElementById('program-tab').getAttribute('aria-selected')"), "true")
     verdict("the lamp is off there", lines_answered(browser, "lamps").endswith("lamps .."), True)
     browser.click("#step")
@@ -111,7 +118,6 @@ def check_counterexample(browser):
     comes(browser, "to where it was opened", counter, "3 cycle")
     browser.click("#back-instruction")
     comes(browser, "and before that", counter, "2 cycle")
-    comes(browser, "the way back to the session is offered", NOTICE, re.compile("is kept"))
 
 
 def check_kinds(browser):
@@ -119,21 +125,22 @@ def check_kinds(browser):
     choose_example(browser, "empty bench")
     put(browser, "board", BOARD)
     put(browser, "program", PROGRAM)
-    put(browser, "properties", "test\nnever lamp 1 on\nnever lamp lit on\nreach lamp lit on\nreach lamp 1 on\nnever TEST 0\n")
-    prove(browser)
-    comes(browser, "it comes to its end", TOLD, "1 proved, 1 can fail, 1 reached, 1 never reached, 1 not decided.", LONG)
-    verdict("each verdict", browser.script(ROWS), [
+    put(browser, "properties", "test\nnever lamp 1 on\nnever lamp lit on\nreach lamp lit on\nreach lamp 1 on\nevery 1 ms @look\n")
+    prove_to_end(browser, "it comes to its end")
+    verdict("what came of all is said", browser.script(TOLD), "1 proved, 1 can fail, 1 reached, 1 never reached, 1 not decided.")
+    rows = browser.script(ROWS)
+    verdict("each verdict", rows[:4], [
         "proved | never lamp 1 on | for all inputs: 32 states", "can fail | never lamp lit on | broken by 1 step, 4 cycles",
-        "reached | reach lamp lit on | reached by 1 step, 4 cycles", "never reached | reach lamp 1 on | for all inputs: 32 states",
-        "not decided | never TEST 0 | its condition looks at TEST, an input"])
+        "reached | reach lamp lit on | reached by 1 step, 4 cycles", "never reached | reach lamp 1 on | for all inputs: 32 states"])
+    verdict("and a form that is not decided", rows[4:], re.compile(r"^\['not decided \| every 1 ms @look \| a property of the form"))
     verdict("one of them is lit", browser.script(LIT), 1)
     check_counterexample(browser)
     browser.click("#sessions-button")
     browser.until("return document.getElementById('sessions').open", True)
     browser.click("#kept button[aria-label='open empty bench']")
     comes(browser, "back in the session, its verdicts are there", LIT, 1)
-    prove(browser, 20)
-    comes(browser, "too many states decide nothing", ROWS, re.compile("'not decided . never lamp 1 on . more than 20 states; a larger number"), LONG)
+    prove_to_end(browser, "20 states are soon searched", 20)
+    verdict("too many states decide nothing", browser.script(ROWS), re.compile("'not decided . never lamp 1 on . more than 20 states; a larger number"))
     browser.click("#clear-finds")
     verdict("what was proved is cleared", browser.script("return isShown(document.getElementById('proof-results'))"), False)
 
@@ -143,11 +150,11 @@ def check_wrong(browser):
         prove(browser, states)
         verdict(f"{states or 'no'} states are refused", browser.script(TOLD), "The states are a number, 1 to 999,999,999.")
     put(browser, "properties", "never lamp purple on\n")
-    prove(browser)
-    comes(browser, "errors are told, and nothing is proved", TOLD, re.compile("^Nothing was run: Properties, line 1: the board has no lamp purple"), 60)
+    prove_to_end(browser, "nothing is proved of a text with an error")
+    verdict("which is told", browser.script(TOLD), re.compile("^Nothing was run: Properties, line 1: the board has no lamp purple"))
     put(browser, "properties", "test\n")
-    prove(browser)
-    comes(browser, "nor without a property", TOLD, re.compile("^Properties has no property"), 60)
+    prove_to_end(browser, "nor without a property")
+    verdict("and says so", browser.script(TOLD), re.compile("^Properties has no property"))
 
 
 def check_cancelled(browser):
@@ -179,8 +186,8 @@ def check_phone(browser):
     put(browser, "program", PROGRAM)
     put(browser, "properties", "never lamp lit on\nnever lamp 1 on\n")
     at_size(browser, 390, 844, True)
-    prove(browser)
-    comes(browser, "on a phone it proves, too", TOLD, "1 proved, 1 can fail.", LONG)
+    prove_to_end(browser, "on a phone it proves, too")
+    verdict("with its verdicts", browser.script(TOLD), "1 proved, 1 can fail.")
     verdict("its rows fit into the width", browser.script("""return [...document.querySelectorAll('#proof-results *')]
       .filter((each) => isShown(each) && each.getBoundingClientRect().right > innerWidth).length"""), 0)
     verdict("and nothing scrolls sideways", browser.script(SIDEWAYS), 0)

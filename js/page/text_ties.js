@@ -192,8 +192,12 @@ async function openAfter(page, { name, lines, told }, texts) {
     const example = { name, title: "", board: boardText, program: programText, tests: "", properties: "", lines: "", project: "" };
     return newRecord(name, await page.bench.call("make", [example]), { ...texts, testText: page.tests.editor.text });
   };
-  if (!(await page.sessionsController.manager.useNew(make))) return;
+  const { sessionsController } = page;
+  const before = page.current.session;
+  if (!(await sessionsController.manager.useNew(make))) return;
   await page.serving.act(lines);
+  // The lines are not the user's: what was left is still the news.
+  if (before && !before.isUntouched) sessionsController.tellLeft(before.record);
   page.layout.showText("program");
   page.running.tell(told);
 }

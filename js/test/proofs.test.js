@@ -12,8 +12,8 @@ import { moduleOfPage } from "./page_session.js";
 
 // The lamp is on while TEST is 0; R1 counts how often that was looked at.
 const texts = {
-  boardText: '# lamp 0: lit\n# test: button WALK\nlamp = [{ line = "ram0.0.0" }, { line = "ram0.0.1" }]\nrom = [{ chip = 0, port = "0000" }]\n'
-    + 'ram = [{ bank = 0, chips = 1 }]\n',
+  boardText: '# lamp 0: lit\n# test: button WALK\nlamp = [{ line = "ram0.0.0" }, { line = "ram0.0.1" }]\n'
+    + 'rom = [{ chip = 0, port = "0000" }]\nram = [{ bank = 0, chips = 1 }]\n',
   programText: "look:   JCN 1, on\n        LDM 0\n        JUN put\non:     LDM 1\nput:    WMP\n        INC R1\n        JUN look\n",
   testText: "",
   propertiesText: "test\nnever lamp 1 on\nreach lamp lit on\nnever lamp lit on\n",
@@ -119,7 +119,8 @@ test("a verdict stands while its property, the program and the board are the sam
 /** A worker that is not one: it does its work in this thread, and can be ended. */
 function fakeWorker(engine) {
   const listeners = [];
-  const worker = { isEnded: false, postMessage: () => {}, terminate: () => {}, addEventListener: (kind, listen) => kind === "message" && listeners.push(listen) };
+  const addEventListener = (kind, listen) => kind === "message" && listeners.push(listen);
+  const worker = { isEnded: false, postMessage: () => {}, terminate: () => {}, addEventListener };
   const tell = (data) => !worker.isEnded && listeners.forEach((listen) => listen({ data }));
   const calls = new BenchCalls(async (done, total) => {
     tell({ kind: "progress", number: worker.number, done, total });
@@ -181,7 +182,8 @@ test("verdicts in words", () => {
   const goals = all.map((each) => ({ ...each, isGoal: true }));
   assert.deepEqual(all.map(markOf), ["proved", "proved", "can fail", "not decided"]);
   assert.deepEqual(goals.map(markOf), ["never reached", "never reached", "reached", "not decided"]);
-  assert.deepEqual(all.map(wordsOfVerdict), ["for all inputs: 1 state", "for all inputs: 96,937 states", "broken by 2 steps, 1,204 cycles", "why"]);
+  assert.deepEqual(all.map(wordsOfVerdict),
+    ["for all inputs: 1 state", "for all inputs: 96,937 states", "broken by 2 steps, 1,204 cycles", "why"]);
   assert.equal(wordsOfEnd(all, false), "2 proved, 1 can fail, 1 not decided.");
   assert.equal(wordsOfEnd(goals, true), "Cancelled: 1 reached, 2 never reached, 1 not decided.");
   assert.equal(wordsSoFar({ judged: all.slice(1), count: 4, states: 0 }), "Property 4 of 4");

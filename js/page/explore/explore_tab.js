@@ -83,6 +83,7 @@ export class ExploreTab {
     this.proofs = this.makeProofs();
   }
 
+  /** @returns {Proofs} */
   makeProofs() {
     const { calls, editor } = this;
     return new Proofs({

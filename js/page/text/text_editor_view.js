@@ -25,8 +25,8 @@ import * as say from "../../words/text.js";
  *
  * @typedef {import("../machine/breakpoint_row.js").BreakpointField} BreakpointField
  *
- * What an editor calls: its text was edited; it is sent; it is proved, if it can be; a breakpoint is wanted at a line, or is not wanted any more; its words are to be
- * edited; the menu of a line's margin is wanted.
+ * What an editor calls: its text was edited; it is sent; it is proved, if it can be; a breakpoint is wanted at a line, or is not wanted any
+ * more; its words are to be edited; the menu of a line's margin is wanted.
  * @typedef {{ edited: (edits: Edit[]) => void, send: () => void, prove?: () => void, toggleBreakpoint: (line: number) => void,
  *   editBreakpoint?: (line: number, what: BreakpointField) => void,
  *   askedMargin?: (line: number, point: { left: number, bottom: number }) => void }} EditorCalls
