@@ -7,6 +7,7 @@ import re
 import subprocess
 import time
 
+from page_commands import chord
 from page_explore import MARK, TOLD, put, text_of
 from page_in_browser import NOTICE, STATUS, TOP, choose_example, lines_answered, open_anew, show_text
 from page_layout import SIDEWAYS, at_size
@@ -170,7 +171,7 @@ def check_cancelled(browser):
     verdict("and says so", browser.script(TOLD), "It was cancelled before anything was proved.")
     verdict("with nothing left of it", browser.script("return isShown(document.getElementById('proof-results'))"), False)
     browser.script("document.querySelector('#properties-editor .cm-editor').lineEditor.focus()")
-    browser.chord(CONTROL, SHIFT, ENTER)
+    chord(browser, CONTROL, SHIFT, ENTER)
     comes(browser, "Ctrl, Shift and Enter begin it", BUTTON, "Cancel")
     browser.script("document.getElementById('prove').focus()")
     browser.keys([ENTER])

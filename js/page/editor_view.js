@@ -5,18 +5,22 @@
 import { readBoard } from "../core/bench/answers.js";
 import { keyOfKeyboard } from "../core/board/board_keys.js";
 import { Face } from "../core/board/face.js";
+import { pinKey, textOfKey } from "../core/board/key_place.js";
 import { FrontView } from "./board/front_view.js";
 import { Pressing, wantsKey } from "./board/pressing.js";
 import { block, button, field } from "./ui/dom.js";
 
-/** @typedef {import("../core/adapter/shown_board.js").ShownNews} ShownNews */
+/**
+ * @typedef {import("../core/adapter/shown_board.js").ShownNews} ShownNews
+ * @typedef {import("../core/board/key_place.js").Key} Key
+ */
 
 /** What Visual Studio Code gives to a view. */
 const editor = globalThis.acquireVsCodeApi();
 let isRunning = false;
 
-/** @type {(key: string, isDown: boolean) => void} */
-const tell = (key, isDown) => editor.postMessage({ place: key, isDown });
+/** @type {(key: Key, isDown: boolean) => void} */
+const tell = (key, isDown) => editor.postMessage({ place: textOfKey(key), isDown });
 
 /** @type {Pressing} */
 const pressing = new Pressing({
@@ -33,7 +37,7 @@ const pressing = new Pressing({
 /** While time runs, lamps are shown as an eye sees them; else as they are at that instant. */
 const front = new FrontView((node, key) => pressing.listen(node, key), () => {});
 pressing.listenToKeyboard();
-button("test").addEventListener("click", () => tell(`test ${front.level === "1" ? 0 : 1}`, true));
+button("test").addEventListener("click", () => tell(pinKey(front.level === "1" ? 0 : 1), true));
 
 /**
  * Shows what is new; null where nothing is debugged any more.

@@ -6,7 +6,7 @@ import { AdapterConnection } from "../core/adapter/adapter_connection.js";
 import { DebugAdapter } from "../core/adapter/debug_adapter.js";
 import { LONGEST_MESSAGE, MessageReader, framed } from "../core/server/framing.js";
 import { Engine } from "../core/engine/engine.js";
-import { CYCLES_OF_EYE } from "../core/engine/shining.js";
+import { EYE_CYCLES } from "../core/time/mcs4_time.js";
 import { dataOfPage } from "../node/page_parts.mjs";
 import { moduleOfPage } from "./page_session.js";
 
@@ -376,7 +376,7 @@ test("a client that draws the board is told it once, what changes, and moves key
   await until(({ event, body }) => event === "boardShown" && body.isRunning === false && news().length > 4);
   assert.ok(news().some(({ lamps }) => lamps === "*.."));
   const seen = news().filter(({ shone }) => shone);
-  assert.ok(seen.some(({ shone }) => shone.cycles === CYCLES_OF_EYE && shone.lamps[0] === CYCLES_OF_EYE));
+  assert.ok(seen.some(({ shone }) => shone.cycles === EYE_CYCLES && shone.lamps[0] === EYE_CYCLES));
   assert.equal(news().pop().shone, undefined);
   assert.equal(news().filter((each) => each.board).length, 0);
   await ask("restart", {});

@@ -127,7 +127,7 @@ function fakeWorker(engine) {
     return true;
   });
   calls.load = async () => {
-    calls.loaded = engine;
+    calls.bench.loaded = engine;
     return engine.size;
   };
   worker.terminate = () => {

@@ -4,7 +4,7 @@
 import { readBoard } from "../bench/answers.js";
 import { LookReader } from "../bench/look.js";
 import { Face } from "../board/face.js";
-import { lineOfChange } from "../engine/key_queue.js";
+import { keyOfText, lineOfKey } from "../board/key_place.js";
 import { SEEN_QUESTION } from "../engine/seen_text.js";
 import { Shining } from "../engine/shining.js";
 import { fail } from "./dap_protocol.js";
@@ -19,8 +19,6 @@ import * as say from "../../words/adapter.js";
  * @typedef {{ board?: string[], boardText?: string, lamps?: string, keys?: string[], test?: string, isRunning?: boolean,
  *   shone?: import("../engine/shining.js").Shone }} ShownNews
  */
-
-const KEY = /^(\d{1,3} \d{1,3}|test [01])$/;
 
 export class ShownBoard {
   /** @param {Machine} machine */
@@ -74,12 +72,12 @@ export class ShownBoard {
  * A key goes down, or up: at once where time stands, else when its turn comes.
  * @param {Machine} machine
  * @param {Console} lines
- * @param {string} key `0 2`, or `test 0`, the level of what is at TEST while it is down
+ * @param {string} text of a key: `0 2`, or `test 0`
  * @param {boolean} isDown
  */
-export async function changeKey(machine, lines, key, isDown) {
-  if (!KEY.test(key)) fail(say.KEY_PLACE);
+export async function changeKey(machine, lines, text, isDown) {
+  const key = keyOfText(text) || fail(say.KEY_PLACE);
   const word = isDown ? "press" : "release";
   if (machine.isMoving) machine.session.debugger.session.queue[word](key);
-  else await lines.served(`${lineOfChange({ word, key })}\n`);
+  else await lines.served(`${lineOfKey(word, key)}\n`);
 }

@@ -1,9 +1,11 @@
 // A recording as a VCD file (IEEE 1364): the page and `mcs4 wave` write the same bytes for the same lines of the same session.
 
+import { CYCLE_TENTHS_US, CYCLE_US } from "../time/mcs4_time.js";
+
 /** @typedef {import("./wave_recording.js").Waves} Waves */
 
-/** Units of time in a cycle of 10.8 microseconds: a unit is 100 ns. */
-const UNITS = 108;
+/** Units of time in a cycle: a unit is 100 ns. */
+const UNITS = CYCLE_TENTHS_US;
 /** More lines than a recording can have: a change is one number, of its moment and its line. */
 const LINES = 8192;
 /** So many lines of the file are one part of it: a text has not room for all that a long recording has. */
@@ -64,7 +66,7 @@ export class VcdText {
     const { waves, chosen, codes } = this;
     return `${[
       "$version Fethsaim $end",
-      "$comment 108 units of time are a cycle of the 4004, 10.8 microseconds $end",
+      `$comment ${UNITS} units of time are a cycle of the 4004, ${CYCLE_US} microseconds $end`,
       "$timescale 100 ns $end",
       "$scope module board $end",
       ...chosen.map((line, at) => `$var ${kindOf(waves, line)} ${codes[at]} ${waves.lines[line].name} $end`),

@@ -11,8 +11,17 @@ import * as say from "../../words/drawing.js";
  * @typedef {import("../../core/drawing/board_drawing.js").Shown} Shown
  * @typedef {import("../../core/drawing/fields.js").Field} Field
  * @typedef {import("../board/wiring_view.js").WiringView} WiringView
- * @typedef {{ act: (act: Act) => void, undoOrRedo: (which: "undo" | "redo") => void, wire: () => void, find: (part: string) => void,
- *   tidy: () => void, scanKeys: () => void }} ViewCalls
+ */
+
+/**
+ * What the shelf, the buttons and the fields of the drawing call.
+ * @typedef {object} ViewCalls
+ * @property {(act: Act) => void} act Does an act on the board's text, if the bench accepts it.
+ * @property {(which: "undo" | "redo") => void} undoOrRedo Undoes the last step, or repeats it.
+ * @property {() => void} wire Sends the text as the board, which becomes a new one.
+ * @property {(part: string) => void} find Shows the lines of a part in the text; the part is named as in the picture: `rom 1`.
+ * @property {() => void} tidy Forgets how parts were moved, so each is where the picture puts it.
+ * @property {() => void} scanKeys Inserts a routine that scans the keys into the source.
  */
 
 const WITH_DIGITS = new Set(["digit", "segments", "scanned"]);
