@@ -8,6 +8,7 @@ import { Face } from "../core/board/face.js";
 import { pinKey, textOfKey } from "../core/board/key_place.js";
 import { FrontView } from "./board/front_view.js";
 import { Pressing, wantsKey } from "./board/pressing.js";
+import { StripView } from "./board/strip_view.js";
 import { block, button, field } from "./ui/dom.js";
 
 /**
@@ -36,6 +37,8 @@ const pressing = new Pressing({
 });
 /** While time runs, lamps are shown as an eye sees them; else as they are at that instant. */
 const front = new FrontView((node, key) => pressing.listen(node, key), () => {});
+/** The adapter keeps what is printed from the moment that the board is drawn. */
+const strip = new StripView({ printOn: () => {}, tear: () => editor.postMessage({ isTorn: true }) });
 pressing.listenToKeyboard();
 button("test").addEventListener("click", () => tell(pinKey(front.level === "1" ? 0 : 1), true));
 
@@ -52,7 +55,9 @@ function show(news) {
   }
   if (news.board) {
     pressing.forget();
-    front.draw(readBoard(news.board), new Face(news.boardText || ""));
+    const [board, face] = [readBoard(news.board), new Face(news.boardText || "")];
+    front.draw(board, face);
+    strip.draw(board, face);
   }
   if (news.isRunning !== undefined) isRunning = news.isRunning;
   if (news.test !== undefined) {
@@ -60,6 +65,7 @@ function show(news) {
     button("test").textContent = `TEST ${news.test}`;
     button("test").setAttribute("aria-pressed", String(news.test === "1"));
   }
+  if (news.printed) strip.take(news.printed);
   if (news.keys) front.showKeys(news.keys);
   const marks = news.lamps ?? front.marks;
   if (news.shone) front.shine(marks, news.shone, Infinity);

@@ -63,6 +63,8 @@ export class TestRun {
     this.up = TOOL_KEY_UP_CYCLES;
     /** Whether a test may put other bytes into ROM, so that each one reads them again. */
     this.changesRom = true;
+    /** @type {(session: TestSession) => void} takes the session of each test at its end */
+    this.ran = () => {};
   }
 
   /**
@@ -89,6 +91,7 @@ export class TestRun {
     this.up = TOOL_KEY_UP_CYCLES;
     const failure = await this.runSteps(session, steps, []);
     session.end();
+    this.ran(session);
     return { name, line, cycles: session.elapsed, failure };
   }
 

@@ -30,7 +30,7 @@ export async function run({ folder }, positionals) {
   const texts = new GivenTexts();
   const board = texts.text(boardName, "wire");
   const program = texts.text(programName, "asm");
-  const engine = startEngine();
+  const engine = await startEngine();
   const { prepared, faults } = prepare(engine, { boardText: board.text, programText: program.text });
   if (!prepared) throw await errorOfTexts(engine, { board, program }, faults);
   const pressed = keyLines(prepared.names.face, boardName, keys, USUAL_PACE);

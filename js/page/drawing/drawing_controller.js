@@ -2,6 +2,7 @@
 
 import { wantsKey } from "../board/pressing.js";
 import { button, isDialogOpen, onClick } from "../ui/dom.js";
+import { HEAD } from "../../core/board/wiring.js";
 import { Drawing } from "../../core/drawing/board_drawing.js";
 import { DrawingView } from "./drawing_view.js";
 import { PictureInput } from "./picture_input.js";
@@ -59,6 +60,7 @@ export class DrawingController {
       wire: () => this.tried(this.wire()),
       find: this.calls.find,
       tidy: () => this.tidy(),
+      drop: (act, point) => this.tried(this.drop(act, point)),
       scanKeys: () => {
         if (this.view.shown) this.calls.scanKeys(this.view.shown.board);
       },
@@ -131,6 +133,27 @@ export class DrawingController {
   wired(answers) {
     this.drawing.takeWired(answers);
     this.look();
+  }
+
+  /**
+   * A part comes from the shelf to a point of the sheet: with its head there. One that comes into a part that is there already, as a lamp
+   * does beside others, stays there.
+   * @param {import("../../core/drawing/acts.js").Act} act
+   * @param {import("../../core/board/wiring.js").Point | null} point
+   */
+  async drop(act, point) {
+    const { drawing, picture } = this;
+    const before = new Set(picture.parts.keys());
+    const text = this.calls.text();
+    await drawing.act(act);
+    const { chosen } = drawing;
+    if (this.calls.text() === text || chosen === "") return;
+    const part = [...picture.parts.values()].find(({ id, pins }) => id === chosen || pins.some((pin) => pin.id === chosen));
+    if (part && point && !before.has(part.id)) {
+      this.move(part.id, { x: point.x - part.width / 2, y: point.y - HEAD / 2 });
+      this.keep();
+    }
+    picture.focus(chosen);
   }
 
   async wire() {

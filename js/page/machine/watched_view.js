@@ -74,8 +74,9 @@ export class WatchedView {
    * @returns {Row}
    */
   rowOf(watched) {
-    const value = element("span", { className: "values" });
-    const remove = element("button", { "type": "button", "className": "small", "aria-label": say.stopWatching(watched.name) }, say.REMOVE);
+    const value = element("span", { className: "values" }, element("small", {}, say.WHEN_PAUSED));
+    const remove = element("button", { "type": "button", "className": "remove", "title": say.stopWatching(watched.name) }, "\u00D7");
+    remove.setAttribute("aria-label", say.stopWatching(watched.name));
     onClick(remove, () => {
       this.take(this.all.filter((each) => each !== watched));
       this.keep();

@@ -53,6 +53,8 @@ export class TextEditor {
     this.awaited = 0;
     /** Whether Tab leaves the editor: after Escape, and where Tab has come to it. */
     this.tabLeaves = true;
+    /** Whether the caret is where somebody has put it: the editor had the focus since its text came. */
+    this.hasCaret = false;
     /** @type {Map<string, KeptText>} by the names that they were opened by */
     this.kept = new Map();
     this.name = "";
@@ -96,6 +98,9 @@ export class TextEditor {
     return EditorView.domEventHandlers({
       blur: () => {
         this.tabLeaves = true;
+      },
+      focus: () => {
+        this.hasCaret = true;
       },
       mousedown: ({ ctrlKey, metaKey, button }) => {
         this.tabLeaves = false;
@@ -167,6 +172,7 @@ export class TextEditor {
     const state = editor.swap(isSame ? old.state : editor.stateOf(text));
     if (before) kept.set(before, { state, top });
     this.awaited = 0;
+    this.hasCaret = false;
     this.scrollSoon(isSame ? old.top : 0);
     this.name = name;
     this.value = null;
@@ -192,6 +198,12 @@ export class TextEditor {
    */
   replaceText(text) {
     this.editor.setValue(text);
+    this.hasCaret = false;
+  }
+
+  /** The line of the caret, from 1; 0 if nobody has put it there. */
+  get caretLine() {
+    return this.hasCaret ? this.editor.getCursor().line + 1 : 0;
   }
 
   /**
