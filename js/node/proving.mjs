@@ -1,10 +1,10 @@
 // The search of `mcs4 prove`: questions to the program mcs4-prove, and counterexamples on the bench, which `mcs4 test` has to confirm.
 import { writeFileSync } from "node:fs";
 import { join } from "node:path";
-import { counterexampleOf } from "../core/prove/counterexample.js";
-import { askedOf, questionOf, readAnswer } from "../core/prove/question.js";
+import { Judging } from "../core/prove/judging.js";
+import { questionOf, readAnswer } from "../core/prove/question.js";
 import { readCampaign } from "../core/explore/campaign.js";
-import { grouped, stepsOf } from "../core/explore/report.js";
+import { grouped } from "../core/explore/report.js";
 import { subjectOf } from "../core/explore/subject.js";
 import { prepare } from "../core/testing/prepared.js";
 import * as say from "../words/prove.js";
@@ -15,8 +15,6 @@ import { temporaryFolder } from "./temporary.mjs";
 
 /**
  * @typedef {import("./given_texts.mjs").GivenText} GivenText
- * @typedef {import("../core/prove/verdicts.js").Judged} Judged
- * @typedef {import("../core/prove/verdicts.js").Verdict} Verdict
  * @typedef {{ board: GivenText, program: GivenText, properties: { name: string, text: string } }} Texts
  */
 
@@ -34,18 +32,23 @@ class Proving {
     process.on("SIGINT", interrupt);
   }
 
-  /** Reads the texts: what is searched, and the properties. */
+  /** Reads the texts; returns the judgement of their properties. */
   async begin() {
     const engine = await startEngine();
     const { board, program, properties } = this.texts;
     const { prepared, faults: wrong } = prepare(engine, { boardText: board.text, programText: program.text });
     if (!prepared) throw await errorOfTexts(engine, { board, program }, wrong);
-    this.subject = subjectOf(engine, board.text, program.text, program.before);
-    const { campaign, faults } = readCampaign(properties.text, this.subject, false);
+    const subject = subjectOf(engine, board.text, program.text, program.before);
+    const { campaign, faults } = readCampaign(properties.text, subject, false);
     if (faults.length > 0) throw new CommandError(faults.map(({ line, words }) => `${properties.name}:${line}: ${words}`).join("\n"));
-    this.campaign = campaign;
-    this.properties = campaign.properties.filter(({ line }) => line > 0);
-    if (this.properties.length === 0) throw new CommandError(`${properties.name} ${say.NOTHING_TO_PROVE}`);
+    const judging = new Judging(subject, campaign, {
+      ask: (nevers) => this.ask(nevers),
+      confirms: (found, isGoal) => this.confirms(found, isGoal),
+      reason: (kind) => this.reasons[kind],
+      breathe,
+    });
+    if (judging.all.length === 0) throw new CommandError(`${properties.name} ${say.NOTHING_TO_PROVE}`);
+    return judging;
   }
 
   /**
@@ -62,21 +65,6 @@ class Proving {
   }
 
   /**
-   * Judges a property alone.
-   * @param {import("../core/explore/properties.js").Property} property
-   * @param {import("../core/prove/cells.js").All[]} nevers
-   * @returns {Promise<Verdict>}
-   */
-  async judge(property, nevers) {
-    const answer = await this.ask(nevers);
-    if (answer.kind === "holds") return { kind: "proved", states: answer.states };
-    if (answer.kind !== "fails") return { kind: "open", words: this.reasons[answer.kind] };
-    const found = await counterexampleOf(this.subject, this.campaign, this.campaign.properties.indexOf(property), answer.values, breathe);
-    if (!found || !await this.confirms(found, property.isGoal)) return { kind: "open", words: say.NOT_CONFIRMED };
-    return found.isAllowed || property.isGoal ? { kind: "found", found } : { kind: "open", words: say.excluded(stepsOf(found.steps)) };
-  }
-
-  /**
    * Whether `mcs4 test` judges a counterexample as it should; lines of a session were run on the bench as they are.
    * @param {import("../core/prove/counterexample.js").Counterexample} found
    * @param {boolean} isGoal
@@ -89,23 +77,6 @@ class Proving {
     const { status } = await runCommand(process.execPath, [process.argv[1], "test", ...names]);
     return status === (isGoal ? 0 : 1);
   }
-
-  /** Judges all properties: those that can be asked together first. */
-  async judgeAll() {
-    const { campaign, subject: { names: { board } } } = this;
-    const all = this.properties.map((property) => ({ property, asked: askedOf(property, campaign, board) }));
-    const wanted = all.flatMap(({ property, asked }) => (property.isGoal || !asked.nevers ? [] : asked.nevers));
-    const together = all.some(({ property, asked }) => !property.isGoal && asked.nevers) ? await this.ask(wanted) : null;
-    /** @type {Judged[]} */
-    const judged = [];
-    for (const { property, asked } of all) {
-      if (!asked.nevers) judged.push({ property, verdict: { kind: "open", words: asked.words } });
-      else if (!property.isGoal && together && together.kind === "holds") {
-        judged.push({ property, verdict: { kind: "proved", states: together.states } });
-      } else judged.push({ property, verdict: await this.judge(property, asked.nevers) });
-    }
-    return judged;
-  }
 }
 
 /**
@@ -114,7 +85,6 @@ class Proving {
  * @param {number} most states
  */
 export async function proveTexts(texts, most) {
-  const proving = new Proving(texts, most);
-  await proving.begin();
-  return proving.judgeAll();
+  const judging = await new Proving(texts, most).begin();
+  return judging.judgeAll();
 }

@@ -55,6 +55,8 @@ export class Bench {
     this.silent = 0;
     /** Whether frames come without being asked for. */
     this.isRunning = false;
+    /** Whether its worker may be silent for as long as it likes: a question to the prover is one piece. */
+    this.isPatient = false;
     /** How many bytes a session file has. */
     this.size = 0;
     /** @type {ArrayBuffer[]} arrays that files came in, which go back with the next request */
@@ -155,7 +157,7 @@ export class Bench {
 
   /** Looks whether a worker that owes something still lives. Counted in looks, not in time: a machine may sleep. */
   watch() {
-    if (this.waiting.size === 0 && !this.isRunning) {
+    if (this.isPatient || (this.waiting.size === 0 && !this.isRunning)) {
       this.silent = 0;
       return;
     }
