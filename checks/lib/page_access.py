@@ -187,7 +187,7 @@ def check_properties(browser):
     browser.click("#explore")
     comes(browser, "a property is broken", "return document.querySelectorAll('#property-list details').length > 0", True)
     look_at(browser, "properties while they are looked at")
-    comes(browser, "the search ends", "return document.getElementById('explore').textContent", "Explore")
+    comes(browser, "the search ends", "return document.getElementById('explore').textContent", "Search")
     browser.script(OPEN_ALL, "#explore-results")
     look_at(browser, "the properties")
 

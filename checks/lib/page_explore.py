@@ -81,7 +81,7 @@ def check_found(browser, folder, mcs4):
     comes(browser, "what is broken is told while it looks on", TOLD, "1 property is broken so far.")
     verdict("the tab says so", browser.script(MARK), "1 broken")
     comes(browser, "the session's time goes on meanwhile", f"{CYCLES.replace('return ', 'return (')}) > {before}", True)
-    comes(browser, "it comes to its end", BUTTON, "Explore", SECONDS + 30)
+    comes(browser, "it comes to its end", BUTTON, "Search", SECONDS + 30)
     verdict("what was found is told", browser.script(TOLD), "1 property is broken.")
     tool = found_by_tool(folder, program, mcs4)
     told, _ = tool.communicate()
@@ -144,7 +144,7 @@ def check_stopped(browser):
     comes(browser, "it looks", FIGURES, re.compile("^[1-9][0-9,]* steps"))
     begun = time.monotonic()
     browser.hold("#explore", 400)
-    comes(browser, "it stops", BUTTON, "Explore", 5)
+    comes(browser, "it stops", BUTTON, "Search", 5)
     verdict("at once", time.monotonic() - begun < 3, True)
     verdict("and says so", browser.script(TOLD), re.compile("^Stopped. "))
     browser.script("document.querySelector('#properties-editor .cm-editor').lineEditor.focus()")
@@ -153,7 +153,7 @@ def check_stopped(browser):
     comes(browser, "and it looks", FIGURES, re.compile("^[1-9][0-9,]* steps"))
     browser.script("document.getElementById('explore').focus()")
     browser.keys([ENTER])
-    comes(browser, "Enter on the button stops it", BUTTON, "Explore", 5)
+    comes(browser, "Enter on the button stops it", BUTTON, "Search", 5)
     verdict("and the button keeps the focus", browser.script("return document.activeElement.id"), "explore")
     browser.click("#clear-finds")
     verdict("what was found is cleared", browser.script("return isShown(document.getElementById('explore-results'))"), False)
@@ -221,7 +221,7 @@ def check_phone(browser):
     at_size(browser, 390, 844, True)
     verdict("on a phone nothing scrolls sideways", browser.script(SIDEWAYS), 0)
     explore(browser, 5)
-    comes(browser, "it looks there, too", BUTTON, "Explore", 20)
+    comes(browser, "it looks there, too", BUTTON, "Search", 20)
     comes(browser, "with its rows", ROWS, re.compile("never lamp 0 on"))
     verdict("which fit into its width", browser.script("""return [...document.querySelectorAll('#explore-results *')]
       .filter((each) => isShown(each) && each.getBoundingClientRect().right > innerWidth).length"""), 0)
@@ -246,7 +246,7 @@ def check_kept(browser, folder):
     browser.type_into("#file", str(LOCK / "lock.props"))
     comes(browser, "a file of properties comes into its tab", TEXT_OF_EDITOR.replace("arguments[0]", f"'{EDITOR}'"),
           (LOCK / "lock.props").read_text())
-    comes(browser, "and says what to do with it", NOTICE, re.compile("lock.props stands in Properties. Explore looks for what breaks it"))
+    comes(browser, "and says what to do with it", NOTICE, re.compile("lock.props is in Properties. Search looks for what breaks it"))
 
 
 def check(browser, page, folder, mcs4):
