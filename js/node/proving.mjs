@@ -2,6 +2,7 @@
 import { writeFileSync } from "node:fs";
 import { join } from "node:path";
 import { counterexampleOf } from "../core/prove/counterexample.js";
+import { allMistakes } from "../core/prove/mistakes.js";
 import { askedOf, questionOf, readAnswer } from "../core/prove/question.js";
 import { readCampaign } from "../core/explore/campaign.js";
 import { grouped, stepsOf } from "../core/explore/report.js";
@@ -45,32 +46,34 @@ class Proving {
     if (faults.length > 0) throw new CommandError(faults.map(({ line, words }) => `${properties.name}:${line}: ${words}`).join("\n"));
     this.campaign = campaign;
     this.properties = campaign.properties.filter(({ line }) => line > 0);
-    if (this.properties.length === 0) throw new CommandError(`${properties.name} ${say.NOTHING_TO_PROVE}`);
+    this.mistakes = allMistakes();
   }
 
   /**
    * Asks the prover; returns its answer.
    * @param {import("../core/prove/cells.js").All[]} nevers
+   * @param {string[]} mistakes their words
    */
-  async ask(nevers) {
+  async ask(nevers, mistakes) {
     const { board, program } = this.texts;
-    const { stdout, stderr, signal } = await runCommand(this.program, [], questionOf({ board: board.text, program: program.text }, nevers, this.most));
+    const question = questionOf({ board: board.text, program: program.text }, nevers, this.most, mistakes);
+    const { stdout, stderr, signal } = await runCommand(this.program, [], question);
     const answer = readAnswer(stdout);
     if (!answer) throw new CommandError(say.proverEnded([stdout.trim(), stderr.trim(), signal].filter(Boolean).join("; ")));
     return answer;
   }
 
   /**
-   * Judges a property alone.
+   * Judges a property by the answer to what it asks.
    * @param {import("../core/explore/properties.js").Property} property
-   * @param {import("../core/prove/cells.js").All[]} nevers
+   * @param {import("../core/prove/question.js").Answer} answer
+   * @param {string} mistake the word of the mistake that it excludes, or ""
    * @returns {Promise<Verdict>}
    */
-  async judge(property, nevers) {
-    const answer = await this.ask(nevers);
+  async judge(property, answer, mistake) {
     if (answer.kind === "holds") return { kind: "proved", states: answer.states };
     if (answer.kind !== "fails") return { kind: "open", words: this.reasons[answer.kind] };
-    const found = await counterexampleOf(this.subject, this.campaign, this.campaign.properties.indexOf(property), answer.values, breathe);
+    const found = await counterexampleOf(this.subject, { ...this.campaign, properties: [property] }, 0, answer.values, breathe, mistake);
     if (!found || !await this.confirms(found, property.isGoal)) return { kind: "open", words: say.NOT_CONFIRMED };
     return found.isAllowed || property.isGoal ? { kind: "found", found } : { kind: "open", words: say.excluded(stepsOf(found.steps)) };
   }
@@ -89,21 +92,38 @@ class Proving {
     return status === (isGoal ? 0 : 1);
   }
 
-  /** Judges all properties: those that can be asked together first. */
+  /**
+   * Judges what every program is asked.
+   * @param {import("../core/prove/question.js").Answer} together the answer to all questions at once
+   */
+  async judgeMistakes(together) {
+    const words = this.mistakes.map(({ word }) => word);
+    const all = together.kind === "fails" ? await this.ask([], words) : together;
+    /** @type {Judged[]} */
+    const judged = [];
+    for (const { property, word } of this.mistakes) {
+      const answer = all.kind === "fails" ? await this.ask([], [word]) : all;
+      judged.push({ property, verdict: await this.judge(property, answer, word) });
+    }
+    return judged;
+  }
+
+  /** Judges all properties: those that can be asked together first. Where none of these fails, each has the answer that all have. */
   async judgeAll() {
     const { campaign, subject: { names: { board } } } = this;
     const all = this.properties.map((property) => ({ property, asked: askedOf(property, campaign, board) }));
     const wanted = all.flatMap(({ property, asked }) => (property.isGoal || !asked.nevers ? [] : asked.nevers));
-    const together = all.some(({ property, asked }) => !property.isGoal && asked.nevers) ? await this.ask(wanted) : null;
+    const together = await this.ask(wanted, this.mistakes.map(({ word }) => word));
     /** @type {Judged[]} */
     const judged = [];
     for (const { property, asked } of all) {
       if (!asked.nevers) judged.push({ property, verdict: { kind: "open", words: asked.words } });
-      else if (!property.isGoal && together && together.kind === "holds") {
-        judged.push({ property, verdict: { kind: "proved", states: together.states } });
-      } else judged.push({ property, verdict: await this.judge(property, asked.nevers) });
+      else {
+        const isAnswered = !property.isGoal && together.kind !== "fails";
+        judged.push({ property, verdict: await this.judge(property, isAnswered ? together : await this.ask(asked.nevers, []), "") });
+      }
     }
-    return judged;
+    return [...judged, ...await this.judgeMistakes(together)];
   }
 }
 

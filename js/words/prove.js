@@ -11,6 +11,18 @@ export const otherForm = (form) => `a property of the form "${form}" cannot be p
 export const HAS_GUARDS = "a property with a guard cannot be proved yet";
 export const BEGINS_LATER = "a proof begins at power-on, and the text begins elsewhere (from)";
 
+// --- prove/mistakes.js ---
+/** Each property of every program, by the word of its mistake in a question. */
+export const MISTAKES = {
+  code: "no code outside the instruction table",
+  call: "no fourth nested call",
+  return: "no BBL without a call",
+  ram: "no RAM that is absent",
+  rom: "no ROM that is absent",
+  rdr: "no RDR of a port without inputs",
+  wrr: "no WRR to a port without outputs",
+};
+
 // --- prove/verdicts.js ---
 /** @type {(words: string) => string} */
 export const notDecided = (words) => `TODO not decided: ${words}`;
@@ -35,4 +47,3 @@ export const excluded = (steps) => `only inputs that the text excludes break it 
 export const NOT_CONFIRMED = "the bench does not confirm the counterexample that was found";
 /** @type {(words: string) => string} */
 export const proverEnded = (words) => `the prover ended without an answer: ${words}`;
-export const NOTHING_TO_PROVE = "has no property";

@@ -1,10 +1,9 @@
 //! The run of a machine from where a cycle reads of the outside to where the next one does.
-ghost use Rattle.std.specs.Prelude.{◌≡◌, ◌<◌, ◌==◌, ◌||◌, ◌&&◌, false, length, IsTrue, replicate};
+ghost use Rattle.std.specs.Prelude.{◌≡◌, ◌<◌, ◌==◌, ◌||◌, ◌&&◌, false, length, Some, IsTrue, replicate};
 ghost use Rattle.mcs_model.specs.Boards.{key_count};
 ghost use Rattle.mcs_model.specs.Levels.{port_of};
 ghost use Rattle.mcs_model.specs.declared.op.Op.TheVariants.{Rdr};
-ghost use Rattle.mcs_drive.specs.Asking.{is_asking};
-ghost use Rattle.mcs_drive.specs.Driven.{cycled};
+ghost use Rattle.mcs_drive.specs.Tracked.{calls_after, cycled, is_asking, open_after};
 ghost use Rattle.mcs_check.specs.Conditions.{keeps_to};
 ghost use Rattle.mcs_check.specs.Keys.{Keeps};
 ghost use Rattle.mcs_check.specs.Stations.{Begins, LooksAtTest, Reads, CannotRead, HasRead, Reaches, has_no_more, port_unpressed};
@@ -13,6 +12,7 @@ use crate::cells::Cell;
 use crate::conditions::{Never, keeps_to};
 use crate::reading::{Source, source_of};
 use crate::replica::Replica;
+use mcs_model::op::Op;
 use mcs_nibble::{Addr, Bit, Nibble};
 use mcs_rom4001::read_port_of;
 
@@ -24,6 +24,23 @@ fn has_no_more(n: Nibble, most: Nibble) -> bool
         && n.bit(1).get() <= most.bit(1).get()
         && n.bit(2).get() <= most.bit(2).get()
         && n.bit(3).get() <= most.bit(3).get()
+}
+
+/// Returns how many calls are open after an instruction, of so many before.
+fn calls_after(op: Op, calls: u8) -> u8
+    ensures { result ≡ calls_after (Some op) calls }
+{
+    match op {
+        Op::Jms(_, _) => {
+            if calls < 3 {
+                calls + 1
+            } else {
+                calls
+            }
+        }
+        Op::Bbl(_) => calls.saturating_sub(1),
+        _ => calls,
+    }
 }
 
 impl Replica {
@@ -56,11 +73,27 @@ impl Replica {
         }
     }
 
+    /// Returns how many calls are open after the next cycle.
+    fn open_after(&self) -> u8
+        ensures { result ≡ open_after self.now.0 self.now.1 self.now.2 }
+    {
+        let regs = self.cpu.regs();
+        if regs.owed == 1 {
+            return self.calls;
+        }
+        match mcs_board::instruction(&self.cpu, &self.rig, regs.pc) {
+            Some(op) => calls_after(op, self.calls),
+            None => self.calls,
+        }
+    }
+
     /// Runs one cycle.
     fn cycle(&mut self)
         ensures { self.new ≡ cycled self.old }
     {
+        let calls = self.open_after();
         let _cycle = mcs_board::cycle(&mut self.cpu, &mut self.rig);
+        self.calls = calls;
     }
 
     /// Returns whether the next cycle may answer this value though it reads nothing.
