@@ -84,7 +84,7 @@ const MEANT = [
   ["acc == 10", ({ acc }) => acc === 10], ["r5 >= 8 && cy == 1", ({ r, cy }) => r[5] >= 8 && cy === 1],
   ["r5 > 8 or cy = 1", ({ r, cy }) => r[5] > 8 || cy === 1], ["count > 9", ({ r }) => r[5] > 9],
   ["lamps = 9", ({ lamps }) => lamps === "*..*."], ["r5 = 10", ({ r }) => r[5] === 10], ["lamp 8 on", ({ lamps }) => lamps[3] === "*"],
-  ["pc = 0x008", ({ pc }) => pc === 8],
+  ["pc = 0x008", ({ pc }) => pc === 8], ["A = 10", ({ acc }) => acc === 10],
   ["not (r5 < 8 || cy != 1)", ({ r, cy }) => r[5] >= 8 && cy === 1], ["!cy 1 AND R5 <= 0b111", ({ r, cy }) => cy === 0 && r[5] <= 7],
   ["r5 = r4", ({ r }) => r[5] === r[4]], ["P2 >= 0x80", ({ r }) => r[4] >= 8], ["(r5 + r4) & 3 = 1", ({ r }) => ((r[5] + r[4]) & 3) === 1],
   ["r5 - 1 > limit", ({ r }) => r[5] - 1 > 9], ["limit < count and digit >= 8", ({ r, digit }) => r[5] > 9 && digit >= 8],
@@ -211,16 +211,21 @@ for (const [use, holds] of Object.entries(USES)) {
   });
 }
 
-test("A = 10: the accumulator is acc, in each place of use; a breakpoint stops at each arrival", async () => {
+test("A names the accumulator where the user has given A to nothing", () => {
+  for (const text of ["A = 10", "a == 0xA"]) assert.deepEqual(conditionOf(text, names).condition.places, ["acc"], text);
+  const watched = { ...names, watched: namesOfWatched(["A = r3"]) };
+  assert.deepEqual(conditionOf("A = 10", watched).condition.places, ["r3"]);
+  const label = { ...names, map: { ...names.map, names: new Map([["A", { value: 10, isLabel: true }]]) } };
+  assert.deepEqual(conditionOf("A = 10", label).condition.places, []);
+});
+
+test("an error in a condition is the same in each place of use; a breakpoint with it stops at each arrival", async () => {
   for (const [use, holds] of Object.entries(USES)) {
-    assert.match(String(await holds("A = 10")), /A: no such place; the accumulator is acc/, use);
+    assert.match(String(await holds("accu = 10")), /accu: no such place; the accumulator is acc/, use);
   }
-  const { soft, fault } = softBreakpointOf({ id: 1, address: 0, condition: "A = 10", from: 1, note: "", hits: 0 }, names);
-  assert.equal(fault, "A: no such place; the accumulator is acc (column 1)");
+  const { soft, fault } = softBreakpointOf({ id: 1, address: 0, condition: "accu = 10", from: 1, note: "", hits: 0 }, names);
+  assert.equal(fault, "accu: no such place; the accumulator is acc (column 1)");
   assert.equal(soft.holds([]), true);
-  // Where it is a name, it is meant.
-  const own = { ...names, watched: namesOfWatched(["A = acc"]) };
-  assert.deepEqual(conditionOf("A = 10", own).condition.places, ["acc"]);
 });
 
 /** The machine as the judges know it. */
@@ -284,7 +289,7 @@ test("what no trace shows is refused where nothing else is asked", () => {
 
 test("errors point at their column, and propose", () => {
   for (const [text, column, fault] of [
-    ["A = 10", 0, "A: no such place; the accumulator is acc"], ["cy = 1 and carry = 1", 11, "carry: no such place; the carry is cy"],
+    ["accu = 10", 0, "accu: no such place; the accumulator is acc"], ["cy = 1 and carry = 1", 11, "carry: no such place; the carry is cy"],
     ["r5 = 10 or (r4 = 3", 11, "this parenthesis is not closed"], ["r5 = 12x", 5, "12x is no number; numbers are 10, 0xA or 0b1010"],
     ["r5 = 10)", 7, "): a condition ends before this; join two by and, or"], ["r5 = limits", 5, "limits: no such place; perhaps limit"],
     ["r5 ? 3", 3, "? has no meaning in a condition"], ["r5 =", 3, "a value is missing after ="], ["cy = 2", 5, "cy holds 0 to 1, not 2"],

@@ -137,12 +137,12 @@ test("a breakpoint stops a move; one that cannot be read says why, and stops at 
   for (let more = 0; more < 4; more++) stops.push([(await session.go()).id, session.line]);
   assert.deepEqual(stops, [[lacking.id, LINE.wait], [lacking.id, LINE.wait], [lacking.id, LINE.wait], [lacking.id, LINE.wait]]);
   session.breakpoints.change(lacking.id, { note: "{rom0}" });
-  session.breakpoints.change(broken.id, { condition: "A = 1" });
+  session.breakpoints.change(broken.id, { condition: "accu = 1" });
   await session.applyBreakpoints();
   const unsure = await session.go();
   assert.deepEqual([unsure.id, session.line], [broken.id, LINE.increment]);
   assert.equal(unsure.words, "Paused at 005 (turn + 2, line 6), at a breakpoint that has an error, "
-    + "A: no such place; the accumulator is acc (column 1).");
+    + "accu: no such place; the accumulator is acc (column 1).");
   assert.equal((await session.go()).id, broken.id);
   session.breakpoints.change(broken.id, { condition: "R4 == 0b11 || r4 >= 0xF" });
   await session.applyBreakpoints();

@@ -186,7 +186,7 @@ test("watched expressions have names of the user's own, and what cannot be read 
     ["", "An expression is missing, as in: "], ["a =", "An expression is missing, as in: "],
     ["loop", "in loop: in loop: in loop: loop names others"],
     ["r16", "r16: no such place; the registers are r0 to r15 (column 1)"],
-    ["a = A + 1", "A: no such place; the accumulator is acc (column 5)"],
+    ["a = accu + 1", "accu: no such place; the accumulator is acc (column 5)"],
     ["ram 8 0", "ram 8 0: no such place; a place of RAM is ram.BANK.SRC or st.BANK.REGISTER.NUMBER (column 1)"],
     ["x = st 0 1 4", "st 0 1 4: no such place; "], ["p8", "p8: no such place; "], ["ram0.4", "ram0.4: no such place; ports are "],
     ["coumt + 1", "coumt: no such place; perhaps count (column 1)"], ["R4 + (1", "this parenthesis is not closed (column 6)"],

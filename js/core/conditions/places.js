@@ -11,6 +11,8 @@ import { LAST_ADDRESS, hex, numberOf, upTo } from "../bench/numbers.js";
  *   `value` is as `trace` writes it, `number` what it counts as; `most` is the largest number, -1 for what is no number
  */
 
+/** Manuals of other processors call the accumulator A. */
+const ACCUMULATOR = "a";
 /** A register of a RAM chip has so many characters, and so many status characters. */
 export const CHARACTERS = 16;
 export const STATUS = 4;
@@ -151,4 +153,13 @@ function lampPlace(name) {
 export function placeOf(text) {
   const name = text.trim().toLowerCase().replace(/\s+/g, " ");
   return registerPlace(name) || memoryPlace(name) || portPlace(name) || lampPlace(name);
+}
+
+/**
+ * Returns the place of a word that the user has given to nothing: `A` is the accumulator; null for any other word. It cannot be set by
+ * this word, since a name of *Watch* may be the same.
+ * @param {string} text
+ */
+export function placeByOtherName(text) {
+  return text.trim().toLowerCase() === ACCUMULATOR ? placeOf("acc") : null;
 }

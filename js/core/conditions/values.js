@@ -4,7 +4,7 @@
 import { keysOf, pinOf } from "../explore/inputs.js";
 import { mostAlike } from "../text/alike.js";
 import { isCondition, parse } from "./parser.js";
-import { placeOf } from "./places.js";
+import { placeByOtherName, placeOf } from "./places.js";
 import { Unreadable, fail } from "./scanner.js";
 import * as say from "../../words/conditions.js";
 
@@ -30,8 +30,8 @@ const MOST_NAMES_DEEP = 3;
 /** A bank has so many characters of RAM, by the byte that SRC sends. */
 const LAST_CHARACTER = 255;
 /** What is meant by a word that others have for a place. */
-const MEANT = new Map([["a", say.ACCUMULATOR_IS], ["c", say.CARRY_IS], ["carry", say.CARRY_IS], ["ip", say.COUNTER_IS],
-  ["bank", say.BANK_IS]]);
+const MEANT = new Map([["a", say.ACCUMULATOR_IS], ["accu", say.ACCUMULATOR_IS], ["accumulator", say.ACCUMULATOR_IS], ["c", say.CARRY_IS],
+  ["carry", say.CARRY_IS], ["ip", say.COUNTER_IS], ["bank", say.BANK_IS]]);
 /** Numbers are exact up to 53 bits; the signs of numbers with bits have 32. */
 const HALF = 2 ** 26;
 
@@ -164,13 +164,12 @@ export function labelIn(name, names) {
 }
 
 /**
- * @param {string} text
+ * @param {import("./places.js").Place | null} place
  * @param {Names} names
  * @param {Looked} looked
  * @returns {Value | null} null where it is no place
  */
-function placeValue(text, { board }, looked) {
-  const place = placeOf(text);
+function placeValue(place, { board }, looked) {
   if (!place) return null;
   const { name } = place;
   const probes = place.probesOn(board);
@@ -276,13 +275,14 @@ function nameValue(node, names, looked) {
     return constant(found ? found.value : fail(say.noLabel(text.slice(1))));
   }
   if (word === "test" || word === "owed") return bitValue(word, looked.at(word), Number);
-  const place = placeValue(text, names, looked);
+  const place = placeValue(placeOf(text), names, looked);
   if (place) return place;
   const watched = names.watched && names.watched.get(text);
   if (watched !== undefined) return watchedValue(text, watched, names, looked);
   const found = sourceName(text, names.map);
   if (found) return constant(found.value);
-  return names.face.lampNumbers.has(text) ? lampValue(text, names, looked) : noPlace(text, names);
+  if (names.face.lampNumbers.has(text)) return lampValue(text, names, looked);
+  return placeValue(placeByOtherName(text), names, looked) || noPlace(text, names);
 }
 
 /**
@@ -301,7 +301,7 @@ export function characterValues({ text, column }, count, names, looked) {
       const at = parseInt(byte, 16) + more;
       const each = at <= LAST_CHARACTER ? placeOf(`ram.${bank}.${at}`) : null;
       if (more > 0 && (!each || each.probesOn(names.board).length === 0)) fail(say.NO_RAM_FOR_LAST);
-      return placeValue(each ? each.name : text, names, looked) || noPlace(text, names);
+      return placeValue(each || place, names, looked) || noPlace(text, names);
     });
   });
 }
