@@ -42,8 +42,8 @@ impl Mistakes {
 }
 
 /// Returns whether an instruction is a JMS while three calls are open.
-fn is_fourth_call(op: Op, calls: u8) -> bool
-    ensures { result ≡ is_fourth_call op calls }
+fn is_fourth_call(op: &Op, calls: u8) -> bool
+    ensures { result ≡ is_fourth_call op.now calls }
 {
     match op {
         Op::Jms(_, _) => calls > 2,
@@ -52,8 +52,8 @@ fn is_fourth_call(op: Op, calls: u8) -> bool
 }
 
 /// Returns whether an instruction is a BBL while no call is open.
-fn is_lone_return(op: Op, calls: u8) -> bool
-    ensures { result ≡ is_lone_return op calls }
+fn is_lone_return(op: &Op, calls: u8) -> bool
+    ensures { result ≡ is_lone_return op.now calls }
 {
     match op {
         Op::Bbl(_) => calls == 0,
@@ -62,8 +62,8 @@ fn is_lone_return(op: Op, calls: u8) -> bool
 }
 
 /// Returns whether an instruction reads or writes a RAM chip.
-fn uses_ram(op: Op) -> bool
-    ensures { result ≡ uses_ram op }
+fn uses_ram(op: &Op) -> bool
+    ensures { result ≡ uses_ram op.now }
 {
     match op {
         Op::Wrm | Op::Wmp | Op::Wr0 | Op::Wr1 | Op::Wr2 | Op::Wr3 => true,
@@ -73,8 +73,8 @@ fn uses_ram(op: Op) -> bool
 }
 
 /// Returns the address of the last word that an instruction reads from ROM.
-fn last_read(op: Op, regs: &Regs) -> Addr
-    ensures { result ≡ last_read op regs.now }
+fn last_read(op: &Op, regs: &Regs) -> Addr
+    ensures { result ≡ last_read op.now regs.now }
 {
     let next = regs.pc.plus(1);
     match op {
@@ -96,8 +96,8 @@ fn lacks_rom(board: &Board, at: Addr) -> bool
 }
 
 /// Returns whether a board lacks the ROM of a word that an instruction reads.
-fn lacks_word(op: Op, regs: &Regs, board: &Board) -> bool
-    ensures { result ≡ lacks_word op regs.now board.now }
+fn lacks_word(op: &Op, regs: &Regs, board: &Board) -> bool
+    ensures { result ≡ lacks_word op.now regs.now board.now }
 {
     lacks_rom(board, regs.pc) || lacks_rom(board, last_read(op, regs))
 }
@@ -124,8 +124,8 @@ fn has_output(board: &Board, chip: u8) -> bool
 }
 
 /// Returns whether an instruction is an RDR.
-fn is_rdr(op: Op) -> bool
-    ensures { result ≡ is_rdr op }
+fn is_rdr(op: &Op) -> bool
+    ensures { result ≡ is_rdr op.now }
 {
     match op {
         Op::Rdr => true,
@@ -134,8 +134,8 @@ fn is_rdr(op: Op) -> bool
 }
 
 /// Returns whether an instruction is a WRR.
-fn is_wrr(op: Op) -> bool
-    ensures { result ≡ is_wrr op }
+fn is_wrr(op: &Op) -> bool
+    ensures { result ≡ is_wrr op.now }
 {
     match op {
         Op::Wrr => true,
@@ -154,29 +154,30 @@ impl Replica {
     }
 
     /// Returns whether an instruction makes one of these mistakes.
-    fn makes(&self, asked: Mistakes, op: Op) -> bool
-        ensures { result ≡ makes asked op self.now }
+    fn makes(&self, asked: &Mistakes, op: &Op) -> bool
+        ensures { result ≡ makes asked.now op.now self.now }
     {
         let board = self.rig.board();
         let chip = self.rig.rom_src() / 16;
+        let regs = self.cpu.regs();
         asked.fourth_call && is_fourth_call(op, self.calls)
             || asked.lone_return && is_lone_return(op, self.calls)
             || asked.absent_ram && uses_ram(op) && self.lacks_ram()
-            || asked.absent_rom && lacks_word(op, &self.cpu.regs(), board)
+            || asked.absent_rom && lacks_word(op, &regs, board)
             || asked.no_inputs && is_rdr(op) && !has_input(board, chip)
             || asked.no_outputs && is_wrr(op) && !has_output(board, chip)
     }
 
     /// Returns whether the next cycle makes one of these mistakes.
-    pub fn is_mistaken(&self, asked: Mistakes) -> bool
-        ensures { result ≡ is_mistaken asked self.now }
+    pub fn is_mistaken(&self, asked: &Mistakes) -> bool
+        ensures { result ≡ is_mistaken asked.now self.now }
     {
         let regs = self.cpu.regs();
         if regs.owed == 1 {
             return false;
         }
         match mcs_board::instruction(&self.cpu, &self.rig, regs.pc) {
-            Some(op) => self.makes(asked, op),
+            Some(op) => self.makes(asked, &op),
             None => asked.no_code,
         }
     }

@@ -90,7 +90,7 @@ fn is_met(replica: &Replica, condition: &Condition) -> bool
 {
     match condition {
         Condition::Compare(comparison) => compares(replica, comparison),
-        Condition::Mistaken(asked) => replica.is_mistaken(*asked),
+        Condition::Mistaken(asked) => replica.is_mistaken(asked),
     }
 }
 

@@ -1,7 +1,7 @@
 -- A machine with the calls that are open in it, and what it means that a property of both holds for all
 -- inputs. The processor keeps three return addresses and not how many of them are in use, so this
 -- count is no part of a machine. (Our own choice.)
-use Rattle.std.specs.Prelude.{◌≡◌, ◌+◌, ◌-◌, ℕ, zero, suc, Bool, true, Option, Some, unwrap_or, nat_lt, if◌then◌else◌, ◌==◌, not, ◌&&◌, []}
+use Rattle.std.specs.Prelude.{◌≡◌, ◌+◌, ◌-◌, ℕ, zero, suc, Bool, true, Option, Some, None, unwrap_or, nat_lt, if◌then◌else◌, ◌==◌, not, ◌&&◌, []}
 use Rattle.mcs_model.specs.declared.op.Op.{Op}
 use Rattle.mcs_model.specs.declared.op.Op.TheVariants.{Jms, Bbl}
 use Rattle.mcs_model.specs.declared.regs.Regs.{Regs}
@@ -30,9 +30,14 @@ calls_after (Some (Jms h b)) n = if nat_lt n 3 then n + 1 else n
 calls_after (Some (Bbl d)) n = n - 1
 calls_after _ n = n
 
--- how many are open after the next cycle; an instruction of two cycles does its work in the first
+-- the instruction that the next cycle begins; none in the second cycle of one, which does no work, and
+-- at a code outside the table
+abbrev pub next_op : Regs → BusState → Option Op
+next_op s m = if s.owed == 1 then None else instruction_at s m
+
+-- how many are open after the next cycle
 abbrev pub open_after : Regs → BusState → ℕ → ℕ
-open_after s m n = if s.owed == 1 then n else calls_after (instruction_at s m) n
+open_after s m n = calls_after (next_op s m) n
 
 -- ---- as for machines
 
