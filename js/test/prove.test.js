@@ -198,7 +198,8 @@ test("inputs that the text of properties excludes are known as such", async () =
 // Programs on the board above: after how many cycles the next instruction makes a mistake, by its word; the cycles are those of the table.
 const MAKES = [
   { program: "FIM P1, 0x80\nSRC P1\nWR2", made: { ram: 3 } }, { program: "LDM 1\nDCL\nRDM", made: { ram: 2 } },
-  { program: "LDM 1\nDCL\nFIM P1, 0x40\nSRC P1\nLDM 0\nDCL\nRDM", made: {} }, { program: "FIM P1, 0x40\nSRC P1\nWMP\nFIM P1, 0xC0\nSRC P1\nSBM", made: { ram: 7 } },
+  { program: "LDM 1\nDCL\nFIM P1, 0x40\nSRC P1\nLDM 0\nDCL\nRDM", made: {} },
+  { program: "FIM P1, 0x40\nSRC P1\nWMP\nFIM P1, 0xC0\nSRC P1\nSBM", made: { ram: 7 } },
   { program: "JUN 0x2FF", made: { rom: 2 } }, { program: "FIM P0, 0x20\nJUN 0x1FF\nORG 0x1FF\nFIN P2", made: { rom: 4 } },
   { program: "JUN 0x1FF\nORG 0x1FF\nDB 0x40", made: { rom: 2 } }, { program: "JUN 0x1FF\nORG 0x1FF\nCLB", made: { rom: 3 } },
   { program: "RDR", made: { rdr: 0 } }, { program: "FIM P1, 0x20\nSRC P1\nWRR\nRDR", made: { wrr: 3, rdr: 4 } },

@@ -65,7 +65,8 @@ function seenIn({ codes, names: { board } }, answer) {
   const { sources: [source, ...banks] } = portsOf(ports);
   const address = parseInt(counter, 16);
   return {
-    board, address, code: codes[address], dcl: Number(bank), pair: parseInt(high + low, 16), source: parseInt(source, 16), isOwed: owed === "1",
+    board, address, code: codes[address], dcl: Number(bank), pair: parseInt(high + low, 16), source: parseInt(source, 16),
+    isOwed: owed === "1",
     banks: new Map(banks.map((each) => {
       const [number, byte] = each.split(".");
       return [Number(number), parseInt(byte, 16)];
