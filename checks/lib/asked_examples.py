@@ -122,7 +122,7 @@ def nevers_in(props: str) -> list[str]:
 
 # The program of each example makes no mistake, but for these. Lamps runs on through ROM that the board lacks, and its second WRR has no output line.
 MADE = {"lamps.txt": ("rom", "wrr")}
-MOST_OF_PROGRAMS = 60
+MOST_OF_PROGRAMS, PAUSE_OF_PROGRAMS = 60, 1000
 
 
 def programs() -> list[str]:
@@ -135,7 +135,7 @@ def mistakes_of(name: str, asked: tuple[str, ...] = MISTAKES) -> Question:
     """The question whether the program of an example makes one of these mistakes."""
     path = EXAMPLE_FILES / name
     board, program = texts_of(f"{name}/{name}.props" if path.is_dir() else str(path.with_suffix(".props").name))
-    return Question(board, program, [[("mistake", *asked)]], MOST_OF_PROGRAMS)
+    return Question(board, program, [[("mistake", *asked)]], MOST_OF_PROGRAMS, PAUSE_OF_PROGRAMS)
 
 
 def program_of(image: dict[int, int]) -> list[str]:
