@@ -9,7 +9,7 @@ import { dirname, join } from "node:path";
 import { fileURLToPath } from "node:url";
 import { Engine } from "../../js/core/engine/engine.js";
 import { endOfInputs, matchAnswers, readInputs } from "../../js/core/bench/inputs.js";
-import { sourceOfRom } from "../../js/core/engine/sources.js";
+import { sourceOfRom } from "../../js/core/engine/texts_of_file.js";
 
 const [modulePath, mcs4, count] = process.argv.slice(2);
 // In memory, where the host has a place for it: the program waits for its disk after each command.

@@ -83,7 +83,7 @@ async function change(client, { colours, resultId }) {
     client.ask("textDocument/semanticTokens/full/delta", { textDocument, previousResultId: colours.resultId }),
     client.ask("textDocument/diagnostic", { textDocument, identifier: "mcs4", previousResultId: resultId }),
   ]);
-  verdict([delta.edits.length, found.items.map((each) => each.message)], [1, ["JMP is no instruction; JUN?"]], "colours that changed, and the error");
+  verdict([delta.edits.length, found.items.map((each) => each.message)], [1, ["JMP is not an instruction; JUN?"]], "colours that changed, and the error");
   const [action] = await client.ask("textDocument/codeAction", { textDocument, range: found.items[0].range, context: { diagnostics: found.items } });
   const [edit] = action.edit.changes[uri];
   client.notify("textDocument/didChange", { textDocument: { uri, version: 3 }, contentChanges: [{ range: edit.range, text: "JCN" }] });

@@ -139,7 +139,7 @@ const extension = require(`${TOP}editors/vscode/extension.js`);
 await extension.activate({ subscriptions: [] });
 for (let turns = 0; turns < 300 && !shown.has(uri.text); turns++) await new Promise((resume) => setTimeout(resume, 100));
 verdict((shown.get(uri.text) || []).map(({ given: [range, words] }) => [range.given, words.split("\n")[0]]),
-  [[[0, 8, 0, 11], "JMP is no instruction; JUN?"]], "faults are shown at their places");
+  [[[0, 8, 0, 11], "JMP is not an instruction; JUN?"]], "faults are shown at their places");
 const hover = await providers.registerHoverProvider.provideHover(document, { line: 1, character: 9 });
 verdict(/accumulator|ACC/i.test(hover.given[0].words), true, "help where one points");
 const range = { start: { line: 0, character: 8 }, end: { line: 0, character: 11 } };

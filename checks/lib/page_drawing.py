@@ -388,7 +388,7 @@ def check_faults(browser):
     """A text with faults is not drawn in; the picture stays, and goes on once they are gone."""
     text = text_of(browser)
     browser.script(PUT_INTO_EDITOR, BOARD, f"{text}\n[[lamp]]\n")
-    comes(browser, "a text with faults says so", STATE, re.compile("^The bench refuses the board's text"))
+    comes(browser, "a text with faults says so", STATE, re.compile("^The bench rejects the board's text"))
     verdict("and nothing can be added", len(browser.script(DISABLED)), 12)
     browser.script(PUT_INTO_EDITOR, BOARD, text.replace("# title: Lock", "# title: Other"))
     comes(browser, "without them it goes on", STATE, "")

@@ -70,7 +70,7 @@ FAULTY = """start:  LDX 5           ; für
 loop:   NOP
 loop:   NOP
 """
-WORDS = re.compile(r"^line 1: LDX is no instruction; .*\|line 2: FIM takes a pair, P0 to P7\|line 3: strat is not defined; start\?"
+WORDS = re.compile(r"^line 1: LDX is not an instruction; .*\|line 2: FIM takes a pair, P0 to P7\|line 3: strat is not defined; start\?"
                    r"\|line 4: LDM takes a value, 0 to 15\|line 6: loop is defined in line 5 already$")
 
 
@@ -91,7 +91,7 @@ def check_faults(browser):
             browser.script("return document.querySelectorAll('#program-editor .mark-faults').length"), 5)
     verdict("the tab tells how many", browser.text("#program-tab"), re.compile("5 faults$"))
     browser.click(f"{PROGRAM} .send")
-    comes(browser, "a program with faults is not assembled", TOLD.format(PROGRAM), re.compile("^line 1: LDX is no instruction.*4 more$"))
+    comes(browser, "a program with faults is not assembled", TOLD.format(PROGRAM), re.compile("^line 1: LDX is not an instruction.*4 more$"))
     browser.click(f"{PROGRAM} .faults-told li:nth-child(3) button")
     verdict("a fault in the list leads to its word", browser.script(CARET, PROGRAM), [2, 12, ""])
     put(browser, PROGRAM, FAULTY.replace("LDX", "LDM").replace("R0", "P0").replace("strat", "start").replace("16", "1\t; caf\u00e9")
@@ -288,7 +288,7 @@ def check_empty(browser):
     """An empty bench offers a board; a program on a bench without its ROM is told at its line."""
     choose_example(browser, "empty bench")
     put(browser, PROGRAM, "; nothing yet\n\tLDM 1\n")
-    comes(browser, "a ROM that is lacking is told at its line", FAULTS.format(PROGRAM), re.compile(r"^line 2: the board has no ROM 0, .*wire a \[\[rom\]\]"))
+    comes(browser, "a ROM that is lacking is told at its line", FAULTS.format(PROGRAM), re.compile(r"^line 2: this line is at 000, and the board has no ROM 0: wire a \[\[rom\]\]"))
     show_text(browser, "board")
     browser.click("#first-board")
     comes(browser, "an empty bench gets a board", TOLD.format(BOARD), "Board applied.")
@@ -306,8 +306,8 @@ size = 3
 [[lamp]]
 lime = "rom0.0"
 """
-WORDS_OF_BOARD = ("line 2: chip is 0 to 15|line 4: size is no key of rom, which has chip, port|line 6: this lamp lacks line"
-                  "|line 7: lime is no key of lamp; line?")
+WORDS_OF_BOARD = ("line 2: chip is 0 to 15|line 4: size is not a key of rom, which has chip, port|line 6: this lamp lacks line"
+                  "|line 7: lime is not a key of lamp; line?")
 
 
 def check_board(browser):
@@ -330,7 +330,7 @@ def check_board(browser):
         browser.keys([ENTER])
     comes(browser, "and a board of such parts has no fault", FAULTS.format(BOARD), "")
     put(browser, BOARD, "[[rom]]\nchip = 0\nport = 0000\n")
-    comes(browser, "what is no TOML", FAULTS.format(BOARD), 'line 3: a number has no 0 before it; a text stands in quotes: "0000"')
+    comes(browser, "what is no TOML", FAULTS.format(BOARD), 'line 3: a number does not begin with 0; a text is in quotes: "0000"')
     show_text(browser, "program")
 
 

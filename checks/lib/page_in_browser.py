@@ -345,7 +345,7 @@ def check_texts(browser):
     verdict("a letter that is not of ASCII", told_of(browser, "#program-editor", "NOP\ncaf\u00e9: NOP"), re.compile("^line 2: \u00e9 is not a"))
     rom = '[[rom]]\nchip = 0\nport = "0000"\n'
     verdict("an unknown key of a board", told_of(browser, "#board-editor", f"{rom}size = 3\n"),
-            "line 4: size is no key of rom, which has chip, port")
+            "line 4: size is not a key of rom, which has chip, port")
     verdict("a line that the board lacks", told_of(browser, "#board-editor", f'{rom}\n[[lamp]]\nline = "ram0.0.0"\n'),
             "line 6: ram0.0.0: the board has no RAM in bank 0")
     verdict("the board is as it was", browser.script(DIGITS) != "", True)

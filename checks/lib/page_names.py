@@ -244,7 +244,7 @@ def check_difference(browser, source, lines):
     lines_answered(browser, "poke rom.0x106 0xD2")
     comes(browser, "as long as it is there", SOURCE_TOLD, "")
     put(browser, "\tLDM 3\n\tJUN nowhere\n")
-    comes(browser, "a text with a fault says so", SOURCE_TOLD, re.compile("^The source has a fault in line 2: no 32"))
+    comes(browser, "a text with a fault says so", SOURCE_TOLD, re.compile("^The source has an error in line 2: no 32"))
     put(browser, "\tORG 0xF00\n\tNOP\n")
     comes(browser, "and one that has no ROM", SOURCE_TOLD, "The board has no ROM at 0xF00, where line 2 of the source goes.")
 

@@ -21,7 +21,7 @@ IN_SOURCE = "e.closest('#program-editor .cm-editor') !== null"
 REGISTERS = "return document.getElementById('registers').textContent"
 # It shows on the lamps which keys are down; its comment is what a source of the ROM would lack.
 TYPED = ["; my first program", "LDM 3", "WRR", "read: RDR", "WMQ", "JUN read"]
-FAULT = "line 5: WMQ is no instruction; WMP?"
+FAULT = "line 5: WMQ is not an instruction; WMP?"
 DROP = """
 const data = new DataTransfer();
 data.items.add(new File([arguments[1]], arguments[0]));

@@ -88,7 +88,7 @@ class Program:
         self.names = self.some_names()
 
     def put_part(self, at: int, phrases: int) -> None:
-        """Some phrases from an address on, as far as there is room, and an end: a jump, a code that is no instruction, or what comes next."""
+        """Some phrases from an address on, as far as there is room, and an end: a jump, a code that is not an instruction, or what comes next."""
         told = [word for _n in range(phrases) for word in self.phrase()]
         self.put(at, told + self.chance.choice([["JUN"], ["JUN"], ["BBL 3"], [f"DB 0x{self.chance.choice(OUTSIDE):02X}"], []]))
 

@@ -41,7 +41,7 @@ export function needCount(name, word, most) {
  */
 export async function projectFor(folder, words, fewest) {
   if (folder === undefined && (words.length >= fewest || !existsSync(PROJECT_FILE))) return null;
-  const [{ projectIn }, { ProjectFault }] = await Promise.all([import("./project_folder.mjs"), import("../core/project/project_folder.js")]);
+  const [{ projectIn }, { ProjectFault }] = await Promise.all([import("./project_on_disk.mjs"), import("../core/project/project_folder.js")]);
   try {
     return projectIn(folder === undefined ? "." : folder);
   } catch (thrown) {
@@ -51,7 +51,7 @@ export async function projectFor(folder, words, fewest) {
 
 /**
  * Returns files that a project names, of which a command needs some.
- * @param {import("./project_folder.mjs").DiskProject} project
+ * @param {import("./project_on_disk.mjs").DiskProject} project
  * @param {"tests" | "properties"} what
  */
 export function needNamed(project, what) {

@@ -81,7 +81,8 @@ function completedWords() {
   const commands = Object.entries(COMMANDS).map(([name, { options, usage }]) => ({
     name,
     does: say.COMMAND_WORDS[name].summary,
-    words: [...usage.map((form) => form.split(" ")[0]).filter((word) => /^[a-z]+$/.test(word)), ...Object.keys(options).map((option) => `--${option}`),
+    words: [...usage.map((form) => form.split(" ")[0]).filter((word) => /^[a-z]+$/.test(word)),
+      ...Object.keys(options).map((option) => `--${option}`),
       "--help"],
   }));
   const builtIn = Object.entries(say.MCS4_COMPLETED).map(([name, does]) => ({ name, does, words: /** @type {string[]} */ ([]) }));

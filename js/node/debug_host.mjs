@@ -1,7 +1,7 @@
 // What a debugger that runs by node needs of its host: files, and session files that the program itself writes (`mcs4 open`).
 import { closeSync, existsSync, fsyncSync, openSync, realpathSync } from "node:fs";
 import { dirname, isAbsolute, join, resolve } from "node:path";
-import { openProgram } from "./session_program.mjs";
+import { openProgram } from "./program_on_file.mjs";
 import { isInside, readUserFile, readUserText, replacementOf } from "./user_files.mjs";
 
 /** The most bytes that a session can have. */

@@ -23,7 +23,9 @@ const LEAST = say.columnsByRows(LEAST_SIZE.columns, LEAST_SIZE.rows);
 /** From this many bits for a colour on, a terminal has 256 of them, or 8. */
 const BITS = { many: 8, few: 4 };
 /** Three levels of each colour, dim, half and full, of 256 colours. */
-const OF_MANY = { red: [88, 160, 196], amber: [94, 172, 214], yellow: [100, 184, 226], green: [22, 34, 46], blue: [19, 27, 33], white: [240, 248, 231] };
+const OF_MANY = {
+  red: [88, 160, 196], amber: [94, 172, 214], yellow: [100, 184, 226], green: [22, 34, 46], blue: [19, 27, 33], white: [240, 248, 231],
+};
 /** The colours of eight. Amber is yellow that is not bright. */
 const OF_FEW = { red: 31, amber: 33, yellow: 33, green: 32, blue: 34, white: 37 };
 

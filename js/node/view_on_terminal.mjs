@@ -54,11 +54,11 @@ export class ViewOnTerminal {
 
   /** Draws what stands there now; the cursor stays where it is. */
   draw() {
-    const { size, output, isDumb } = this;
+    const { size, output } = this;
     if (!this.isOn || !size) return;
     const lines = this.view.lines(size, this.marks);
     const placed = lines.map((line, at) => `\x1b[${at + 1};1H\x1b[K${line}`).join("");
-    output.write(isDumb ? `${lines.join("\n")}\n` : `\x1b7\x1b[?7l${placed}\x1b[?7h\x1b8`);
+    output.write(this.isDumb ? `${lines.join("\n")}\n` : `\x1b7\x1b[?7l${placed}\x1b[?7h\x1b8`);
   }
 
   /** The terminal has another size, or was cleared by others. */

@@ -8,7 +8,7 @@ import { buzzerOf } from "../core/board/face_board.js";
 import { Pressing, wantsKey } from "./board/pressing.js";
 import { DrawingController } from "./drawing/drawing_controller.js";
 import { insertKeyScan } from "./text_ties.js";
-import { linesOfParts } from "../core/drawing/part_lines.js";
+import { linesOfParts } from "../core/drawing/drawn_part_lines.js";
 import { wordsOfCell } from "../core/help/manual.js";
 import { LookView } from "./look_view.js";
 import { isDialogOpen } from "./ui/dom.js";
@@ -17,7 +17,7 @@ import { catalogOf } from "../core/waves/wave_catalog.js";
 import { lineOfChange } from "../core/engine/key_queue.js";
 import * as say from "../words/page.js";
 
-/** @typedef {import("./page.js").Page} Page */
+/** @typedef {import("./bench_page.js").Page} Page */
 
 /**
  * @param {Page} page

@@ -4,7 +4,7 @@ import { COMMANDS, oneOf } from "./commands/command_table.js";
 import { fillEmptyPanels } from "./commands/empty_panels.js";
 import { listenToKeys } from "./commands/keys.js";
 import { PaletteView } from "./commands/palette_view.js";
-import { placesOf } from "./commands/places.js";
+import { placesOf } from "./commands/palette_places.js";
 import { isOffered } from "./commands/offered.js";
 import { WelcomeView } from "./session/welcome_view.js";
 import { ToolbarView } from "./commands/toolbar_view.js";
@@ -23,7 +23,7 @@ import * as say from "../words/page_commands.js";
  * @typedef {import("./commands/palette_search.js").Entry} Entry
  * @typedef {import("../core/engine/examples.js").Example} Example
  * @typedef {import("./help/guide.js").Guide} Guide
- * @typedef {import("./page.js").Page} Page
+ * @typedef {import("./bench_page.js").Page} Page
  */
 
 /** The choice that tells that the cards of a first visit were seen. */
@@ -220,7 +220,7 @@ export class Commands {
     if (!this.page.layout.choices.get(SEEN)) this.welcome.open();
   }
 
-  /** @returns {import("./commands/places.js").PlaceCalls} */
+  /** @returns {import("./commands/palette_places.js").PlaceCalls} */
   placeCalls() {
     const { page, calls, examples } = this;
     return {

@@ -6,7 +6,7 @@ import { Recovery } from "./recovery.js";
 import { CurrentSession } from "./session/current_session.js";
 import { Running } from "./time/running.js";
 
-/** @typedef {import("./page.js").Page} Page */
+/** @typedef {import("./bench_page.js").Page} Page */
 
 /**
  * @param {Page} page

@@ -17,7 +17,7 @@ import { HistoryView } from "./time/history_view.js";
 import { Travel } from "../core/time/travel.js";
 import { block } from "./ui/dom.js";
 
-/** @typedef {import("./page.js").Page} Page */
+/** @typedef {import("./bench_page.js").Page} Page */
 
 /**
  * Time runs to a line of the source, which may put nothing into ROM.

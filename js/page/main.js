@@ -1,14 +1,14 @@
 // Starts the page.
 
 import { inflateRaw } from "pako/dist/pako_inflate.js";
-import { Bench } from "../core/bench/bench.js";
+import { Bench } from "../core/bench/bench_client.js";
 import { startWorker } from "./bench/early_replies.js";
 import { Commands, shellOf } from "./command_ties.js";
 import { block, button, byId, element, field, onClick } from "./ui/dom.js";
 import { fromBase64 } from "../core/session/base64.js";
 import { Locks } from "./session/locks.js";
 import { Notice } from "./ui/notice.js";
-import { Page } from "./page.js";
+import { Page } from "./bench_page.js";
 import { storyOf } from "./session/address.js";
 import { guideOf } from "./session_ties.js";
 import { SPEEDS, speedOf } from "../core/time/speeds.js";

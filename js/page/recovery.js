@@ -3,7 +3,7 @@
 import * as say from "../words/page.js";
 
 /**
- * @typedef {import("../core/bench/bench.js").Bench} Bench
+ * @typedef {import("../core/bench/bench_client.js").Bench} Bench
  * @typedef {import("../core/bench/protocol.js").Frame} Frame
  * @typedef {import("../core/bench/words.js").Words} Words
  * @typedef {import("./session/kept_session.js").KeptSession} KeptSession

@@ -12,8 +12,8 @@ import * as say from "../words/page.js";
 
 /**
  * @typedef {import("../core/help/manual.js").ManualSection} ManualSection
- * @typedef {import("./page.js").Page} Page
- * @typedef {import("./page.js").Parts} Parts
+ * @typedef {import("./bench_page.js").Page} Page
+ * @typedef {import("./bench_page.js").Parts} Parts
  */
 
 /**

@@ -3,7 +3,7 @@
 import { countOfFaults } from "../core/bench/words.js";
 import { ExploreTab } from "./explore/explore_tab.js";
 import { Explorer } from "../core/explore/explorer.js";
-import { keyScanOf } from "../core/drawing/key_scan.js";
+import { keyScanOf } from "../core/drawing/scan_routine.js";
 import { namesOfCharacters } from "../core/machine/ram_names.js";
 import { SourceSync } from "../core/machine/source_sync.js";
 import { titleOf } from "../core/session/described.js";
@@ -16,7 +16,7 @@ import * as say from "../words/page.js";
 
 /**
  * @typedef {import("../core/help/manual.js").ManualSection} ManualSection
- * @typedef {import("./page.js").Page} Page
+ * @typedef {import("./bench_page.js").Page} Page
  */
 
 /**
@@ -53,7 +53,7 @@ export function editorsOf(page, manual) {
  * @returns {ProblemsView}
  */
 export function problemsOf(page) {
-  /** @type {Record<string, import("./text/editor_view.js").EditorView>} */
+  /** @type {Record<string, import("./text/text_editor_view.js").EditorView>} */
   const editors = { program: page.programEditor, board: page.boardEditor, tests: page.tests.editor, properties: page.explore.editor };
   const problems = new ProblemsView({
     goTo: (name, fault) => {
@@ -181,7 +181,7 @@ function addTest({ tests, texts }, test) {
 /**
  * @param {Page} page
  * @param {ManualSection[]} manual
- * @param {() => import("../core/bench/bench.js").Bench} makeBench
+ * @param {() => import("../core/bench/bench_client.js").Bench} makeBench
  * @returns {ExploreTab}
  */
 export function exploreOf(page, manual, makeBench) {

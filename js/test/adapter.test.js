@@ -150,7 +150,7 @@ test("what cannot be launched is refused in words, and another launch can follow
   assert.match(await refused({ program: "/b/b.asm" }), /^there is no board.toml beside \/b\/b.asm/);
   assert.match(await refused({ session: "/none.mcs" }), /^\/none.mcs is not there/);
   assert.match(await refused({ project: "/b" }), /^there is no \/b\/mcs4.toml/);
-  assert.match(await refused({ project: "/c/mcs4.toml" }), /^\/c\/mcs4.toml, line 2: \/x.asm is no path from the project's folder/);
+  assert.match(await refused({ project: "/c/mcs4.toml" }), /^\/c\/mcs4.toml, line 2: \/x.asm is not a path from the project's folder/);
   assert.match((await answer("attach", {})).message, /nothing to attach to/);
   await ask("launch", { cwd: "/lock", project: "/lock" });
   assert.equal((await answer("launch", LOCK)).message, "launch comes once");

@@ -1,7 +1,7 @@
 // The page's side of the worker, over a worker that is none.
 import assert from "node:assert/strict";
 import { mock, test } from "node:test";
-import { Bench } from "../core/bench/bench.js";
+import { Bench } from "../core/bench/bench_client.js";
 import { Cancelled, WorkerDied } from "../core/bench/faults.js";
 
 /** Gives a bench over workers that do as they are told by the test. */

@@ -72,8 +72,8 @@ test("what is not TOML", () => {
   assert.deepEqual(told("[[rom\n"), ["1: 20 ] is missing: [[rom]]"]);
   assert.deepEqual(told('[[rom]]\nchip 0\nport = "0000\n'),
     ["2: 20 = is missing after chip", '3: 20 the closing " of the text is missing']);
-  assert.deepEqual(told("port = 0000\n"), ['1: 20 a number has no 0 before it; a text stands in quotes: "0000"']);
-  assert.deepEqual(told("[[rom]]\nport = iiii\n"), ['2: 20 iiii is a text, so it stands in quotes: "iiii"']);
+  assert.deepEqual(told("port = 0000\n"), ['1: 20 a number does not begin with 0; a text is in quotes: "0000"']);
+  assert.deepEqual(told("[[rom]]\nport = iiii\n"), ['2: 20 iiii is a text: write it in quotes: "iiii"']);
   assert.deepEqual(told('[[rom]]\nchip = 0\nchip = 1\nport = "0000"\n'), ["3: 20 chip is there already, in line 2"]);
 });
 
@@ -82,8 +82,8 @@ test("keys and values", () => {
   assert.deepEqual(wordAtFault('[[rom]]\nchip = 16\nport = "oooo"\n'), ["16", '"oooo"']);
   assert.deepEqual(told('[[rom]]\nchip = "0"\nport = "0000"\n'), ["2: 23 chip is 0 to 15, a number without quotes"]);
   assert.deepEqual(told('[[rom]]\nchip = 1.0\nport = "0000"\n'), ["2: 23 chip is 0 to 15"]);
-  assert.deepEqual(told("[[ram]]\nbank = 0\nchip = 1\n"), ["1: 22 this ram lacks chips", "3: 21 chip is no key of ram; chips?"]);
-  assert.deepEqual(told("[[rmo]]\n"), ["1: 21 rmo is no part of a board; rom?"]);
+  assert.deepEqual(told("[[ram]]\nbank = 0\nchip = 1\n"), ["1: 22 this ram lacks chips", "3: 21 chip is not a key of ram; chips?"]);
+  assert.deepEqual(told("[[rmo]]\n"), ["1: 21 rmo is not a part of a board; rom?"]);
   assert.deepEqual(told("[[keys]]\n"), ["1: 23 a board has one key matrix: [keys]"]);
   assert.deepEqual(told("rom = [\n  { chip = 0, port = '1i0i' }, # one\n  { chip = 0x4D, port = '0000' },\n]\n"),
     ["3: 23 chip is 0 to 15"]);

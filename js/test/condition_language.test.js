@@ -3,10 +3,10 @@
 import assert from "node:assert/strict";
 import { readFileSync, readdirSync } from "node:fs";
 import { before, test } from "node:test";
-import { valueOfExpression } from "../core/adapter/values.js";
+import { valueOfExpression } from "../core/adapter/expression_values.js";
 import { Console } from "../core/adapter/console.js";
 import { putNames } from "../core/bench/names_in_lines.js";
-import { conditionOf, expressionOf, testConditionOf, tracedConditionOf } from "../core/conditions/conditions.js";
+import { conditionOf, expressionOf, testConditionOf, tracedConditionOf } from "../core/conditions/condition_language.js";
 import { LONGEST, MOST_DEPTH } from "../core/conditions/parser.js";
 import { readSetting } from "../core/conditions/setting.js";
 import { DebugSession } from "../core/debug/debug_session.js";
@@ -18,7 +18,7 @@ import { namesOfWatched, readWatched } from "../core/debug/watched.js";
 import { readCampaign } from "../core/explore/campaign.js";
 import { randomFrom } from "../core/explore/walks.js";
 import { Engine } from "../core/engine/engine.js";
-import { Prompt } from "../core/prompt/prompt.js";
+import { Prompt } from "../core/prompt/debugger_prompt.js";
 import { Account } from "../core/testing/account.js";
 import { TestSession } from "../core/testing/test_session.js";
 import { readTests } from "../core/testing/test_text.js";
@@ -102,7 +102,7 @@ const MEANT_THERE = [
 
 /** @type {DebugSession} */
 let session;
-/** @type {import("../core/conditions/conditions.js").Names} */
+/** @type {import("../core/conditions/condition_language.js").Names} */
 let names;
 before(() => {
   session = new DebugSession(engine, { board: BOARD, program: PROGRAM });
@@ -290,7 +290,7 @@ test("what no trace shows is refused where nothing else is asked", () => {
 test("errors point at their column, and propose", () => {
   for (const [text, column, fault] of [
     ["accu = 10", 0, "accu: no such place; the accumulator is acc"], ["cy = 1 and carry = 1", 11, "carry: no such place; the carry is cy"],
-    ["r5 = 10 or (r4 = 3", 11, "this parenthesis is not closed"], ["r5 = 12x", 5, "12x is no number; numbers are 10, 0xA or 0b1010"],
+    ["r5 = 10 or (r4 = 3", 11, "this parenthesis is not closed"], ["r5 = 12x", 5, "12x is not a number; numbers are 10, 0xA or 0b1010"],
     ["r5 = 10)", 7, "): a condition ends before this; join two by and, or"], ["r5 = limits", 5, "limits: no such place; perhaps limit"],
     ["r5 ? 3", 3, "? has no meaning in a condition"], ["r5 =", 3, "a value is missing after ="], ["cy = 2", 5, "cy holds 0 to 1, not 2"],
     ["count > 16", 8, "count holds 0 to 15, not 16"], ["lamp 9 on or r5 = 1", 0, "the board has no lamp 9; it has: 1 2 4 8 or"],

@@ -3,7 +3,7 @@ import assert from "node:assert/strict";
 import { before, test } from "node:test";
 import { readBoard } from "../core/bench/answers.js";
 import { Face } from "../core/board/face.js";
-import { MOST_PLACES, conditionOf, testConditionOf } from "../core/conditions/conditions.js";
+import { MOST_PLACES, conditionOf, testConditionOf } from "../core/conditions/condition_language.js";
 import { durationOf, wholeDuration } from "../core/conditions/durations.js";
 import { SourceMap } from "../core/machine/source_map.js";
 import { Answers, valuesOf } from "../core/engine/tracing.js";
@@ -24,7 +24,7 @@ async function bench(lines = "") {
   return { calls, names: { face: new Face(TEXT), board, map: new SourceMap(calls.ask(`map\n${PROGRAM}.\n`), PROGRAM) } };
 }
 
-/** @type {import("../core/conditions/conditions.js").Names} */
+/** @type {import("../core/conditions/condition_language.js").Names} */
 let names;
 before(async () => {
   ({ names } = await bench());

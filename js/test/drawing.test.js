@@ -112,7 +112,7 @@ onBench("a text that is read otherwise is not edited", () => {
     const [{ first, board }] = ask([text]);
     assert.deepEqual([first, isReadAlike(text, board)], ["ok 1", false]);
   }
-  assert.match(actOn("[[rom\n", { kind: "add", part: "ram" }).refusal, /faults/);
+  assert.match(actOn("[[rom\n", { kind: "add", part: "ram" }).refusal, /has errors/);
 });
 
 onBench("a buzzer keeps its line, goes with it, and is found again where chains are numbered anew", () => {

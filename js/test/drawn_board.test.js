@@ -6,7 +6,7 @@ import { readBoard } from "../core/bench/answers.js";
 import { Face } from "../core/board/face.js";
 import { actOn } from "../core/drawing/acts.js";
 import { sourcesOf } from "../core/drawing/board_lines.js";
-import { Drawing } from "../core/drawing/drawing.js";
+import { Drawing } from "../core/drawing/board_drawing.js";
 import { titleOf } from "../core/session/described.js";
 import { fieldsOf } from "../core/drawing/fields.js";
 import { lampLabels } from "../core/drawing/lamp_labels.js";
@@ -109,7 +109,7 @@ test("a text with faults is not drawn in; what was drawn last stays", async () =
   const desk = await drawn(boardOf("lock"));
   desk.text = `${desk.text}\n[[lamp]]\n`;
   await desk.drawing.look();
-  assert.match(desk.shown.fault, /^The bench refuses the board's text: refusal 2[02]\. Board shows where\.$/);
+  assert.match(desk.shown.fault, /^The bench rejects the board's text: refusal 2[02]\. Board shows where\.$/);
   assert.equal(desk.shown.board.lamps.length, 3);
   const text = desk.text.replace("\n[[lamp]]\n", "");
   desk.text = text.replace('"rom1.0"', '"rom1\\u002e0"');
@@ -127,7 +127,7 @@ test("what is longer than the bench takes is not done", async () => {
   const desk = await drawn(long);
   assert.equal(desk.shown.fault, "");
   await desk.drawing.act({ kind: "add", part: "rom" });
-  assert.match(desk.shown.said, /^It was not done\. The bench refuses the board's text: refusal 13\./);
+  assert.match(desk.shown.said, /^It was not done\. The bench rejects the board's text: refusal 13\./);
   assert.equal(desk.text, long);
 });
 

@@ -13,7 +13,7 @@ import { Engine } from "../core/engine/engine.js";
 import { readBoard } from "../core/bench/answers.js";
 import { withoutStops } from "../core/engine/wave_recorder.js";
 import { neededLines, recordPieces } from "../core/engine/wave_stream.js";
-import { runTests } from "../core/testing/testing.js";
+import { runTests } from "../core/testing/test_suite.js";
 import { coverageText, lcovOf } from "../core/testing/coverage_text.js";
 import { profileText } from "../core/testing/profile_text.js";
 import { tapOfTests } from "../core/testing/tap.js";

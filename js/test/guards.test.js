@@ -7,7 +7,7 @@ import { readCampaign } from "../core/explore/campaign.js";
 import { subjectOf } from "../core/explore/subject.js";
 import { randomFrom } from "../core/explore/walks.js";
 import { Engine } from "../core/engine/engine.js";
-import { runTests } from "../core/testing/testing.js";
+import { runTests } from "../core/testing/test_suite.js";
 import { moduleOfPage } from "./page_session.js";
 
 const engine = new Engine(new globalThis.WebAssembly.Module(moduleOfPage));

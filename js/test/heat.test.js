@@ -2,7 +2,7 @@
 import assert from "node:assert/strict";
 import { test } from "node:test";
 import { Cancelled } from "../core/bench/faults.js";
-import { PassingHeat, warmthOf, wordsOfHeat, wordsOfHeated, wordsOfPassing, wordsOfSeen } from "../core/machine/heat.js";
+import { PassingHeat, warmthOf, wordsOfHeat, wordsOfHeated, wordsOfPassing, wordsOfSeen } from "../core/machine/warmth.js";
 import { bytesOfSource, namesOfCharacters } from "../core/machine/ram_names.js";
 import { SourceMap } from "../core/machine/source_map.js";
 import { readWatched } from "../core/debug/watched.js";

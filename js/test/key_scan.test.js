@@ -2,7 +2,7 @@
 import assert from "node:assert/strict";
 import { test } from "node:test";
 import { readBoard } from "../core/bench/answers.js";
-import { keyScanOf } from "../core/drawing/key_scan.js";
+import { keyScanOf } from "../core/drawing/scan_routine.js";
 import { sentText } from "../core/text/text_fault.js";
 import { Engine } from "../core/engine/engine.js";
 import { examplesOfPage, moduleOfPage } from "./page_session.js";

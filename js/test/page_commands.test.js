@@ -5,7 +5,7 @@ import { test } from "node:test";
 import { COMMANDS, commandOf } from "../page/commands/command_table.js";
 import { commandOfKey, editorKeys, keyNameOf, listenToKeys } from "../page/commands/keys.js";
 import { keyRows, withKeys } from "../page/commands/key_list.js";
-import { placesOf } from "../page/commands/places.js";
+import { placesOf } from "../page/commands/palette_places.js";
 import { found, rankOf } from "../page/commands/palette_search.js";
 import * as say from "../words/page_commands.js";
 

@@ -10,7 +10,7 @@ import { sessionProgram } from "../core/engine/session_program.js";
 import { romCodes } from "../core/engine/rom_codes.js";
 import { lampRowsOf, textOfCell } from "../core/panel/lamp_rows.js";
 import { largeRows } from "../core/panel/large_digits.js";
-import { Panel } from "../core/panel/panel.js";
+import { Panel } from "../core/panel/terminal_panel.js";
 import { Screen, hasRoom, middleRows } from "../core/panel/screen.js";
 import { keysIn } from "../core/panel/terminal_keys.js";
 import { sentText } from "../core/text/text_fault.js";
@@ -166,7 +166,7 @@ test("what is refused is reported", async () => {
   const breaks = Array.from({ length: 32 }, (_, at) => `break ${100 + at}\n`).join("");
   const { typed, text } = await begun(COUNTER, { lines: breaks, isPaused: true });
   await typed("\t");
-  assert.match(text(), /break 0x000 is refused: no (\d+): words of \1\n/);
+  assert.match(text(), /break 0x000 is rejected: no (\d+): words of \1\n/);
 });
 
 test("a source: its lines in the listing, and the line that comes next above it", async () => {

@@ -47,10 +47,10 @@ test("words that are alike", () => {
   assert.deepEqual(mostAlike("xyz", ["start"]), []);
 });
 
-test("what is no instruction, and what may be meant", () => {
-  assert.match(wordsOf("LDX 5"), /^LDX is no instruction; .*LDM\?$/);
-  assert.equal(wordsOf("JMP there"), "JMP is no instruction; JUN?");
-  assert.equal(wordsOf("begin"), "begin is no instruction; a label has a colon: begin:");
+test("what is not an instruction, and what may be meant", () => {
+  assert.match(wordsOf("LDX 5"), /^LDX is not an instruction; .*LDM\?$/);
+  assert.equal(wordsOf("JMP there"), "JMP is not an instruction; JUN?");
+  assert.equal(wordsOf("begin"), "begin is not an instruction; a label has a colon: begin:");
   for (const rest of ["NOP", "jun x", "FIM P0, 3", "= 3 + 4"]) {
     assert.equal(wordsOf(`x ${rest}`).includes("a label has a colon: x:"), !rest.startsWith("="), rest);
   }
@@ -61,7 +61,7 @@ test("what is no instruction, and what may be meant", () => {
 test("what an instruction takes", () => {
   assert.equal(wordsOf("FIM R0, 5"), "FIM takes a pair, P0 to P7");
   assert.equal(wordAtFault("FIM R0, 5"), "R0");
-  assert.equal(wordsOf("FIM P0 5"), "FIM takes a pair, P0 to P7; a comma stands between two operands");
+  assert.equal(wordsOf("FIM P0 5"), "FIM takes a pair, P0 to P7; write a comma between two operands");
   assert.equal(wordsOf("INC R16"), "INC takes a register, R0 to R15");
   assert.equal(wordsOf("NOP 1"), "NOP takes nothing after it");
   assert.equal(wordsOf("LDM"), "LDM takes a value, 0 to 15");
@@ -106,7 +106,7 @@ test("all faults are found, one after the other, and a blanked line keeps what i
     return refuse(part);
   });
   const told = found.faults.map(({ line, words }) => [line, words.split(";")[0]]);
-  assert.deepEqual(told, [[1, "LDX is no instruction"], [2, "strat is not defined"]]);
+  assert.deepEqual(told, [[1, "LDX is not an instruction"], [2, "strat is not defined"]]);
   assert.equal(found.areAll, true);
   assert.equal(seen[2], "start:\nDB 0,0\n");
 });

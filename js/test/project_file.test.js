@@ -131,7 +131,7 @@ test("breakpoints of the source stand in the head, and come back as they were", 
   assert.equal(read(projectText(project({ breakpoints: [] }))).breakpoints, undefined);
   for (const wrong of ["break", "break here", "break line x", "break line 3 if r4", "break at 0x12"]) {
     const changed = text.replace(/\ncksum .*/, "").replace("break at 0x7FF", wrong);
-    assert.throws(() => read(changed), /has to be one of the head: `name`, `unended`, `break`/);
+    assert.throws(() => read(changed), /must be one of the head: `name`, `unended`, `break`/);
   }
 });
 
@@ -156,7 +156,7 @@ test("a project is files of a folder, and their texts are its parts again", () =
   assert.match(parts.get("mcs4.toml"), /^# .*\nboard = "board.toml"\nprogram = "program.asm"\ntests = \["program.test"\]\n$/);
   assert.deepEqual([breakpointsIn(parts.get("breakpoints")), valuesIn(parts.get("values"))], [breakpoints, watched]);
   assert.deepEqual([parts.get("name"), parts.get("board.toml"), parts.get("session.mcs")], ["a lock\n", "# b\n", whole.file]);
-  assert.throws(() => breakpointsIn("break line 1\nbreak\n"), /line 2 is no breakpoint/);
+  assert.throws(() => breakpointsIn("break line 1\nbreak\n"), /line 2 is not a breakpoint/);
   assert.throws(() => breakpointsIn("break line 1\n".repeat(257)), /it has 257 breakpoints, more than a project can have \(256\)/);
   assert.throws(() => valuesIn("a = R1\n \n"), /line 2 is empty/);
 });
@@ -167,5 +167,5 @@ test("a text that is too long for the editors is read if that is asked for; zero
   assert.equal(readProject(encode(long), SIZE, true).programText.length, 77000);
   assert.throws(() => read(projectText(project({ boardText: "\0" }))), /zero bytes/);
   const more = projectText(project()).replace(/cksum \d+\n/, "").replace("\nend\n", "\nmore\nend\n");
-  assert.throws(() => read(more), new RegExp(`line ${more.split("\n").indexOf("more") + 1} of the project has to be the end of the file`));
+  assert.throws(() => read(more), new RegExp(`line ${more.split("\n").indexOf("more") + 1} of the project must be the end of the file`));
 });

@@ -6,7 +6,7 @@ import { join } from "node:path";
 import { test } from "node:test";
 import { ProjectFault, readProject } from "../core/project/project_folder.js";
 import { readProjectToml } from "../core/project/project_toml.js";
-import { projectIn } from "../node/project_folder.mjs";
+import { projectIn } from "../node/project_on_disk.mjs";
 
 const GOOD = "board = \"board.toml\"\nprogram = \"main.asm\" # the source\n";
 const bytesOf = (text) => new TextEncoder().encode(text);
@@ -27,13 +27,13 @@ test("a project file names files, and a speed", () => {
 test("what is wrong in a project file is told with its line", () => {
   assert.match(firstFault(`${GOOD}lamp = "x"\n`), /^3: a project has no key lamp; it has board, program/);
   assert.match(firstFault("board = \"b.toml\"\n"), /^1: program is missing/);
-  assert.match(firstFault(`${GOOD}board = "c.toml"\n`), /^3: board stands in line 1 already/);
+  assert.match(firstFault(`${GOOD}board = "c.toml"\n`), /^3: board is in line 1 already/);
   assert.match(firstFault(`${GOOD}tests = "a.test"\n`), /^3: tests is a list of paths/);
   assert.match(firstFault(`${GOOD}tests = [1]\n`), /^3: tests is a list of paths/);
   assert.match(firstFault("board = []\n"), /^1: board is the path of a file/);
   assert.match(firstFault(`${GOOD}speed = "quick"\n`), /^3: speed is one of "real", .* and "full"$/);
   assert.match(firstFault(`${GOOD}[[rom]]\nchip = 0\n`), /^3: a project has no tables/);
-  assert.match(firstFault("board = b.toml\n"), /^1: b.toml is a text, so it stands in quotes/);
+  assert.match(firstFault("board = b.toml\n"), /^1: b.toml is a text: write it in quotes/);
   for (const path of ["/etc/passwd", "../b.toml", "a/../../b.toml", "a\\\\b", ""]) {
     assert.match(firstFault(`board = "${path}"\n`), /^1: .*(folder|path)/, path);
   }

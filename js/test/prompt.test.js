@@ -3,8 +3,8 @@ import assert from "node:assert/strict";
 import { readFileSync } from "node:fs";
 import { test } from "node:test";
 import { DebugSession } from "../core/debug/debug_session.js";
-import { COMMANDS, commandOf, helpOf } from "../core/prompt/command_table.js";
-import { Prompt } from "../core/prompt/prompt.js";
+import { COMMANDS, commandOf, helpOf } from "../core/prompt/prompt_commands.js";
+import { Prompt } from "../core/prompt/debugger_prompt.js";
 import { View, sizeOf } from "../core/prompt/view.js";
 import { countIn, cyclesIn, instructionIn } from "../core/prompt/words_of_line.js";
 import { Engine } from "../core/engine/engine.js";
@@ -73,7 +73,7 @@ test("places, counts and times", async () => {
   assert.deepEqual([countIn("", 9), countIn(" 7 ", 9)], [1, 7]);
   for (const wrong of ["0", "10", "x", "-1", "1.5"]) assert.throws(() => countIn(wrong, 9), /a count is 1 to 9/, wrong);
   assert.deepEqual([cyclesIn("538"), cyclesIn("20 ms"), cyclesIn("1s")], [538, 1852, 92593]);
-  assert.throws(() => cyclesIn("soon"), /soon is no time/);
+  assert.throws(() => cyclesIn("soon"), /soon is not a time/);
 });
 
 test("moves, and the same way back", async () => {
@@ -109,7 +109,7 @@ test("back to arrivals at breakpoints, to changes of what is watched, and to the
   assert.match(await words("rc"), /^Back at 000 .*, where what is remembered begins: no breakpoint was passed since\.$/);
   assert.equal(total(), 0);
   assert.deepEqual(await ask("rc"), ["refused: Nothing was done: what is remembered reaches no further back."]);
-  assert.match((await ask("rc 3")).join(), /^refused: reverse-continue stands alone/);
+  assert.match((await ask("rc 3")).join(), /^refused: reverse-continue takes nothing after it/);
 });
 
 test("a run among lines of the bench ends at breakpoints as time does that runs", async () => {
@@ -183,7 +183,7 @@ test("what is shown, printed and set", async () => {
 
 test("the view: source, registers, lamps, in any size; values that are others stand out", async () => {
   const { prompt, ask } = await prompted();
-  assert.match((await ask("view")).join(), /^refused: the view is for a terminal/);
+  assert.match((await ask("view")).join(), /^refused: the view needs a terminal/);
   assert.match((await ask("view far")).join(), /^refused: it is written as view, view on or view off$/);
   const turned = [];
   prompt.calls.view = { toggle: () => "no room", turn: (isOn) => { turned.push(isOn); return ""; } };
@@ -258,7 +258,7 @@ test("breakpoints that are deleted at their stop, that change, and that let hits
   for (const [line, words] of [
     ["condition", /^refused: it is written as condition N/], ["condition 9 acc = 1", /no breakpoint 9/],
     ["ignore 2", /0 to 999,999,999, not nothing/],
-    ["ignore 2 -1", /not -1/], ["commands 2 3", /commands N/], ["tbreak nothing", /no place in the program/],
+    ["ignore 2 -1", /not -1/], ["commands 2 3", /commands N/], ["tbreak nothing", /not a place in the program/],
   ]) assert.match((await ask(line)).join(), words, line);
 });
 
@@ -310,7 +310,7 @@ test("more that info shows, and short words of gdb", async () => {
   assert.deepEqual(await ask("f"), ["#0  0A7  scan, line 125", ">  125  0A7  scan:   LDM 15"]);
   assert.match((await ask("info program"))[0], /^Paused at 0A7/);
   assert.match((await ask("info locals"))[0], /no local variables/);
-  assert.deepEqual(await ask("info registers r4"), ["refused: info registers stands alone"]);
+  assert.deepEqual(await ask("info registers r4"), ["refused: info registers takes nothing after it"]);
   for (const words of ["si step", "ni next", "rsi reverse-step", "r run", "tb tbreak", "dis disable", "cond condition"]) {
     const [word, name] = words.split(" ");
     assert.equal(commandOf(word).command.name, name, word);

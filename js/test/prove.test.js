@@ -1,7 +1,7 @@
 // Questions to the prover: conditions become comparisons that mean the same on every machine; what was read becomes keys, and a test.
 import assert from "node:assert/strict";
 import { test } from "node:test";
-import { tracedConditionOf } from "../core/conditions/conditions.js";
+import { tracedConditionOf } from "../core/conditions/condition_language.js";
 import { Engine } from "../core/engine/engine.js";
 import { readCampaign } from "../core/explore/campaign.js";
 import { subjectOf } from "../core/explore/subject.js";
@@ -11,7 +11,7 @@ import { comparisonsOf } from "../core/prove/decided.js";
 import { allMistakes, cyclesToMistake } from "../core/prove/mistakes.js";
 import { askedOf, questionOf, readAnswer } from "../core/prove/question.js";
 import { statusOf, tapOf } from "../core/prove/verdicts.js";
-import { runTests } from "../core/testing/testing.js";
+import { runTests } from "../core/testing/test_suite.js";
 import { NoAccount } from "../core/testing/account.js";
 import { moduleOfPage } from "./page_session.js";
 

@@ -124,7 +124,7 @@ test("words with their kinds as numbers", () => {
 });
 
 test("faults with what cures them, and that there may be more", () => {
-  const faults = [{ number: 30, line: 2, from: 8, to: 11, words: "JMP is no instruction; JUN?", cures: ["JUN"] },
+  const faults = [{ number: 30, line: 2, from: 8, to: 11, words: "JMP is not an instruction; JUN?", cures: ["JUN"] },
     { number: 32, line: 3, from: 0, to: 2, words: "b" }];
   assert.deepEqual(diagnosticsOf(faults, true).map(({ severity, code }) => [severity, code]), [[1, 30], [1, 32]]);
   assert.deepEqual(diagnosticsOf(faults, false).map(({ severity }) => severity), [1, 1, 3]);
@@ -158,7 +158,7 @@ test("all faults of a program, on the board beside it, and cures", async () => {
   const uri = "file:///a/x.asm";
   const told = await open(uri, "begin: JMP begn\n  LDM 0FH\nzero EQU 4\n  JUN begni\n");
   assert.deepEqual(told.map(({ range, message }) => [range.start.line, range.start.character, range.end.character, message]), [
-    [0, 7, 10, "JMP is no instruction; JUN?"],
+    [0, 7, 10, "JMP is not an instruction; JUN?"],
     [1, 6, 9, "LDM takes a value, 0 to 15; hexadecimal is 0x0F"],
     [2, 5, 10, "a name gets its number by =: zero = 4"],
     [3, 6, 11, "begni is not defined; begin?"],
@@ -167,7 +167,7 @@ test("all faults of a program, on the board beside it, and cures", async () => {
   const actions = await ask("textDocument/codeAction", { textDocument: { uri }, range });
   assert.deepEqual(actions.map(({ title }) => title), ["Write JUN", "Write 0x0F", "Write = 4", "Write begin"]);
   const lacks = await open("file:///a/y.asm", " ORG 0x200\n NOP\n");
-  assert.match(lacks[0].message, /^the board has no ROM 2, where this line stands/);
+  assert.match(lacks[0].message, /^this line is at 200, and the board has no ROM 2/);
   assert.deepEqual(await open("file:///b/y.asm", " ORG 0x200\n NOP\n"), []);
 });
 
@@ -176,7 +176,7 @@ test("a bad name is one fault, and hides no other", async () => {
   await begin();
   for (const [at, name] of ["thisnameismuchtoolong", "LDM", "P3", "2x"].entries()) {
     const faults = await open(`file:///bad${at}.asm`, `${name} = 3\n LDM 16\nright = 4\n LDM right\n`);
-    const told = faults.map(({ range, message }) => `${range.start.line} ${/more faults/.test(message)}`);
+    const told = faults.map(({ range, message }) => `${range.start.line} ${/more errors/.test(message)}`);
     assert.deepEqual(told, ["0 false", "1 false"], `${name}: ${JSON.stringify(faults)}`);
   }
 });
@@ -196,7 +196,7 @@ test("a program's words, names and places", async () => {
   const { changes } = await ask("textDocument/rename", { ...at(uri, 2, 6), newName: "round" });
   assert.deepEqual(changes[uri].map(({ range }) => range.start.line), [1, 2]);
   assert.match((await answer("textDocument/rename", { ...at(uri, 2, 6), newName: "LDM" })).error.message, /is an instruction/);
-  assert.match((await answer("textDocument/rename", { ...at(uri, 2, 2), newName: "x" })).error.message, /No name/);
+  assert.match((await answer("textDocument/rename", { ...at(uri, 2, 2), newName: "x" })).error.message, /no name of the program/);
   assert.deepEqual((await ask("textDocument/completion", at(uri, 2, 3))).map(({ label, detail }) => [label, detail]),
     [["JUN", "t   jump unconditional: to t"]]);
   const symbols = await ask("textDocument/documentSymbol", { textDocument: { uri } });
@@ -214,10 +214,10 @@ test("a board's words and places: a lamp's line leads to its chip", async () => 
   const column = lines[lamp].indexOf("ram0.0.2");
   assert.deepEqual((await ask("textDocument/definition", at(uri, lamp, column + 3))).range.start.line, lines.indexOf("[[ram]]"));
   assert.match((await ask("textDocument/hover", at(uri, lamp, column + 3))).contents.value,
-    /^ram0\.0\.2: line 2 of the port of RAM chip 0 in bank 0, lamp 2 \(alarm\); its chip stands in line \d+\.$/);
+    /^ram0\.0\.2: line 2 of the port of RAM chip 0 in bank 0, lamp 2 \(alarm\); its chip is in line \d+\.$/);
   assert.equal((await ask("textDocument/references", at(uri, lines.indexOf("[[ram]]"), 3))).length, 4);
   const wrong = await open("file:///b/board.toml", BOARD.replace("chips = 1", "chip = 1"), "toml");
-  assert.deepEqual(wrong.map(({ message }) => message), ["this ram lacks chips", "chip is no key of ram; chips?"]);
+  assert.deepEqual(wrong.map(({ message }) => message), ["this ram lacks chips", "chip is not a key of ram; chips?"]);
   const range = { start: { line: 0, character: 0 }, end: { line: lines.length, character: 0 } };
   const actions = await ask("textDocument/codeAction", { textDocument: { uri: "file:///b/board.toml" }, range });
   assert.deepEqual(actions.map(({ title }) => title), ["Write chips"]);

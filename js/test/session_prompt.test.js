@@ -1,7 +1,7 @@
 // The prompt of sessions, on the module: lines, texts, files, why a line is rejected, help, and what a line can go on with.
 import assert from "node:assert/strict";
 import { test } from "node:test";
-import { SessionPrompt } from "../core/prompt/session_prompt.js";
+import { SessionPrompt } from "../core/prompt/bench_prompt.js";
 import { folded, foldedMessage } from "../core/text/folded.js";
 import { Engine } from "../core/engine/engine.js";
 import { dataOfPage } from "../node/page_parts.mjs";
@@ -71,7 +71,7 @@ test("lines, typed texts, and what is wrong with them", async () => {
     "no 44", "(a run takes 1 to 100,000 cycles, not 0)", "no 11", "(x is not a number from 0 to 4,294,967,295)",
   ]);
   assert.deepEqual(await ask("asm", "a: JMP b", "b: LDM 17", "."), [
-    "no 30 line 1", "(line 1: JMP is no instruction; JUN?)", "(    a: JMP b)", "(line 2: LDM takes a value, 0 to 15)", "(    b: LDM 17)",
+    "no 30 line 1", "(line 1: JMP is not an instruction; JUN?)", "(    a: JMP b)", "(line 2: LDM takes a value, 0 to 15)", "(    b: LDM 17)",
   ]);
   const [, why] = await ask("asm", "; \u00e9", ".");
   assert.match(why, /a byte that is neither a tab nor a printing character of ASCII/);
@@ -94,7 +94,7 @@ test("files in the place of typed texts, without their comments", async () => {
   assert.deepEqual(await ask("wire b.toml", "asm p.asm", "map p.asm"), [
     "ok 1", "ok 2 bytes 2", "map lines 2 names 1", "line 1 000 0", "line 2 000 2", "name loop 000",
   ]);
-  assert.deepEqual(await ask("asm bad.asm"), ["no 30 line 2", "(bad.asm: line 2: JMP is no instruction; JUN?)", "(     JMP 3)"]);
+  assert.deepEqual(await ask("asm bad.asm"), ["no 30 line 2", "(bad.asm: line 2: JMP is not an instruction; JUN?)", "(     JMP 3)"]);
   assert.match((await ask("asm far.asm"))[1], /^\(far\.asm: line 2: /);
   assert.deepEqual(await ask("asm none"), ["(cannot read none: there is no such file)"]);
 });
@@ -106,7 +106,7 @@ test("lines of a file, up to an error", async () => {
   });
   assert.deepEqual(await ask("source one", "seq"), [
     "ok 1", "seq 1", "no 42",
-    "(two: line 3: the board has no ROM 0, where this line stands (000): wire a [[rom]] with chip = 0)", "(     NOP)", "seq 1",
+    "(two: line 3: this line is at 000, and the board has no ROM 0: wire a [[rom]] with chip = 0)", "(     NOP)", "seq 1",
   ]);
   assert.deepEqual((await ask("source cut")), ["(cut ends too soon; the text of asm is dropped)"]);
   assert.deepEqual(await ask("source itself"), ["(itself: line 1: files serve the lines of others at most 8 deep)"]);

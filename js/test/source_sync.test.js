@@ -84,8 +84,8 @@ test("a text that is refused, or has no ROM to stand in, says so", async () => {
   await sync.check();
   now.checked = { map: MAP, refusal: null, difference: { address: 2, hasRom: false } };
   await sync.check();
-  assert.deepEqual(seen.changed.map(([, words]) => words), ["The source has a fault in line 1: no 30: words of 30.",
-    "The source has a fault: no 13: words of 13.", "The source has a fault in line 1: a line with only a dot ends the text.",
+  assert.deepEqual(seen.changed.map(([, words]) => words), ["The source has an error in line 1: no 30: words of 30.",
+    "The source has an error: no 13: words of 13.", "The source has an error in line 1: a line with only a dot ends the text.",
     "The board has no ROM at 0x002, where line 4 of the source goes."]);
 });
 

@@ -5,7 +5,7 @@ import { before, test } from "node:test";
 import { Cancelled } from "../core/bench/faults.js";
 import { wordsOfCoverage } from "../core/testing/coverage.js";
 import { withTenths } from "../core/bench/numbers.js";
-import { readTested, runTests } from "../core/testing/testing.js";
+import { readTested, runTests } from "../core/testing/test_suite.js";
 import { Engine } from "../core/engine/engine.js";
 import { moduleOfPage } from "./page_session.js";
 
@@ -75,7 +75,7 @@ test("what is repeated, shared steps, and the label that was passed last", async
   assert.deepEqual([outcomes[0].cycles, outcomes[0].failure.line], [7 + 13 * 538, 15]);
   assert.equal(outcomes[0].failure.words,
     "cycles are 2152, and have to be at most 2000; in turn 4 of 5 of line 13, in turn 1 of 2 of line 12");
-  assert.equal(outcomes[1].failure.words, "it did not come within 4 cycles: pc is 016 (turn), and has to be @first; "
+  assert.equal(outcomes[1].failure.words, "it did not become true within 4 cycles: pc is 016 (turn), and has to be @first; "
     + "the label passed last is turn, 2 cycles ago; @first was passed last 10 cycles ago");
 });
 

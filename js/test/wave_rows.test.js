@@ -4,7 +4,7 @@ import { test } from "node:test";
 import { measureAt, measureText } from "../core/waves/measuring.js";
 import { WaveRows } from "../core/waves/wave_rows.js";
 import { WaveWindow } from "../core/waves/wave_window.js";
-import { Waves } from "../core/waves/waves.js";
+import { Waves } from "../core/waves/wave_recording.js";
 import { svgOf } from "../page/waves/wave_pictures.js";
 
 const NAMES = ["a", "b", "c", "d", "e"];

@@ -1,7 +1,7 @@
 // Looking for values and edges in a recording: by hand, and beside what the bench tells.
 import assert from "node:assert/strict";
 import { test } from "node:test";
-import { Waves } from "../core/waves/waves.js";
+import { Waves } from "../core/waves/wave_recording.js";
 import { find, readSearch } from "../core/waves/wave_search.js";
 import { lineNamed } from "../core/waves/trigger.js";
 import { begin, examplesOfPage } from "./page_session.js";

@@ -8,7 +8,7 @@ import { linesOfBoard, valueLine } from "../core/waves/wave_lines.js";
 import { Answers } from "../core/engine/tracing.js";
 import { WaveTaking } from "../core/engine/wave_taking.js";
 import { countUpTo } from "../core/waves/growing.js";
-import { Waves } from "../core/waves/waves.js";
+import { Waves } from "../core/waves/wave_recording.js";
 
 const BOARD = readBoard([
   "board", "[[rom]]", "chip = 0", 'port = "0000"', "[[rom]]", "chip = 1", 'port = "iiii"', "[[rom]]", "chip = 2", 'port = "iiii"',

@@ -3,7 +3,7 @@ import assert from "node:assert/strict";
 import { test } from "node:test";
 import { LiveWaves } from "../core/waves/live_waves.js";
 import { vcdParts } from "../core/waves/vcd.js";
-import { Waves } from "../core/waves/waves.js";
+import { Waves } from "../core/waves/wave_recording.js";
 import { begin, examplesOfPage } from "./page_session.js";
 
 async function beginWith(name, lines = "") {

@@ -4,7 +4,7 @@ import { test } from "node:test";
 import { BenchCalls } from "../core/engine/bench_calls.js";
 import { neededLines, recordPieces } from "../core/engine/wave_stream.js";
 import { VcdText, vcdParts } from "../core/waves/vcd.js";
-import { Waves } from "../core/waves/waves.js";
+import { Waves } from "../core/waves/wave_recording.js";
 import { examplesOfPage, moduleOfPage } from "./page_session.js";
 
 const [module, examples] = [moduleOfPage, examplesOfPage];
@@ -80,7 +80,7 @@ test("the past begins with the board, and where nothing was done nothing is reco
   assert.deepEqual([recorded.cycles, recorded.lines.map(({ name }) => name)], [30, names]);
 });
 
-test("a code that is no instruction ends a recording, and it is told", async () => {
+test("a code that is not an instruction ends a recording, and it is told", async () => {
   const { calls, texts } = await begin("three lamps");
   await calls.serve("poke rom.0x018 0xFF\npoke rom.0x014 0xFF\n");
   const recorded = await calls.record(100, false, texts);

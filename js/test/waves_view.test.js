@@ -6,7 +6,7 @@ import { WaveWindow, ticksOf } from "../core/waves/wave_window.js";
 import {
   betweenText, cursorText, cyclesText, instructionText, microseconds, readCycles, recordedText, spokenText, valueText,
 } from "../core/waves/wave_words.js";
-import { Waves } from "../core/waves/waves.js";
+import { Waves } from "../core/waves/wave_recording.js";
 
 /** A line that changes at some moments. */
 function wavesWith(changes, cycles) {
@@ -132,7 +132,7 @@ test("what was recorded, in words", () => {
   assert.equal(recordedText(waves, 3, false), "3 cycles recorded, 32.4 microseconds.");
   assert.equal(recordedText(waves, 9, true), "3 cycles recorded, 32.4 microseconds. The past reaches no further back.");
   waves.isStuck = true;
-  assert.match(recordedText(waves, 9, false), /Then comes a code that is no instruction\.$/);
+  assert.match(recordedText(waves, 9, false), /Then comes a code that is not an instruction\.$/);
   assert.match(recordedText(wavesWith([], 0), 9, true), /^Nothing was recorded/);
 });
 

@@ -4,7 +4,7 @@ import { test } from "node:test";
 import { readBoard } from "../core/bench/answers.js";
 import { partAtLine, partLines } from "../core/bench/part_lines.js";
 import { drawBoard, isHigh, isHighAtRom } from "../core/board/wiring.js";
-import { linesOfParts } from "../core/drawing/part_lines.js";
+import { linesOfParts } from "../core/drawing/drawn_part_lines.js";
 
 const BOARD = ["board", "[[rom]]", "chip = 0", 'port = "0000"', "[[rom]]", "chip = 1", 'port = "iiii"', "[[ram]]", "bank = 0", "chips = 1",
   "[[chain]]", 'clock = "rom0.0"', 'data = "rom0.1"', "chips = 1", "[keys]", "chain = 0", "first = 0", "rows = 2",

@@ -74,7 +74,7 @@ export const CONFIGURED_FIRST = "configurationDone comes first";
 export const ONE_THREAD = "there is one thread, 1";
 export const NO_TARGET = "there is no such target";
 
-// --- adapter/kept_session.js ---
+// --- adapter/session_writer.js ---
 /** @type {(answer: string) => string} */
 export const fileNotWritten = (answer) => `the session's file was not written: the program answered ${answer}`;
 export const OTHER_STATE = "the session's file came to another state than the session in memory";
@@ -94,7 +94,7 @@ export const DOT_ALONE = "a line that is a dot alone";
 export const noBoardBeside = (program) => `there is no board.toml beside ${program}: "board" names the board's text`;
 /** @type {(session: string) => string} */
 export const sessionNotThere = (session) => `${session} is not there; with "board" and "program" it is made`;
-export const PROGRAM_HAS_FAULTS = "the program has faults";
+export const PROGRAM_HAS_FAULTS = "the program has errors";
 /** @type {(hasRom: boolean, address: string) => string} */
 export const romDiffers = (hasRom, address) => `ROM has ${hasRom ? "another byte" : "no chip"} at 0x${address}`;
 /** @type {(program: string, session: string, why: string) => string} */
@@ -103,12 +103,12 @@ export const notInRomOf = (program, session, why) => `${program} is not what sta
 export const loadPuts = (difference) => (
   `${difference}. "load": true puts it there; without "program" the source is made of what stands in ROM`);
 
-// --- adapter/machine.js ---
+// --- adapter/debugged_machine.js ---
 export const TIME_RUNS_ALREADY = "time runs already: pause comes first";
 /** @type {(count: number) => string} */
 export const notesBefore = (count) => `(${count} notes before these)`;
 
-// --- adapter/protocol.js ---
+// --- adapter/dap_protocol.js ---
 /** @type {(name: string) => string} */
 export const isWhole = (name) => `${name} is a whole number`;
 /** @type {(name: string) => string} */
@@ -139,7 +139,7 @@ export const noneHere = (name) => `there is no ${name} here`;
 /** @type {(name: string) => string} */
 export const nothingSets = (name) => `${name} is what the machine makes it: nothing sets it`;
 
-// --- adapter/setting.js ---
+// --- adapter/set_place.js ---
 /** @type {(text: string) => string} */
 export const noNumber = (text) => `${text} is no number, as 10, 0x0A and 0b1010 are, and no name`;
 export const NOTHING = "nothing";
@@ -152,5 +152,5 @@ export const cannotBeSet = (place, answer) => `${place} cannot be set: the bench
 // --- adapter/shown_board.js ---
 export const KEY_PLACE = "a key's place is its row and column, as 0 2, or test and a level";
 
-// --- adapter/values.js ---
+// --- adapter/expression_values.js ---
 export const NOTHING_TO_EVALUATE = "there is nothing to evaluate";

@@ -1,7 +1,7 @@
 // What people read of the bench's faults: calls that failed, images of ROM. (Its refusals are words of tools/lib/refusals.txt.)
 
 // --- bench/answered_script.js ---
-export const FIRST_IS_SESSION = "the first line of the answers has to be `session N`";
+export const FIRST_IS_SESSION = "the first line of the answers must be `session N`";
 /** @type {(at: number, answer: string, line: number, input: string) => string} */
 export const noAnswer = (at, answer, line, input) => (
   `line ${at} of the answers, \`${answer}\`, is no answer to line ${line} of the script, \`${input}\``);

@@ -499,7 +499,7 @@ ${SERVES_LINES}`,
       The session stays as it is: a copy is run, without its breakpoints and watches. CYCLES is 1 to 100,000.
 
       With --last, it prints the last N instructions before the session stops: at a breakpoint, after a watched character changed,
-      before a code that is no instruction, or at the end of CYCLES, which is then 1 to 100,000,000. N is 1 to 10,000.`,
+      before a code that is not an instruction, or at the end of CYCLES, which is then 1 to 100,000,000. N is 1 to 10,000.`,
     options: {
       folder: "Uses the program of the project in FOLDER, as --source does.",
       names: "Prints labels, and names of targets. PROGRAM is the text of the program in ROM.",
@@ -523,7 +523,7 @@ ${SERVES_LINES}`,
       Prints what the lines of a board do in the next CYCLES cycles, as a VCD file for programs that show waveforms: GTKWave, PulseView,
       Surfer. Each change is exact to the cycle; 108 units of time are a cycle, 10.8 microseconds. CYCLES is 1 to 10,000,000.
 
-      The session stays as it is: a copy is run, without its breakpoints and watches. If it reaches a code that is no instruction, the
+      The session stays as it is: a copy is run, without its breakpoints and watches. If it reaches a code that is not an instruction, the
       file ends there, and standard error says so. The same session, board and program make the same file.
 
       LINE is \`rom0.3\`, \`ram0.1.3\` or \`chain0.5\`, as in a board's text; \`lamp0\` or, if it has a name, \`lamp.NAME\`; \`key2.3\`
@@ -676,7 +676,7 @@ export const noFolderToWrite = (name) => `cannot write ${name}: its folder is no
 // --- wave ---
 
 export const NO_NAMES_OF_SOUND = "--wav writes the sound of a line; it needs no --names";
-export const NO_WAV = "is no WAV file";
+export const NO_WAV = "is not a WAV file";
 /** @type {(board: string) => string} */
 export const otherBoard = (board) => `the session has another board than ${board}`;
 const BUZZER_COMMENT = "a comment `# buzzer rom0.3: NAME`";
@@ -688,7 +688,7 @@ export const noOutputLine = (line) => `the board has no output line ${line}; a b
 /** @type {(board: string, line: number, place: string) => string} */
 export const noOutputAt = (board, line, place) => `${board}: line ${line}: the board has no output line ${place}`;
 /** @type {(cycles: number) => string} */
-export const stoppedAtCode = (cycles) => `the session stopped after ${cycles} cycles, before a code that is no instruction`;
+export const stoppedAtCode = (cycles) => `the session stopped after ${cycles} cycles, before a code that is not an instruction`;
 
 // --- project ---
 
@@ -711,7 +711,7 @@ export const emptyName = (name) => `${name} is empty; it is the name of the sess
 export const noFolder = (folder) => `${folder} is no folder`;
 export const NO_PROJECT = "is no project";
 /** @type {(folder: string) => string} */
-export const isNoFolder = (folder) => `${folder} is there, and is no folder`;
+export const isNoFolder = (folder) => `${folder} exists and is not a folder`;
 /** @type {(name: string) => string} */
 export const isThere = (name) => `${name} is there already; name another folder, or move it away`;
 
@@ -729,7 +729,7 @@ export const RANGE = "FIRST is 0 to 4095, COUNT is from 1 on, and 4096 is the ad
 export const textNoImage = (name) => (
   `${name} is a text, and no Intel HEX, S-records or BNPF; where its letters are the bytes of an image: rom load --binary`);
 export const IS_IT_BINARY = " (is it a binary file? --binary)";
-export const NO_TERMINAL = "an image is no text for a terminal; write it to a file (> IMAGE), or as --hex";
+export const NO_TERMINAL = "an image cannot be shown at a terminal; write it to a file (> IMAGE), or as --hex";
 export const NO_ANSWERS = "no answers on standard input; it reads what mcs4 has answered, as in: mcs4 rom save FIRST COUNT < ANSWERS";
 /** @type {(line: number, text: string) => string} */
 export const answersRefusal = (line, text) => `line ${line} of the answers is a refusal: ${text}; mcs4 explain says why`;
@@ -744,7 +744,7 @@ export const keysWithoutNames = (board) => `${board} has no comments \`# row R: 
 /** @type {(answer: string, words: string) => string} */
 export const benchRejected = (answer, words) => `the bench answered: ${answer}: ${words}`;
 
-// --- session_program.mjs ---
+// --- program_on_file.mjs ---
 /** @type {(words: string) => string} */
 export const programEnded = (words) => `the session has ended: ${words || "no answer"}`;
 /** @type {(session: string, words: string) => string} */
@@ -817,7 +817,7 @@ export const NO_BREAKPOINTS_FILE = "does not begin as a file of breakpoints does
 
 // --- explore ---
 export const NO_FINDS = "does not begin as a file of its finds does (# Found by mcs4 explore)";
-export const NO_REPORT = "is no report of mcs4 explore";
+export const NO_REPORT = "is not a report of mcs4 explore";
 /** @type {(file: string, names: string[]) => string} */
 export const oneText = (file, names) => `${file} names ${names.length} texts of properties; name one of them: ${names.join(" ")}`;
 /** @type {(properties: string, line: number, message: string, state: string) => string} */
@@ -836,6 +836,6 @@ export const wasFound = (place, text, isGoal, steps) => `${place}: ${text}: ${is
 /** @type {(status: number | null) => string} */
 export const jobEnded = (status) => `a job has ended with status ${status}`;
 /** @type {(name: string) => string} */
-export const noReport = (name) => `${name} is no report of mcs4 explore (--report)`;
+export const noReport = (name) => `${name} is not a report of mcs4 explore (--report)`;
 /** @type {(name: string, first: string) => string} */
 export const ofOtherTexts = (name, first) => `${name} is of another board, program or properties than ${first}`;

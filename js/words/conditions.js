@@ -15,7 +15,7 @@ export const otherPattern = (wanted, count) => `a pattern of ${wanted} lamps; th
 export const litLamps = (names) => `; lit: ${names}`;
 export const LAMP_FORM = "it is written as `lamp NAME on` or `lamp NAME off`";
 export const NO_DISPLAY = "the board's text names no display (`# display 0: 4 digits`)";
-export const DISPLAY_FORM = "it is written as `display TEXT`, as in: display -18; its text is compared, and is no number";
+export const DISPLAY_FORM = "it is written as `display TEXT`, as in: display -18; its text is compared, not as a number";
 export const NO_PRINTER = "the board's text names no printer (`# printer rom0.2: ram0.2 0 1 2 + feed`)";
 export const PRINTED_FORM = "it is written as `printed TEXT`, the last lines of the paper, as in: printed 12+ 30= 42";
 export const CYCLES_FORM = "it is written as `cycles TIME`, `cycles at most TIME` or `cycles at least TIME`";
@@ -38,7 +38,7 @@ export const isOneValue = (place) => `${place} is one value`;
 /** @type {(place: string, most: number, word: string) => string} */
 export const holds = (place, most, word) => `${place} holds 0 to ${most}, not ${word}`;
 
-// --- conditions/conditions.js ---
+// --- conditions/condition_language.js ---
 export const NO_CONDITION = "a condition is missing";
 /** @type {(what: string, is: string, want: string, isMany: boolean, isNot: boolean) => string} */
 export const hasToBe = (what, is, want, isMany, isNot) => (
@@ -58,7 +58,7 @@ export const NO_END_OF_TEXT = "a text ends with a quotation mark";
 /** @type {(word: string) => string} */
 export const noSign = (word) => `${word} has no meaning in a condition`;
 /** @type {(text: string) => string} */
-export const noNumeral = (text) => `${text} is no number; numbers are 10, 0xA or 0b1010`;
+export const noNumeral = (text) => `${text} is not a number; numbers are 10, 0xA or 0b1010`;
 
 // --- conditions/parser.js ---
 /** @type {(most: number) => string} */
@@ -137,6 +137,6 @@ export const valueIs = (text, value) => `${text} (${value})`;
 /** @type {(text: string) => string} */
 export const holdsAndMayNot = (text) => `${text} holds, and has not to`;
 
-// --- debug/soft_breakpoints.js, waves/trigger.js, adapter/values.js ---
+// --- debug/soft_breakpoints.js, waves/trigger.js, adapter/expression_values.js ---
 /** @type {(fault: string, column: number) => string} */
 export const inColumn = (fault, column) => `${fault} (column ${column + 1})`;

@@ -49,7 +49,7 @@ export const named = (part, name) => (name ? `${part} is called ${name}` : `${pa
 export const lampIs = (lamp, colour) => `Lamp ${lamp} is ${colour}`;
 export const USUAL_RED = "red, as usual";
 export const FACE_UNREADABLE = "The face of the board could not be read then.";
-export const TEXT_HAS_FAULTS = "The board's text has faults: see Board.";
+export const TEXT_HAS_FAULTS = "The board's text has errors: see Board.";
 /** @type {(parts: string) => string} */
 export const withAlso = (parts) => `, with ${parts}`;
 /** @type {(names: string[]) => string} */
@@ -108,10 +108,10 @@ export const DELETE_LAST_ROW = "The rows of the keys are numbered from 0: delete
 /** @type {(count: number) => string} */
 export const allLampsOf = (count) => `all ${count} lamps of its display`;
 
-// --- drawing/drawing.js ---
+// --- drawing/board_drawing.js ---
 export const CANNOT_READ = "The board's text is written in a way that the picture cannot change; change it in Board.";
 /** @type {(why: string) => string} */
-export const benchRefuses = (why) => `The bench refuses the board's text: ${why}. Board shows where.`;
+export const benchRefuses = (why) => `The bench rejects the board's text: ${why}. Board shows where.`;
 /** @type {(name: string) => string} */
 export const lineOfBoard = (name) => `line ${name}`;
 /** @type {(pin: string, pins: string) => string} */

@@ -2,9 +2,9 @@
 
 // --- explore/beginning.js ---
 /** @type {(state: string) => string} */
-export const noTests = (state) => `there are no tests, of which one saves the state ${state}`;
+export const noTests = (state) => `there are no tests, so none saves the state ${state}`;
 /** @type {(line: number, words: string) => string} */
-export const testsFault = (line, words) => `its tests have a fault in line ${line}: ${words}`;
+export const testsFault = (line, words) => `its tests have an error in line ${line}: ${words}`;
 /** @type {(state: string, there: string) => string} */
 export const noSuchState = (state, there) => `no test saves a state ${state}${there && `; there is: ${there}`}`;
 /** @type {(line: number, text: string, words: string) => string} */
@@ -17,14 +17,14 @@ export const FORMS = "press, test, reset, together, wait, held, apart, from, beg
 export const labelForm = (word) => `a label is written as @LABEL, not ${word}`;
 export const WAIT_FORM = "it is written as `wait TIME to TIME`, from 1 cycle to 100,000 (1.08 s), as in: wait 1 ms to 20 ms";
 export const PRESS_FORM = "it is written as `press KEY ..`: the keys that may go down";
-export const TEST_FORM = "`test` stands alone: TEST may change";
-export const RESET_FORM = "`reset` stands alone: a power cycle may come";
+export const TEST_FORM = "`test` takes nothing after it: TEST may change";
+export const RESET_FORM = "`reset` takes nothing after it: the power may be cycled";
 export const TOGETHER_FORM = "it is written as `together N`: so many keys may be down at a time";
 export const HELD_FORM = "it is written as `held at most TIME`: no key is down for longer";
 export const APART_FORM = "it is written as `apart at least TIME`: a key that went up stays up for so long";
 export const FROM_FORM = "it is written as `from STATE` or `from STATE of FILE.test`: a state that a test saves, from which all begins";
 export const FROM_ALREADY = "it begins from a state in a line before";
-export const BEGIN_FORM = "it is written as `begin after TIME`: what comes before is not looked at";
+export const BEGIN_FORM = "write `begin after TIME`: nothing before that is checked";
 export const PACE_FORM = "it is written as `pace TIME TIME`: how long a key is down for a model, and how long it is up";
 export const NOTE_FORM = "it is written as `note PLACE ..`: what makes a state new, as in: note lamps r10 ram.0.0x12";
 /** @type {(most: number) => string} */
@@ -42,7 +42,7 @@ export const GUARD_FORM = "a guard is written as `while CONDITION,`, `once CONDI
 export const mostGuards = (most) => `at most ${most} guards are before a property`;
 export const EVERY_FORM = "it is written as `every TIME @LABEL`, as in: every 20 ms @scan";
 /** @type {(line: string) => string} */
-export const noInstructionIn = (line) => `no instruction stands in line ${line} of the program`;
+export const noInstructionIn = (line) => `line ${line} of the program has no instruction`;
 export const MODEL_ALREADY = "there is a model in a line before";
 export const MODEL_FORM = "it is written as `model COMMAND`: the command gets keys, and prints what the display has to show";
 export const LIT_BY_TURNS = "the display's digits are lit by turns, and a model needs one that shows its number at once";
@@ -105,7 +105,7 @@ export const holdsForAll = (states) => `holds for all ${states} states`;
 export const chainsOfKeys = (chains) => `${chains} chains of keys`;
 /** @type {(steps: string, states: string) => string} */
 export const stepsAndStates = (steps, states) => `${steps} steps, ${states} states`;
-export const NEVER_LOOKED_AT = "never looked at";
+export const NEVER_LOOKED_AT = "never checked";
 /** @type {(how: string, steps: string, cycles: string, seed: number) => string} */
 export const foundBy = (how, steps, cycles, seed) => `${how} by ${steps}, ${cycles} cycles (seed ${seed})`;
 /** @type {(run: string, ways: string) => string} */
@@ -121,4 +121,4 @@ export const foundByTool = (board, program) => `# Found by mcs4 explore: mcs4 te
 
 // --- explore/subject.js ---
 /** @type {(which: string, number: number, line: string) => string} */
-export const isRefused = (which, number, line) => `the ${which} is refused: no ${number}${line}`;
+export const isRefused = (which, number, line) => `the ${which} is rejected: no ${number}${line}`;

@@ -1,7 +1,7 @@
 // What came of looking for what breaks properties, in words: of all, of one, of what was run. Without a document.
 
 import { counted } from "../core/bench/numbers.js";
-import { Coverage } from "../core/explore/coverage.js";
+import { Coverage } from "../core/explore/search_coverage.js";
 import { grouped, isRight, remarkOf, stepsOf } from "../core/explore/report.js";
 
 /**

@@ -9,9 +9,9 @@ export const longLine = (most) => `the line has more than ${most} bytes before i
 export const notUnderstood = (rest) => `\`${rest}\` is not understood`;
 export const DIVISION_BY_0 = "a division by 0";
 /** @type {(most: number) => string} */
-export const tooDeep = (most) => `more than ${most} brackets or signs, one in another`;
+export const tooDeep = (most) => `more than ${most} brackets or signs inside each other`;
 /** @type {(text: string) => string} */
-export const noNumber = (text) => `\`${text}\` is no number`;
+export const noNumber = (text) => `\`${text}\` is not a number`;
 /** @type {(text: string) => string} */
 export const noCharacter = (text) => `${text} has a character that is not of ASCII`;
 export const NO_OPERAND = "an operand is missing";
@@ -21,25 +21,25 @@ export const noName = (name) => `no line defines the name ${name}`;
 
 // --- import/program_import.js ---
 /** @type {(name: string, line: number) => string} */
-export const definedTwice = (name, line) => `the name ${name} is defined by line ${line}, too`;
+export const definedTwice = (name, line) => `the name ${name} is also defined in line ${line}`;
 /** @type {(text: string) => string} */
-export const hangsUponItself = (text) => `the value of \`${text}\` hangs upon itself`;
+export const hangsUponItself = (text) => `the value of \`${text}\` depends on itself`;
 /** @type {(text: string, is: number, from: number, to: number) => string} */
-export const outOfRange = (text, is, from, to) => `\`${text}\` is ${is}, and has to be ${from} to ${to}`;
+export const outOfRange = (text, is, from, to) => `\`${text}\` is ${is}; it must be ${from} to ${to}`;
 /** @type {(text: string, number: number) => string} */
 export const oddPair = (text, number) => (
-  `a pair begins at an even register, 0 to 14, and \`${text}\` does not; where it is the number of a pair, write ${number}P`);
+  `a pair begins at an even register, 0 to 14, and \`${text}\` does not; if it is the number of a pair, write ${number}P`);
 /** @type {(text: string) => string} */
-export const noPair = (text) => `\`${text}\` is no pair; pairs are 0P to 7P, or 0<, 2< to 14< by their first register`;
-export const NC_OF_WHOM = "NC is no condition (0) as Intel writes, and no carry (10) as AS does: write 0 or 10";
+export const noPair = (text) => `\`${text}\` is not a pair; pairs are 0P to 7P, or 0<, 2< to 14< by their first register`;
+export const NC_OF_WHOM = "NC means no condition (0) for Intel, and no carry (10) for AS: write 0 or 10";
 /** @type {(word: string) => string} */
 export const of4040 = (word) => `${word} is an instruction of the 4040`;
 export const NO_PROGRAM_RAM = "WPM writes program RAM, which a board here does not have";
 /** @type {(word: string) => string} */
-export const notTaken = (word) => `${word} is not taken; write out what it stands for`;
+export const notTaken = (word) => `${word} is not supported; write out what it stands for`;
 export const PAST_LAST = "past the last address, FFF";
 /** @type {(word: string) => string} */
-export const noInstruction = (word) => `\`${word}\` is no instruction, and nothing else that is taken`;
+export const noInstruction = (word) => `\`${word}\` is neither an instruction nor a directive that is supported`;
 /** @type {(word: string, count: number) => string} */
 export const operandCount = (word, count) => (
   count === 0 ? `${word} has no operand` : `${word} is written with ${count === 1 ? "one operand" : "two operands"}`);

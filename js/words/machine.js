@@ -67,7 +67,7 @@ export const noNameOrAddress = (word, forms) => `${word} is neither a name of th
 /** @type {(word: string, forms: string) => string} */
 export const noAddress = (word, forms) => `${word} is not an address: ${forms}. Names are known while the source is the same as ROM.`;
 
-// --- machine/heat.js ---
+// --- machine/warmth.js ---
 /** @type {(line: string) => string} */
 export const theLine = (line) => `the line ${line}`;
 /** @type {(who: string) => string} */
@@ -150,7 +150,7 @@ export const DOT_ENDS = "a line with only a dot ends the text";
 /** @type {(line: number) => string} */
 export const inThatLine = (line) => ` in line ${line}`;
 /** @type {(where: string, what: string) => string} */
-export const sourceHasFault = (where, what) => `The source has a fault${where}: ${what}.`;
+export const sourceHasFault = (where, what) => `The source has an error${where}: ${what}.`;
 /** @type {(address: string, line: number) => string} */
 export const noRomAt = (address, line) => `The board has no ROM at ${address}, where line ${line} of the source goes.`;
 /** @type {(address: string, line: number) => string} */

@@ -45,7 +45,7 @@ export const NOTHING_RECORDED = "It was cancelled, and nothing was recorded.";
 export const notSet = (why) => `Not set: ${why}`;
 export const NOT_DONE = "It was not done.";
 
-// --- page.js ---
+// --- bench_page.js ---
 /** The name of a session whose board has no title. */
 export const MY_BOARD = "my board";
 

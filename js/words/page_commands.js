@@ -187,7 +187,7 @@ export const countOfPlaces = (count) => (count === 1 ? "1 place" : `${count} pla
 /** @type {(wanted: string) => string} */
 export const noneHas = (wanted) => `Nothing is called ${wanted}`;
 
-// --- commands/places.js ---
+// --- commands/palette_places.js ---
 /** @type {(address: string) => string} */
 export const addressNamed = (address) => `Address ${address}`;
 /** @type {(line: number) => string} */

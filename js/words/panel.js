@@ -1,8 +1,8 @@
 // What people read at the panel of a terminal, `mcs4 panel`.
 
-// --- panel/panel.js ---
+// --- panel/terminal_panel.js ---
 /** @type {(line: string, answer: string, words: string) => string} */
-export const refused = (line, answer, words) => `${line} is refused: ${answer}: ${words}`;
+export const refused = (line, answer, words) => `${line} is rejected: ${answer}: ${words}`;
 export const NOTHING_HERE = "this key does nothing here; the last line has those that do";
 /** @type {(key: string) => string} */
 export const noKey = (key) => `the board has no key ${key}`;
@@ -34,7 +34,7 @@ export const testKey = (name) => `${name}:^T`;
 export const noteOfBoard = (line, words) => `line ${line}: ${words}`;
 
 // --- node/commands/panel.mjs, node/panel_terminal.mjs ---
-export const NO_TERMINAL = "standard input and output have to be a terminal";
+export const NO_TERMINAL = "standard input and output must be a terminal";
 /** @type {(kind: string) => string} */
 export const isDumb = (kind) => `it draws on the whole screen, and a terminal of the kind '${kind}' (TERM) cannot do that`;
 /** @type {(least: string, columns: number, rows: number) => string} */

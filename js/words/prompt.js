@@ -10,7 +10,7 @@ export const noBreakpoint = (word) => `there is no breakpoint ${word}; info brea
 export const isWatched = (place) => `${place} is watched.`;
 /** @type {(watched: string) => string} */
 export const oneIsWatched = (watched) => (
-  `${watched} is watched, and of places that are no characters of RAM one can be: delete ${watched} comes first`);
+  `${watched} is watched, and only one place that is not a RAM character can be: delete ${watched} comes first`);
 /** @type {(place: string) => string} */
 export const watchedByContinue = (place) => `${place} is watched by continue.`;
 /** @type {(place: string) => string} */
@@ -62,7 +62,7 @@ export const BENCH_FORM = "it is written as bench LINE, as bench state";
 export const NO_FILE = "there is no file of the source to read";
 export const SOURCE_IN_ROM = "The source is in ROM.";
 
-// --- prompt/command_table.js ---
+// --- prompt/prompt_commands.js ---
 /** @type {(word: string) => string} */
 export const noCommand = (word) => `there is no command ${word}; help shows them all`;
 /** @type {(word: string, names: string) => string} */
@@ -84,11 +84,11 @@ export const noKey = (word, names) => `the board has no key ${word}; it has: ${n
 export const NO_LAMPS = "the board has no lamps";
 export const PRINT_FORM = "it is written as print WHAT, as print r4";
 export const VIEW_FORM = "it is written as view, view on or view off";
-export const VIEW_NEEDS_TERMINAL = "the view is for a terminal: it stands above the commands that are typed there";
+export const VIEW_NEEDS_TERMINAL = "the view needs a terminal: it is above the commands that are typed there";
 export const NO_DISPLAY = "there is no such display; info display has their numbers";
 /** @type {(place: string) => string} */
 export const noPlaceOfMemory = (place) => `${place} is no place: x/8 show, x/8 0x00F, x/16 ram.0.0x10`;
-export const NO_LINE_THERE = "the source has no line there; x shows what stands in ROM";
+export const NO_LINE_THERE = "the source has no line there; x shows what is in ROM";
 /** @type {(count: number) => string} */
 export const sourceHas = (count) => `the source has ${count} lines`;
 export const NOTHING_DISPLAYED = "nothing is displayed";
@@ -99,7 +99,7 @@ export const IN_MEMORY = "in memory: nothing is kept";
 /** @type {(kinds: string) => string} */
 export const infoShows = (kinds) => `info shows ${kinds}`;
 /** @type {(kind: string) => string} */
-export const infoAlone = (kind) => `info ${kind} stands alone`;
+export const infoAlone = (kind) => `info ${kind} takes nothing after it`;
 export const SYMBOL_FORM = "it is written as info symbol PLACE, as info symbol 0x00F";
 export const NO_LOCALS = "a 4004 has no local variables; info registers shows the registers, info names the names of the program";
 /** @type {(line: number, first: string, name: string, last: string) => string} */
@@ -112,15 +112,15 @@ export const THE_CALL = ", the call";
 export const NO_NAMES = "the source has no names";
 export const NO_BREAKPOINTS = "there are no breakpoints";
 /** @type {(place: string) => string} */
-export const noPlaceOfRam = (place) => `${place} is no place of RAM, as ram.0.0x10 is`;
+export const noPlaceOfRam = (place) => `${place} is not a place of RAM such as ram.0.0x10`;
 /** @type {(place: string) => string} */
 export const noRamAt = (place) => `the board has no RAM at ${place}`;
 
 // --- prompt/move_commands.js ---
 export const UNTIL_FORM = "it is written as until PLACE or until CONDITION, as until show, until r5 > 8";
-export const REVERSE_FORM = "reverse-continue stands alone; reverse-step N goes back so many instructions";
-export const FINISH_FORM = "finish stands alone";
-export const CONTINUE_FORM = "continue stands alone; run TIME lets a time pass";
+export const REVERSE_FORM = "reverse-continue takes nothing after it; reverse-step N goes back N instructions";
+export const FINISH_FORM = "finish takes nothing after it";
+export const CONTINUE_FORM = "continue takes nothing after it; run TIME runs for a time";
 export const NOTHING_STOPS = "nothing would stop it: set a breakpoint, or let a time pass by run 100 ms";
 /** @type {(words: string, left: string) => string} */
 export const notPressed = (words, left) => `${words} Not pressed: ${left}.`;
@@ -131,7 +131,7 @@ export const backInSubroutine = (where) => `Back in the subroutine, at ${where}:
 /** @type {(where: string) => string} */
 export const backAt = (where) => `Back at ${where}: this instruction is not done.`;
 
-// --- prompt/prompt.js ---
+// --- prompt/debugger_prompt.js ---
 /** How the words of what did nothing begin. */
 export const NOTHING_DONE = "Nothing was done";
 export const PAGE_REMEMBERS = "the page remembers";
@@ -139,16 +139,16 @@ export const SESSION_REMEMBERS = "the session remembers";
 /** @type {(command: string) => string} */
 export const placeForm = (command) => `it is written as ${command} PLACE, as ${command} r4`;
 /** @type {(text: string, places: string) => string} */
-export const noPlace = (text, places) => `${text} is no place: there are ${places}`;
+export const noPlace = (text, places) => `${text} is not a place; places are ${places}`;
 
 // --- prompt/words_of_line.js ---
 export const FORMS_IN_PROGRAM = "a line of the source as 12, a label as show or show + 2, an address as 0x00F";
 /** @type {(line: string) => string} */
-export const noInstructionIn = (line) => `no instruction stands in line ${line} of the source, or behind it`;
+export const noInstructionIn = (line) => `neither line ${line} of the source nor a line after it has an instruction`;
 /** @type {(text: string, forms: string) => string} */
-export const notInProgram = (text, forms) => `${text} is no place in the program: it is ${forms}`;
+export const notInProgram = (text, forms) => `${text} is not a place in the program; write ${forms}`;
 /** @type {(most: string, text: string) => string} */
 export const countIs = (most, text) => `a count is 1 to ${most}, not ${text}`;
 /** @type {(text: string) => string} */
-export const noTime = (text) => `${text} is no time: it is cycles as 538, or 54 us, 20 ms, 1.5 s`;
+export const noTime = (text) => `${text} is not a time; write cycles as 538, or 54 us, 20 ms, 1.5 s`;
 export const NOTHING = "nothing";

@@ -5,7 +5,7 @@ import { wordsOfCoverage } from "../core/testing/coverage.js";
 
 /**
  * @typedef {import("../core/testing/prepared.js").TextFault} TextFault
- * @typedef {import("../core/testing/testing.js").Report} Report
+ * @typedef {import("../core/testing/test_suite.js").Report} Report
  * @typedef {import("../core/testing/test_run.js").Outcome} Outcome
  */
 

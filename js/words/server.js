@@ -17,7 +17,7 @@ export const bitOfChain = (bit, chain) => `bit ${bit} of chain ${chain}`;
 /** @type {(line: string, chip: string, bank: string) => string} */
 export const lineOfRam = (line, chip, bank) => `line ${line} of the port of RAM chip ${chip} in bank ${bank}`;
 /** @type {(isChain: boolean, line: number) => string} */
-export const standsIn = (isChain, line) => `; its ${isChain ? "chain" : "chip"} stands in line ${line}`;
+export const standsIn = (isChain, line) => `; its ${isChain ? "chain" : "chip"} is in line ${line}`;
 
 // --- server/connection.js ---
 /** @type {(bytes: number) => string} */
@@ -31,7 +31,7 @@ export const INITIALIZE_ONCE = "initialize comes once";
 export const noMethod = (method) => `there is no ${method} here`;
 
 // --- server/diagnostics.js ---
-export const MAY_BE_MORE = "There may be more faults.";
+export const MAY_BE_MORE = "There may be more errors.";
 /** @type {(most: string, size: string) => string} */
 export const textTooLong = (most, size) => `a text has at most ${most} characters; this has ${size}, and the limit is passed here`;
 /** @type {(text: string) => string} */
@@ -65,7 +65,7 @@ export const notOpen = (uri) => `${uri} is not open`;
 export const CHANGES_ARE = "contentChanges is a list";
 export const TEXT_OF_CHANGE = "the text of a change";
 /** @type {(uri: string, why: string) => string} */
-export const faultsOf = (uri, why) => `the faults of ${uri}: ${why}`;
+export const faultsOf = (uri, why) => `the errors of ${uri}: ${why}`;
 
 // --- server/program_calls.js ---
 export const PROGRAM_BEGIN = "(start of the program)";
@@ -85,9 +85,9 @@ export const conditionIs = (value, words) => `condition ${value}: ${words}`;
 export const cyclesOf = (cycles) => `, ${cycles} cycle${cycles === "1" ? "" : "s"}`;
 /** @type {(line: number, address: string, codes: string, cycles: string) => string} */
 export const lineAt = (line, address, codes, cycles) => `line ${line}: address 0x${address}, ${codes}${cycles}`;
-export const NO_NAME_HERE = "No name of the program stands here.";
+export const NO_NAME_HERE = "There is no name of the program here.";
 
-// --- server/protocol.js ---
+// --- server/lsp_protocol.js ---
 /** @type {(what: string) => string} */
 export const isText = (what) => `${what} is a text`;
 export const POSITION_IS = "a position has a line and a character, whole numbers from 0";
@@ -136,13 +136,13 @@ export const controlCharacter = (key) => `a path of ${key} has a control charact
 /** @type {(key: string) => string} */
 export const backslash = (key) => `a path of ${key} has a \\; its folders are separated by /`;
 /** @type {(path: string, key: string) => string} */
-export const noPath = (path, key) => `${path} is no path from the project's folder; ${key} names files in it`;
+export const noPath = (path, key) => `${path} is not a path from the project's folder; ${key} names files in it`;
 /** @type {(path: string, key: string) => string} */
 export const outOfFolder = (path, key) => `${path} leads out of the project's folder; ${key} names files in it`;
 /** @type {(name: string) => string} */
 export const noKey = (name) => `a project has no key ${name}; it has board, program, tests, properties and speed`;
 /** @type {(name: string, line: number) => string} */
-export const alreadyIn = (name, line) => `${name} stands in line ${line} already`;
-export const NO_TABLES = "a project has no tables; each of its keys stands at the beginning of a line";
+export const alreadyIn = (name, line) => `${name} is in line ${line} already`;
+export const NO_TABLES = "a project has no tables; each of its keys begins a line";
 /** @type {(name: string, form: string | undefined) => string} */
 export const missing = (name, form) => `${name} is missing; ${form}`;

@@ -97,7 +97,7 @@ export const PROPERTIES_TEXT = "the properties' text";
 /** @type {(what: string, size: string, most: string) => string} */
 export const textTooLong = (what, size, most) => `${what} has ${size} characters, and ${most} is the most`;
 /** @type {(line: number, wanted: string) => string} */
-export const hasToBe = (line, wanted) => `line ${line} of the project has to be ${wanted}`;
+export const hasToBe = (line, wanted) => `line ${line} of the project must be ${wanted}`;
 /** @type {(word: string) => string} */
 export const noEnd = (word) => `the text after \`${word}\` has no end, a line with a dot alone`;
 export const NO_PROJECT = "not a project of Fethsaim";
@@ -120,7 +120,7 @@ export const HAS_ZERO_BYTES = "the project has zero bytes; it is not a text";
 export const ABOUT_PROJECT_FILE = "# The project of this folder: what commands, editors and the page use when nothing else is named.";
 export const UNNAMED = "session";
 /** @type {(line: number) => string} */
-export const noBreakpoint = (line) => `line ${line} is no breakpoint, as \`break line 14\` or \`break at 0x00F\``;
+export const noBreakpoint = (line) => `line ${line} is not a breakpoint such as \`break line 14\` or \`break at 0x00F\``;
 /** @type {(count: number, most: number) => string} */
 export const tooManyBreakpoints = (count, most) => `it has ${count} breakpoints, more than a project can have (${most})`;
 /** @type {(line: number) => string} */
@@ -218,7 +218,7 @@ export const OPEN_AS_NEW = "Open it as a new session";
 export const linkNotOpened = (why) => `The link was not opened: ${why}. What was here stays as it was.`;
 /** @type {(isBoard: boolean, why: string) => string} */
 export const benchRefusesText = (isBoard, why) => (
-  `The bench refuses its ${isBoard ? "board" : "source"} (${why}). The text is opened all the same.`);
+  `The bench rejects its ${isBoard ? "board" : "source"} (${why}). The text is opened all the same.`);
 /** @type {(board: string, source: string, tests: string, properties: string) => string} */
 export const sizesOfTexts = (board, source, tests, properties) => (
   `The board's text has ${board}, the source ${source}${tests && `, the text of tests ${tests}`}${
@@ -243,8 +243,8 @@ export const WHICH_TEXT = {
 };
 /** Where a text stands that is for the board and the program as they are, and what is done with it. */
 export const BESIDE = {
-  tests: "stands in Tests. Run tests runs it on Board and Source as they stand.",
-  properties: "stands in Properties. Explore looks for what breaks it, on Board and Source as they stand.",
+  tests: "is in Tests. Run tests runs it on Board and Source as they are now.",
+  properties: "is in Properties. Search looks for what breaks it, on Board and Source as they are now.",
 };
 export const SOURCE = "Source";
 export const ASSEMBLES = "Assemble and run puts it into ROM";

@@ -1,6 +1,6 @@
 // What people read at the prompt of mcs4 new and mcs4 open, beside the answers.
 
-// --- prompt/session_prompt.js ---
+// --- prompt/bench_prompt.js ---
 export const BEGINNING = "help shows the lines, quit leaves.";
 export const OWN_TITLE = "At this prompt:";
 /** Lines of the prompt itself, and what they do. @type {[string, string][]} */

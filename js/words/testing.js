@@ -66,7 +66,7 @@ export const turnOf = (turn, times, line) => `turn ${turn} of ${times} of line $
 /** @type {(cycles: number, why: string) => string} */
 export const runStopped = (cycles, why) => `the run stopped after ${cycles} cycles ${why}`;
 /** @type {(address: string) => string} */
-export const beforeCode = (address) => `before a code that is no instruction, at ${address}`;
+export const beforeCode = (address) => `before a code that is not an instruction, at ${address}`;
 /** @type {(place: string, value: number) => string} */
 export const isAnd = (place, value) => `${place} is ${value}, and `;
 /** @type {(what: string, word: string, keys: string) => string} */
@@ -78,7 +78,7 @@ export const norKey = (digit) => `, nor ${digit}`;
 /** @type {(cycles: number, why: string, told: string) => string} */
 export const runStoppedAt = (cycles, why, told) => `the run stopped after ${cycles} cycles ${why}; ${told}`;
 /** @type {(cycles: number, told: string, passed: string) => string} */
-export const didNotCome = (cycles, told, passed) => `it did not come within ${cycles} cycles: ${told}${passed}`;
+export const didNotCome = (cycles, told, passed) => `it did not become true within ${cycles} cycles: ${told}${passed}`;
 
 // --- testing/test_text.js ---
 /** @type {(word: string) => string} */
@@ -97,9 +97,9 @@ export const STEPS_NAME = "shared steps have a name, one word: steps NAME";
 /** @type {(name: string, line: number, file: string) => string} */
 export const stepsAlready = (name, line, file) => `the steps ${name} stand at ${placeOf(line, file)} already`;
 export const NO_END = "this `repeat` has no `end`";
-export const END_FORM = "`end` stands alone";
+export const END_FORM = "`end` takes nothing after it";
 export const NO_REPEAT = "there is no `repeat` for this `end`";
-export const TOO_MANY_LINES = "what is repeated here comes to more than 1,000,000 lines";
+export const TOO_MANY_LINES = "this repeats more than 1,000,000 lines";
 export const DO_FORM = "it is written as `do STEPS`, the name of shared steps";
 /** @type {(name: string) => string} */
 export const stepsOfThemselves = (name) => `the steps ${name} cannot do themselves`;
@@ -108,17 +108,17 @@ export const stepsThere = (there, name) => (there ? `; there are: ${there}` : `;
 /** @type {(name: string, there: string) => string} */
 export const noSteps = (name, there) => `there are no steps ${name} before this line${there}`;
 /** @type {(word: string) => string} */
-export const standsAlone = (word) => `\`${word}\` stands alone`;
+export const standsAlone = (word) => `\`${word}\` takes nothing after it`;
 /** @type {(word: string, forms: string) => string} */
 export const noForm = (word, forms) => `no line of a test begins with \`${word}\`; they begin with ${forms}`;
 /** @type {(word: string) => string} */
 export const stateForm = (word) => `it is written as \`${word} STATE\`, a word`;
-export const SAVED_ONCE = "a state is saved once: `save` stands in no `repeat`";
+export const SAVED_ONCE = "a state is saved once: `save` cannot be in a `repeat`";
 /** @type {(word: string) => string} */
-export const noStates = (word) => `shared steps have no states: \`${word}\` stands in a test`;
+export const noStates = (word) => `shared steps have no states: \`${word}\` belongs in a test`;
 /** @type {(state: string, test: string) => string} */
 export const savedBefore = (state, test) => `the state ${state} is saved by the test before, \`${test}\``;
-export const FROM_FORM = "`from` stands right below `test`";
+export const FROM_FORM = "`from` must be right below `test`";
 /** @type {(states: string) => string} */
 export const statesThere = (states) => `; there is: ${states}`;
 /** @type {(state: string, there: string) => string} */
@@ -133,7 +133,7 @@ export const noKey = (what, there) => (
   `the board has no key ${what}; ${there ? `it has: ${there}` : "its text names no keys (`# row 0: NAME ..`)"}`);
 export const UNTIL_FORM = "it is written as `until CONDITION within TIME`";
 export const WITHIN_FORM = "it ends with `within TIME`, as in: within 500, within 20 ms, within 1.5 s";
-export const NO_CYCLES = "cycles are no condition of `until`; use `run` or `expect`";
+export const NO_CYCLES = "`until` cannot ask for cycles; use `run` or `expect`";
 export const PACE_FORM = "it is written as `pace TIME TIME`: how long a key is down, and how long it is up after it";
 
 // --- testing/tests_tab.js ---

@@ -47,27 +47,27 @@ export const mostOf = (most, table) => `a board has at most ${most} ${table}`;
 export const alreadyThere = (name, before) => `${name} is there already, in line ${before}`;
 
 // --- text/board_reader.js ---
-export const TABLE_FORM = "a table's name stands in brackets: [[rom]]";
+export const TABLE_FORM = "a table's name is in brackets: [[rom]]";
 /** @type {(table: string) => string} */
 export const bracketMissing = (table) => `] is missing: ${table}`;
 export const LINE_ENDS = "the line has to end here";
-export const KEY_FORM = "a key stands before =";
+export const KEY_FORM = "a key is missing before =";
 /** @type {(name: string) => string} */
 export const equalsMissing = (name) => `= is missing after ${name}`;
 /** @type {(key: string) => string} */
 export const valueMissing = (key) => `the value of ${key} is missing`;
 /** @type {(text: string) => string} */
-export const noValue = (text) => `a value stands here, not ${text}`;
+export const noValue = (text) => `a value is needed here, not ${text}`;
 /** @type {(text: string) => string} */
-export const numberForm = (text) => `a number has no 0 before it; a text stands in quotes: "${text}"`;
+export const numberForm = (text) => `a number does not begin with 0; a text is in quotes: "${text}"`;
 /** @type {(text: string) => string} */
-export const textForm = (text) => `${text} is a text, so it stands in quotes: "${text}"`;
+export const textForm = (text) => `${text} is a text: write it in quotes: "${text}"`;
 /** @type {(most: number) => string} */
 export const tooDeep = (most) => `more than ${most} brackets and braces are open here`;
 export const NO_BRACKET = "the closing ] is missing";
-export const COMMA_OF_VALUES = "a comma stands between two values, ] after the last";
+export const COMMA_OF_VALUES = "write a comma between two values, ] after the last";
 export const NO_BRACE = "the closing } is missing in this line";
-export const COMMA_OF_KEYS = "a comma stands between two keys, } after the last";
+export const COMMA_OF_KEYS = "write a comma between two keys, } after the last";
 
 // --- text/board_words.js ---
 export const LINE_FORMS = "rom1.0, ram0.0.3 or chain0.5";
@@ -79,14 +79,14 @@ export const COLUMNS_FORM = "columns is one to eight lines: [\"rom1.0\", \"rom1.
 /** @type {(name: string, forms: string) => string} */
 export const lineForm = (name, forms) => `${name} is the name of a line, in quotes: ${forms}`;
 /** @type {(name: string, kind: string, meant: string) => string} */
-export const noKeyOf = (name, kind, meant) => `${name} is no key of ${kind}${meant}`;
+export const noKeyOf = (name, kind, meant) => `${name} is not a key of ${kind}${meant}`;
 /** @type {(keys: string) => string} */
 export const whichHas = (keys) => `, which has ${keys}`;
 export const A_COLUMN = "a column";
 /** @type {(most: number) => string} */
 export const mostColumns = (most) => `a matrix has at most ${most} columns`;
 /** @type {(kind: string, meant: string) => string} */
-export const noPart = (kind, meant) => `${kind} is no part of a board${meant}`;
+export const noPart = (kind, meant) => `${kind} is not a part of a board${meant}`;
 export const ONE_MATRIX = "a board has one key matrix: [keys]";
 /** @type {(kind: string) => string} */
 export const several = (kind) => `there may be several: [[${kind}]]`;
@@ -96,7 +96,7 @@ export const AND = " and ";
 /** @type {(name: string) => string} */
 export const isTable = (name) => `${name} is a table, or an array of tables`;
 /** @type {(name: string) => string} */
-export const noKeyAtTop = (name) => `${name} is no key at the top of a board`;
+export const noKeyAtTop = (name) => `${name} is not a key at the top of a board`;
 
 // --- text/count_marks.js ---
 /** @type {(number: number) => string} */
@@ -107,7 +107,7 @@ export const ran = (times) => `run ${times}`;
 /** @type {(taken: string, left: string) => string} */
 export const jumped = (taken, left) => `; it jumped ${taken}, and went on ${left}`;
 
-// --- text/editor_view.js ---
+// --- text/text_editor_view.js ---
 export const FAULTS = "Faults";
 /** @type {(size: string, most: string) => string} */
 export const notPutIn = (size, most) => `It was not put in: the text would have ${size} characters, and ${most} is the most.`;
@@ -145,7 +145,7 @@ export const edits = (name) => `${name}: a double click or Enter edits it`;
 export const NO_NAME = "There is no name of this text at the caret.";
 export const PLACES_OF_NAME = "Places of a name";
 /** @type {(name: string, places: string) => string} */
-export const nameIsAt = (name, places) => `${name} stands at ${places} `;
+export const nameIsAt = (name, places) => `${name} is at ${places} `;
 /** @type {(line: number, isDefinition: boolean) => string} */
 export const lineOfName = (line, isDefinition) => `line ${line}${isDefinition ? ", where it is defined" : ""}`;
 /** @type {(name: string) => string} */
@@ -161,7 +161,7 @@ export const lineIs = (last) => `A line is a number from 1 to ${last}.`;
 // --- text/program_faults.js ---
 /** @type {(chip: number, address: string) => string} */
 export const noRomForLine = (chip, address) => (
-  `the board has no ROM ${chip}, where this line stands (${address}): wire a [[rom]] with chip = ${chip}`);
+  `this line is at ${address}, and the board has no ROM ${chip}: wire a [[rom]] with chip = ${chip}`);
 
 // --- text/program_format.js ---
 /** @type {(most: string, size: string) => string} */
@@ -190,11 +190,11 @@ export const isLetter = (letter, number) => `letters are not written; the code o
 export const withoutMark = (number) => `without #: ${number}`;
 export const NO_NEGATIVES = "there are no negative numbers";
 export const NO_EXPRESSIONS = "there are no expressions: write one number or one name";
-export const COMMA_OF_OPERANDS = "a comma stands between two operands";
+export const COMMA_OF_OPERANDS = "write a comma between two operands";
 export const NUMBER_FORM = "a number is decimal digits, or 0x and hexadecimal digits";
 /** @type {(most: number, length: number) => string} */
 export const nameTooLong = (most, length) => `a name has at most ${most} characters; this has ${length}`;
-export const NAME_FORM = "a name begins with a letter or _ and goes on with letters, digits and _";
+export const NAME_FORM = "a name has letters, digits and _, and no digit first";
 /** @type {(name: string) => string} */
 export const isInstruction = (name) => `${name} is an instruction, so it cannot be a name`;
 /** @type {(name: string) => string} */
@@ -209,15 +209,15 @@ export const NO_WPM = "WPM is not on this bench: its ROM cannot be written by a 
 /** @type {(name: string, number: string) => string} */
 export const nameGetsNumber = (name, number) => `a name gets its number by =: ${name} = ${number}`;
 /** @type {(name: string, question: string) => string} */
-export const noInstruction = (name, question) => `${name} is no instruction${question}`;
+export const noInstruction = (name, question) => `${name} is not an instruction${question}`;
 /** @type {(name: string) => string} */
 export const labelForm = (name) => `; a label has a colon: ${name}:`;
 /** @type {(reason: string) => string} */
 export const orgForm = (reason) => `ORG takes one number, 0 to 4095 (0xFFF)${reason}`;
 export const DB_FORM = "DB takes bytes, 0 to 255, with commas between them";
 /** @type {(reason: string) => string} */
-export const equalsForm = (reason) => `after = stands one number${reason}`;
-export const COLON_FORM = "a name stands before the colon";
+export const equalsForm = (reason) => `write one number after =${reason}`;
+export const COLON_FORM = "a name is missing before the colon";
 /** @type {(name: string) => string} */
 export const takesNothing = (name) => `${name} takes nothing after it`;
 export const AND_AFTER = ", and ";
@@ -272,7 +272,7 @@ export const replaced = (count) => `${count} replaced`;
 export const foundOf = (at, count) => `${at} of ${count}`;
 
 // --- text/test_words.js ---
-export const ABOUT_TESTS = "# What has to be, line by line. F1 has the words; Ctrl and Space completes them.\n\n";
+export const ABOUT_TESTS = "# What must hold, line by line. F1 has the words; Ctrl and Space completes them.\n\n";
 /** @type {(key: string, lamp: string) => string} */
 export const testOfKey = (key, lamp) => `test the key ${key} turns on ${lamp}\n  press ${key}\n  run 50 ms\n  expect lamp ${lamp} on\n`;
 /** @type {(key: string) => string} */
@@ -308,7 +308,7 @@ export const CARRY_STAYS = ". The carry stays";
 export const pairIs = (pair, upper, lower) => `P${pair}: the pair of R${upper}, its upper four bits, and R${lower}, its lower ones.`;
 /** @type {(register: number, isUpper: boolean, pair: number) => string} */
 export const registerIs = (register, isUpper, pair) => `R${register}: the ${isUpper ? "upper" : "lower"} half of P${pair}.`;
-export const ORG_IS = "ORG n: the next statement stands at address n, 0 to 4095.";
+export const ORG_IS = "ORG n: the next statement is at address n, 0 to 4095.";
 export const DB_IS = "DB v, v, ..: bytes, each 0 to 255.";
 /** @type {(name: string, line: number) => string} */
 export const definedInLine = (name, line) => `${name}: defined in line ${line}.`;

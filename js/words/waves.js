@@ -141,7 +141,7 @@ export const NOTHING_BEFORE = "Nothing was recorded: since the session was opene
 /** @type {(cycles: string, microseconds: string) => string} */
 export const recordedSpan = (cycles, microseconds) => `${cycles} recorded, ${microseconds} microseconds.`;
 /** @type {(told: string) => string} */
-export const thenNoInstruction = (told) => `${told} Then comes a code that is no instruction.`;
+export const thenNoInstruction = (told) => `${told} Then comes a code that is not an instruction.`;
 /** @type {(told: string) => string} */
 export const noFurtherBack = (told) => `${told} The past reaches no further back.`;
 

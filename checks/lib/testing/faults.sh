@@ -36,7 +36,7 @@ test: $folder/bad.test:8: the board has no RAM chip for ram.0.0x40 (column 10)
 test: $folder/bad.test:9: r16: no such place; the registers are r0 to r15 (column 7)
 test: $folder/bad.test:10: r1 holds 0 to 15, not 16 (column 13)
 test: $folder/bad.test:11: no line of a test begins with \`foo\`; they begin with test, steps, from, save, press, release, keys, pace, run, until, expect, mark, set, reset, do, repeat or end
-test: $folder/bad.test:12: \`from\` stands right below \`test\`
+test: $folder/bad.test:12: \`from\` must be right below \`test\`
 test: $folder/bad.test:13: the board has no key z, nor 12z; it has: 1 2 3 4 5 6 7 8 9 * 0 #
 test: $folder/bad.test:14: it is written as \`until CONDITION within TIME\`
 test: $folder/bad.test:17: no test before it saves a state b; there is: a
@@ -77,9 +77,9 @@ test a
 end_of_tests
 refuses 1 "test: $folder/bad_steps.test:1: shared steps have a name, one word: steps NAME
 test: $folder/bad_steps.test:4: the steps one cannot do themselves
-test: $folder/bad_steps.test:5: shared steps have no states: \`save\` stands in a test
+test: $folder/bad_steps.test:5: shared steps have no states: \`save\` belongs in a test
 test: $folder/bad_steps.test:6: there are no steps two before this line; \`steps two\` begins them
-test: $folder/bad_steps.test:7: shared steps have no states: \`from\` stands in a test
+test: $folder/bad_steps.test:7: shared steps have no states: \`from\` belongs in a test
 test: $folder/bad_steps.test:8: the steps one stand at line 3 already
 test: $folder/bad_steps.test:10: it is written as \`repeat COUNT\`, 1 to 100,000: the lines down to its \`end\` are done so often
 test: $folder/bad_steps.test:11: it is written as \`repeat COUNT\`, 1 to 100,000: the lines down to its \`end\` are done so often
@@ -91,15 +91,15 @@ test: $folder/bad_steps.test:18: the board has no key x; it has: 1 2 3 4 5 6 7 8
 test: $folder/bad_steps.test:19: a key by a value is written as \`{PLACE}\` or \`{PLACE:KEY,KEY}\`; places are acc, cy, dcl, r0 to r15, ram.B.S and st.B.H.K
 test: $folder/bad_steps.test:20: a key by a value is written as \`{PLACE}\` or \`{PLACE:KEY,KEY}\`; places are acc, cy, dcl, r0 to r15, ram.B.S and st.B.H.K
 test: $folder/bad_steps.test:21: the board has no RAM chip for ram.0.0x40
-test: $folder/bad_steps.test:24: what is repeated here comes to more than 1,000,000 lines
-test: $folder/bad_steps.test:27: a state is saved once: \`save\` stands in no \`repeat\`
+test: $folder/bad_steps.test:24: this repeats more than 1,000,000 lines
+test: $folder/bad_steps.test:27: a state is saved once: \`save\` cannot be in a \`repeat\`
 test: $folder/bad_steps.test:22: this \`repeat\` has no \`end\`" \
     ./mcs4 test $lock/board.toml $lock/lock.asm "$folder/bad_steps.test"
 printf 'test b\n do one more\n end 3\n repeat 100001\n from a\n repeat 9\ntest c\n press {r4:1,,2}\n keys {r1 4}\n keys {}\n' > "$folder/no.test"
 refuses 1 "test: $folder/no.test:2: it is written as \`do STEPS\`, the name of shared steps
-test: $folder/no.test:3: \`end\` stands alone
+test: $folder/no.test:3: \`end\` takes nothing after it
 test: $folder/no.test:4: it is written as \`repeat COUNT\`, 1 to 100,000: the lines down to its \`end\` are done so often
-test: $folder/no.test:5: \`from\` stands right below \`test\`
+test: $folder/no.test:5: \`from\` must be right below \`test\`
 test: $folder/no.test:4: this \`repeat\` has no \`end\`
 test: $folder/no.test:6: this \`repeat\` has no \`end\`
 test: $folder/no.test:8: the board has no key ; it has: 1 2 3 4 5 6 7 8 9 * 0 #

@@ -53,7 +53,7 @@ wrong_files 1048576 ./mcs4 trace
 refuses 1 "rom: no answers on standard input; it reads what mcs4 has answered, as in: mcs4 rom save FIRST COUNT < ANSWERS" ./mcs4 rom save 0 1
 refuses 1 "cycles: no answers on standard input; it reads what mcs4 has answered, as in: mcs4 cycles .. < ANSWERS" ./mcs4 cycles
 refuses 1 "explain: no answers on standard input; it reads what mcs4 has answered, as in: mcs4 explain .. < ANSWERS" ./mcs4 explain "$folder/two.txt"
-refuses 1 "panel: standard input and output have to be a terminal" ./mcs4 panel $lock/board.toml "$folder/session.mcs"
+refuses 1 "panel: standard input and output must be a terminal" ./mcs4 panel $lock/board.toml "$folder/session.mcs"
 refuses 2 "panel: SESSION is missing
 usage: mcs4 panel [-C FOLDER] [--stopped] [--source PROGRAM] [BOARD] SESSION" ./mcs4 panel $lock/board.toml
 refuses 1 "rom: cannot read -: it has more than 67108864 bytes" ./mcs4 rom save 0 1 < "$folder/huge"

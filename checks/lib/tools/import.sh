@@ -164,14 +164,14 @@ START, NOP
 source
 sed '12s/START, //' "$folder/bad.src" > "$folder/bad2.src"
 refuses 1 "import: $folder/bad.src:12: the name START is defined by line 11, too" ./mcs4 import "$folder/bad.src"
-refuses 1 "import: $folder/bad2.src:1: \`JMP\` is no instruction, and nothing else that is taken
-import: $folder/bad2.src:2: the value of \`Y\` hangs upon itself
-import: $folder/bad2.src:3: the value of \`X\` hangs upon itself
-import: $folder/bad2.src:4: \`16\` is 16, and has to be 0 to 15
-import: $folder/bad2.src:5: a pair begins at an even register, 0 to 14, and \`3<\` does not; where it is the number of a pair, write 3P
-import: $folder/bad2.src:6: \`2\` is no pair; pairs are 0P to 7P, or 0<, 2< to 14< by their first register
-import: $folder/bad2.src:7: NC is no condition (0) as Intel writes, and no carry (10) as AS does: write 0 or 10
-import: $folder/bad2.src:8: INCLUDE is not taken; write out what it stands for
+refuses 1 "import: $folder/bad2.src:1: \`JMP\` is neither an instruction nor a directive that is supported
+import: $folder/bad2.src:2: the value of \`Y\` depends on itself
+import: $folder/bad2.src:3: the value of \`X\` depends on itself
+import: $folder/bad2.src:4: \`16\` is 16; it must be 0 to 15
+import: $folder/bad2.src:5: a pair begins at an even register, 0 to 14, and \`3<\` does not; if it is the number of a pair, write 3P
+import: $folder/bad2.src:6: \`2\` is not a pair; pairs are 0P to 7P, or 0<, 2< to 14< by their first register
+import: $folder/bad2.src:7: NC means no condition (0) for Intel, and no carry (10) for AS: write 0 or 10
+import: $folder/bad2.src:8: INCLUDE is not supported; write out what it stands for
 import: $folder/bad2.src:9: HLT is an instruction of the 4040
 import: $folder/bad2.src:10: WPM writes program RAM, which a board here does not have
 import: $folder/bad2.src:13: no line defines the name nowhere

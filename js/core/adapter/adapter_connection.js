@@ -1,7 +1,7 @@
 // Requests, responses and events of the protocol of debug adapters over a stream: one request after the other, `initialize` first.
 
 import { MessageReader, StreamLost, fieldOf, framed } from "../server/framing.js";
-import { AdapterError, wordsOf } from "./protocol.js";
+import { AdapterError, wordsOf } from "./dap_protocol.js";
 import * as say from "../../words/adapter.js";
 import { INITIALIZE_FIRST, INITIALIZE_ONCE, NOT_JSON, messageTooLong } from "../../words/server.js";
 

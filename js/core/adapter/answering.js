@@ -9,15 +9,15 @@ import { addressWords, bytesAt, rowsAt } from "./disassembly.js";
 import { framesOf } from "./frames.js";
 import { fieldOf } from "../server/framing.js";
 import { keysOf } from "../testing/test_text.js";
-import { fail, needNumber, needText } from "./protocol.js";
-import { placeToSet, setPlace } from "./setting.js";
-import { hoverOf, valueOfExpression } from "./values.js";
+import { fail, needNumber, needText } from "./dap_protocol.js";
+import { placeToSet, setPlace } from "./set_place.js";
+import { hoverOf, valueOfExpression } from "./expression_values.js";
 import * as say from "../../words/adapter.js";
 
 /**
  * @typedef {import("./launching.js").Launched} Launched
  * @typedef {import("./scopes.js").Scopes} Scopes
- * @typedef {import("./values.js").Known} Known
+ * @typedef {import("./expression_values.js").Known} Known
  */
 
 /** The reference of the source that is made of what stands in ROM. */

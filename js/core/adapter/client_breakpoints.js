@@ -5,7 +5,7 @@ import { readBoard, watchedPlaces } from "../bench/answers.js";
 import { LAST_ADDRESS, hex } from "../bench/numbers.js";
 import { BreakpointList, MOST_BREAKPOINTS, MOST_ON, instructionOfAddress, instructionOfLine } from "../debug/breakpoints.js";
 import { placeOf } from "../conditions/places.js";
-import { listOf, needNumber, needText, textOrNone, wordsOf } from "./protocol.js";
+import { listOf, needNumber, needText, textOrNone, wordsOf } from "./dap_protocol.js";
 import * as say from "../../words/adapter.js";
 import { noLabel } from "../../words/conditions.js";
 import { stopsEachTime } from "../../words/machine.js";

@@ -7,15 +7,15 @@ import { putNames } from "../bench/names_in_lines.js";
 import { LAST_ADDRESS, numberOf } from "../bench/numbers.js";
 import { goalOfText } from "../debug/becoming.js";
 import { keysOf } from "../testing/test_text.js";
-import { AdapterError, fail, wordsOf } from "./protocol.js";
-import { linesOfSet } from "./setting.js";
-import { valueOfExpression } from "./values.js";
+import { AdapterError, fail, wordsOf } from "./dap_protocol.js";
+import { linesOfSet } from "./set_place.js";
+import { valueOfExpression } from "./expression_values.js";
 import * as say from "../../words/adapter.js";
 import { noKey } from "../../words/testing.js";
 
 /**
- * @typedef {import("./machine.js").Machine} Machine
- * @typedef {import("./values.js").Known} Known
+ * @typedef {import("./debugged_machine.js").Machine} Machine
+ * @typedef {import("./expression_values.js").Known} Known
  * @typedef {import("../bench/words.js").Words} Words
  *
  * What came of a line: words, whether the machine is another one now, and a move that begins once they are told.

@@ -17,9 +17,9 @@ import { Answering } from "./answering.js";
 import { ClientBreakpoints, dataOf, referenceOf } from "./client_breakpoints.js";
 import { Console, addressOf } from "./console.js";
 import { differenceWords, launch } from "./launching.js";
-import { Machine } from "./machine.js";
+import { Machine } from "./debugged_machine.js";
 import { framesOf } from "./frames.js";
-import { AdapterError, NOT_STOPPED, fail, listOf, needNumber, needText, textOrNone } from "./protocol.js";
+import { AdapterError, NOT_STOPPED, fail, listOf, needNumber, needText, textOrNone } from "./dap_protocol.js";
 import { Scopes } from "./scopes.js";
 import { ShownBoard, changeKey } from "./shown_board.js";
 import * as say from "../../words/adapter.js";
@@ -29,7 +29,7 @@ import * as say from "../../words/adapter.js";
  * @typedef {import("./adapter_connection.js").AdapterConnection} AdapterConnection
  * @typedef {import("./launching.js").Host} Host
  * @typedef {import("./launching.js").Launched} Launched
- * @typedef {import("./machine.js").Ended} Ended
+ * @typedef {import("./debugged_machine.js").Ended} Ended
  * @typedef {import("../debug/usual_faults.js").Kind} Kind
  *
  * What is there once a session is launched.

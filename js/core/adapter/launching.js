@@ -8,9 +8,9 @@ import { fieldOf } from "../server/framing.js";
 import { boardFor } from "../server/kinds.js";
 import { faultsOfLines, sentText } from "../text/text_fault.js";
 import { readProgram, differenceOf } from "../engine/program_check.js";
-import { sourceOfRom } from "../engine/sources.js";
-import { KeptSession } from "./kept_session.js";
-import { AdapterError, flagOf, textOrNone } from "./protocol.js";
+import { sourceOfRom } from "../engine/texts_of_file.js";
+import { KeptSession } from "./session_writer.js";
+import { AdapterError, flagOf, textOrNone } from "./dap_protocol.js";
 import * as say from "../../words/adapter.js";
 import { leadsOut } from "../../words/server.js";
 
@@ -18,7 +18,7 @@ import { leadsOut } from "../../words/server.js";
  * @typedef {import("../bench/answers.js").Refusal} Refusal
  * @typedef {import("../engine/engine_host.js").EngineHost} Engine
  * @typedef {import("../bench/words.js").Words} Words
- * @typedef {import("./kept_session.js").OpenFile} OpenFile
+ * @typedef {import("./session_writer.js").OpenFile} OpenFile
  *
  * What the host gives: the whole name of a file, beside a folder where it is not whole; a text, null where none can be read; whether no
  * link leads out of a folder; a program that opens a session file, or makes one by some lines; and a turn for others.

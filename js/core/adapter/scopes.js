@@ -4,7 +4,7 @@ import { readBoard, readMarks } from "../bench/answers.js";
 import { hex, upTo } from "../bench/numbers.js";
 import { keysOf } from "../board/board_keys.js";
 import { Standing, wordsOfCharacter } from "../debug/standing.js";
-import { setPlace } from "./setting.js";
+import { setPlace } from "./set_place.js";
 import * as say from "../../words/adapter.js";
 import { sourceOfBank } from "../../words/debug.js";
 
@@ -12,7 +12,7 @@ import { sourceOfBank } from "../../words/debug.js";
  * @typedef {import("../debug/debug_session.js").DebugSession} DebugSession
  * @typedef {import("../board/face.js").Face} Face
  *
- * A value with its name, what evaluates to it, and a reference to what is inside it, 0 for nothing. `place`: what setting.js sets it by,
+ * A value with its name, what evaluates to it, and a reference to what is inside it, 0 for nothing. `place`: what set_place.js sets it by,
  * "" where nothing does; `memory`: where it stands for who reads memory.
  * @typedef {{ name: string, value: string, evaluateName?: string, place: string, inside: number, count?: number,
  *   memory?: string }} Variable

@@ -7,12 +7,12 @@ import { Face } from "../board/face.js";
 import { lineOfChange } from "../engine/key_queue.js";
 import { SEEN_QUESTION } from "../engine/seen_text.js";
 import { Shining } from "../engine/shining.js";
-import { fail } from "./protocol.js";
+import { fail } from "./dap_protocol.js";
 import * as say from "../../words/adapter.js";
 
 /**
  * @typedef {import("./console.js").Console} Console
- * @typedef {import("./machine.js").Machine} Machine
+ * @typedef {import("./debugged_machine.js").Machine} Machine
  *
  * What is new: the answers to `board` and the board's text; a mark for each lamp, `*` where it is lit; the keys that are down, as
  * `row.column`; the level of TEST; whether time runs; and while it runs, what is lit in the 30 ms that come next.

@@ -12,8 +12,8 @@ import { lampAt } from "./values.js";
 import * as say from "../../words/conditions.js";
 
 /**
- * @typedef {import("./conditions.js").Names} Names
- * @typedef {import("./conditions.js").Beside} Beside
+ * @typedef {import("./condition_language.js").Names} Names
+ * @typedef {import("./condition_language.js").Beside} Beside
  * @typedef {import("./meaning.js").Meaning} Meaning
  * @typedef {import("./values.js").Looked} Looked
  *

@@ -7,8 +7,8 @@ import { atColumn, characterValues, keyValue, labelIn, lampValue, valueIn } from
 import * as say from "../../words/conditions.js";
 
 /**
- * @typedef {import("./conditions.js").Names} Names
- * @typedef {import("./conditions.js").Beside} Beside
+ * @typedef {import("./condition_language.js").Names} Names
+ * @typedef {import("./condition_language.js").Beside} Beside
  * @typedef {import("./parser.js").ConditionNode} ConditionNode
  * @typedef {import("./parser.js").CompareNode} CompareNode
  * @typedef {import("./parser.js").FormNode} FormNode

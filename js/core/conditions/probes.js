@@ -2,7 +2,7 @@
 
 import { valueIn } from "../bench/state_line.js";
 import { valuesOf } from "../engine/tracing.js";
-import { MOST_PLACES } from "./conditions.js";
+import { MOST_PLACES } from "./condition_language.js";
 import { STATE_PLACES } from "./values.js";
 
 /** @typedef {import("../engine/tracing.js").Answers} Answers */

@@ -8,7 +8,7 @@ import { constantIn, meantBy } from "./values.js";
 import * as say from "../../words/conditions.js";
 
 /**
- * @typedef {import("./conditions.js").Names} Names
+ * @typedef {import("./condition_language.js").Names} Names
  * @typedef {import("./parser.js").ValueNode} ValueNode
  * @typedef {{ place: string, value: ValueNode }} Setting `place` is spelled as `trace` has it
  *
@@ -71,7 +71,7 @@ function settingOfParts({ text, column }, value) {
  * Reads what follows `set`, where VALUE is a number or a name of the program.
  * @param {string} text
  * @param {Names["map"]} map
- * @param {import("./conditions.js").Board | null} [board] which has the place, if it is known
+ * @param {import("./condition_language.js").Board | null} [board] which has the place, if it is known
  * @returns {ReadSetting}
  */
 export function readSetting(text, map, board = null) {

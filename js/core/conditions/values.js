@@ -1,7 +1,7 @@
 // The values in a condition: numbers, names of the source, of Watch and of the front panel, places, and sums of them. Each value is
 // computed from what the bench answers about its places.
 
-import { keysOf, pinOf } from "../explore/inputs.js";
+import { keysOf, pinOf } from "../explore/explored_inputs.js";
 import { mostAlike } from "../text/alike.js";
 import { isCondition, parse } from "./parser.js";
 import { placeByOtherName, placeOf } from "./places.js";
@@ -9,7 +9,7 @@ import { Unreadable, fail } from "./scanner.js";
 import * as say from "../../words/conditions.js";
 
 /**
- * @typedef {import("./conditions.js").Names} Names
+ * @typedef {import("./condition_language.js").Names} Names
  * @typedef {import("./parser.js").ValueNode} ValueNode
  * @typedef {import("./parser.js").NameNode} NameNode
  * @typedef {import("./parser.js").SumNode} SumNode

@@ -1,13 +1,13 @@
 // A condition that is looked for, on or back: it is reached where it becomes true.
 
-import { expressionOf, tracedConditionOf } from "../conditions/conditions.js";
+import { expressionOf, tracedConditionOf } from "../conditions/condition_language.js";
 import { placeOf } from "../conditions/places.js";
 import { valuesOf } from "../engine/tracing.js";
 import { inColumn } from "../../words/conditions.js";
 import * as say from "../../words/debug.js";
 
 /**
- * @typedef {import("../conditions/conditions.js").Names} Names
+ * @typedef {import("../conditions/condition_language.js").Names} Names
  * @typedef {{ places: string[], holds: (values: string[]) => boolean }} Asked
  */
 

@@ -33,7 +33,7 @@ import { UsualFaults } from "./usual_faults.js";
  * @typedef {import("./arrivals.js").Logged} Logged
  * @typedef {import("./arrivals.js").Seen} Seen
  * @typedef {import("./arrivals.js").SoftBreakpoint} SoftBreakpoint
- * @typedef {import("../conditions/conditions.js").Names} Names
+ * @typedef {import("../conditions/condition_language.js").Names} Names
  * @typedef {import("./goals.js").Found} Found
  * @typedef {import("./goals.js").Goal} Goal
  * @typedef {import("./goals.js").Watcher} Watcher
@@ -108,7 +108,7 @@ export class Debugger {
     this.late = [];
     /** @type {Map<number, number> | null} the ids of the breakpoints that always stop, by their addresses; null until some are set */
     this.hard = null;
-    /** @type {import("../conditions/conditions.js").Names | null} that conditions may have, null until somebody says */
+    /** @type {import("../conditions/condition_language.js").Names | null} that conditions may have, null until somebody says */
     this.names = null;
     /** @type {Watcher | null} of the move that is under way */
     this.watcher = null;

@@ -1,16 +1,16 @@
 // What a breakpoint's condition, count and note mean on a board with a program: read once, before time runs.
 
-import { conditionOf, expressionOf } from "../conditions/conditions.js";
+import { conditionOf, expressionOf } from "../conditions/condition_language.js";
 import { placeOf } from "../conditions/places.js";
 import { boardLacks, inColumn } from "../../words/conditions.js";
 import * as say from "../../words/debug.js";
 
 /**
  * @typedef {import("./arrivals.js").SoftBreakpoint} SoftBreakpoint
- * @typedef {import("../conditions/conditions.js").Names} Names
+ * @typedef {import("../conditions/condition_language.js").Names} Names
  *
- * A breakpoint at an address. `condition`: a text as conditions.js reads it, "" for none; `from`: it stops from this hit on, 1 for each;
- * `note`: a text that is logged in place of a stop, with places in braces, "" for none; `hits`: how many there were.
+ * A breakpoint at an address. `condition`: a text of the language of conditions, "" for none; `from`: it stops from this hit on, 1
+ * for each; `note`: a text that is logged in place of a stop, with places in braces, "" for none; `hits`: how many there were.
  * @typedef {{ id: number, address: number, condition: string, from: number, note: string, hits: number }} Placed
  * @typedef {{ places: string[], words: (values: string[]) => string }} Note
  */

@@ -3,7 +3,7 @@
 //     const { watched, fault } = readWatched("digit = ram 0 0x12", names);
 //     watched.pieces(standing, names)    what it is now, in pieces (value_words.js)
 
-import { expressionOf } from "../conditions/conditions.js";
+import { expressionOf } from "../conditions/condition_language.js";
 import { WORDS, parse } from "../conditions/parser.js";
 import { placeOf } from "../conditions/places.js";
 import { Unreadable, numeralOf } from "../conditions/scanner.js";
@@ -15,7 +15,7 @@ import * as say from "../../words/debug.js";
 /**
  * @typedef {import("./standing.js").Standing} Standing
  * @typedef {import("./value_words.js").Piece} Piece
- * @typedef {import("../conditions/conditions.js").Names} Names
+ * @typedef {import("../conditions/condition_language.js").Names} Names
  * `text` is as it is kept; `place` is what `poke` calls a character of RAM, "" for what is none; `value` is the expression that the name
  * stands for.
  * @typedef {{ name: string, text: string, place: string, value: string, pieces: Reader }} Watched

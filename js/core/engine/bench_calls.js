@@ -15,9 +15,9 @@ import { FullSpeed } from "./full_speed.js";
 import { heatOf } from "./heat.js";
 import { Heating } from "./heating.js";
 import { differenceOf, leftoversOf, readProgram } from "./program_check.js";
-import { sourceOfRom, textsOfFile } from "./sources.js";
+import { sourceOfRom, textsOfFile } from "./texts_of_file.js";
 import { sentText } from "../text/text_fault.js";
-import { readTested, runTests } from "../testing/testing.js";
+import { readTested, runTests } from "../testing/test_suite.js";
 import { tryTexts } from "./trying.js";
 import { recordedProgram } from "../waves/wave_program.js";
 import { LiveRecorder } from "./live_recorder.js";
@@ -178,7 +178,7 @@ export class BenchCalls {
 
   /**
    * What is wrong with a text of tests, or with the texts that it is for.
-   * @param {import("../testing/testing.js").TestedTexts} texts
+   * @param {import("../testing/test_suite.js").TestedTexts} texts
    */
   testFaults(texts) {
     return readTested(this.engine, texts).faults;
@@ -186,7 +186,7 @@ export class BenchCalls {
 
   /**
    * Runs tests on sessions of their own.
-   * @param {import("../testing/testing.js").TestedTexts} texts
+   * @param {import("../testing/test_suite.js").TestedTexts} texts
    */
   runTests(texts) {
     return runTests(this.engine, texts, (done, total) => this.goesOn(done, total));

@@ -1,6 +1,6 @@
 // Records the lines of a board piece by piece, for a file that is written as it goes: however long the recording is, it holds one piece.
 
-import { Waves } from "../waves/waves.js";
+import { Waves } from "../waves/wave_recording.js";
 import { Answers } from "./tracing.js";
 import { WaveTaking } from "./wave_taking.js";
 

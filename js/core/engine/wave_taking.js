@@ -1,7 +1,7 @@
 // What is taken of the bench's answers for a recording: the moments at which each line changes, and those at which each instruction begins.
 
 import { valueIn } from "../bench/state_line.js";
-import { MOST_PLACES } from "../conditions/conditions.js";
+import { MOST_PLACES } from "../conditions/condition_language.js";
 import { Growing } from "../waves/growing.js";
 import { Track, emptyTrack } from "../waves/track.js";
 import { readTraced, valuesOf } from "./tracing.js";

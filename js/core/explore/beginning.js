@@ -11,7 +11,7 @@ import * as say from "../../words/explore.js";
  * @typedef {import("../testing/prepared.js").Prepared} Prepared
  * @typedef {import("../testing/test_text.js").Test} Test
  * @typedef {import("./campaign.js").Campaign} Campaign
- * @typedef {import("./inputs.js").Input} Input
+ * @typedef {import("./explored_inputs.js").Input} Input
  * @typedef {import("./subject.js").Subject} Subject
  * @typedef {{ subject: Subject, campaign: Campaign }} Readable
  */

@@ -3,10 +3,10 @@
 
 import { LONGEST_RUN } from "../engine/key_queue.js";
 import { hasScannedDisplay } from "../engine/seen_text.js";
-import { tracedConditionOf } from "../conditions/conditions.js";
+import { tracedConditionOf } from "../conditions/condition_language.js";
 import { durationOf, wholeDuration } from "../conditions/durations.js";
 import { placeOf } from "../conditions/places.js";
-import { keysOf, namesOfInputs, pinOf } from "./inputs.js";
+import { keysOf, namesOfInputs, pinOf } from "./explored_inputs.js";
 import {
   GUARDED, afterPress, always, alwaysOn, at, every, guarded, model, never, neverFor, once, onlyAfter, reach, reachAt,
 } from "./properties.js";
@@ -15,7 +15,7 @@ import * as say from "../../words/explore.js";
 import { noKey } from "../../words/testing.js";
 
 /**
- * @typedef {import("./inputs.js").Input} Input
+ * @typedef {import("./explored_inputs.js").Input} Input
  * @typedef {import("./properties.js").Guard} Guard
  * @typedef {import("./properties.js").Property} Property
  * @typedef {import("./subject.js").Subject} Subject

@@ -3,7 +3,7 @@
 // remember nothing else.
 
 import { isCall, isReturn } from "../engine/rom_codes.js";
-import { Told } from "./places.js";
+import { Told } from "./place_questions.js";
 import { downAfter, lineOf } from "./walks.js";
 
 /**
@@ -43,7 +43,7 @@ function memoryAfter({ form }, memory, { kind }, deeper) {
 }
 
 /**
- * @param {Pick<import("./watching.js").Watcher, "subject" | "campaign"> & { coverage: import("./coverage.js").Coverage }} search
+ * @param {Pick<import("./watching.js").Watcher, "subject" | "campaign"> & { coverage: import("./search_coverage.js").Coverage }} search
  * @param {Start} start
  * @param {WalkStep[]} steps
  * @returns {After[]}

@@ -4,7 +4,7 @@
 import { WorkerDied } from "../bench/faults.js";
 
 /**
- * @typedef {import("../bench/bench.js").Bench} Bench
+ * @typedef {import("../bench/bench_client.js").Bench} Bench
  * @typedef {import("../testing/prepared.js").TextFault} TextFault
  * @typedef {import("./exploring.js").Asked} Asked
  * @typedef {import("./exploring.js").ExploredTexts} ExploredTexts

@@ -6,7 +6,7 @@
 //     const { report, found, isDone } = await exploring.goOn(200);
 
 import { prepare } from "../testing/prepared.js";
-import { runTests } from "../testing/testing.js";
+import { runTests } from "../testing/test_suite.js";
 import { begun, testsThatLead } from "./beginning.js";
 import { CampaignRun, patienceOf } from "./campaign_run.js";
 import { readCampaign } from "./campaign.js";

@@ -5,8 +5,8 @@
 import * as say from "../../words/explore.js";
 
 /**
- * @typedef {import("../conditions/conditions.js").Condition} Condition
- * @typedef {import("./inputs.js").Input} Input
+ * @typedef {import("../conditions/condition_language.js").Condition} Condition
+ * @typedef {import("./explored_inputs.js").Input} Input
  *
  * What happens: `values` are what the condition looks at, now; `label`: the counter comes to the address; `down`: an input goes down;
  * `reset`; `end`: a wait is over; `call` and `return`: a subroutine's.

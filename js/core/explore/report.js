@@ -2,7 +2,7 @@
 
 import { counted } from "../bench/numbers.js";
 import { TAP_HEAD, described, quoted } from "../testing/tap.js";
-import { Coverage } from "./coverage.js";
+import { Coverage } from "./search_coverage.js";
 import { andMore } from "../../words/debug.js";
 import * as say from "../../words/explore.js";
 

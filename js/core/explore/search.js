@@ -3,10 +3,10 @@
 // seems broken, and so is one of some others.
 
 import { countWalk, followsFromLooks } from "./counting.js";
-import { Coverage } from "./coverage.js";
+import { Coverage } from "./search_coverage.js";
 import { KeptFiles } from "./kept_files.js";
-import { Looks } from "./looks.js";
-import { Conditions, Told, conditionsOf } from "./places.js";
+import { Looks } from "./read_places.js";
+import { Conditions, Told, conditionsOf } from "./place_questions.js";
 import { chooseStep, downAfter, downAtFirst, lineOf, linesOf, randomFrom } from "./walks.js";
 import { sinceAfter, sinceAtFirst, upToRandom } from "./walks.js";
 import { Watcher } from "./watching.js";

@@ -10,7 +10,7 @@ import * as say from "../../words/explore.js";
 
 /**
  * @typedef {import("../engine/engine_host.js").EngineHost} Engine
- * @typedef {import("../conditions/conditions.js").Names} Names
+ * @typedef {import("../conditions/condition_language.js").Names} Names
  *
  * An instruction of the program: its line, its address, and whether it goes on at one of two places.
  * @typedef {{ line: number, address: number, hasWays: boolean }} Instruction

@@ -3,7 +3,7 @@
 
 import { cyclesOf, isCall, isReturn } from "../engine/rom_codes.js";
 import { readTraced } from "../engine/tracing.js";
-import { Conditions, Places, Told, conditionsOf } from "./places.js";
+import { Conditions, Places, Told, conditionsOf } from "./place_questions.js";
 import { downAfter, lineOf } from "./walks.js";
 
 /**
@@ -12,7 +12,7 @@ import { downAfter, lineOf } from "./walks.js";
  * @typedef {import("./properties.js").Event} Event
  * @typedef {import("./subject.js").Subject} Subject
  * @typedef {import("./walks.js").WalkStep} WalkStep
- * @typedef {import("./places.js").Change} Change
+ * @typedef {import("./place_questions.js").Change} Change
  * @typedef {import("../engine/tracing.js").Counted} Counted
  *
  * From where a walk goes on: the session, the cycles since power-on, what is down, and what each property remembers.
@@ -33,7 +33,7 @@ export class Watcher {
   /**
    * @param {Subject} subject
    * @param {Campaign} campaign
-   * @param {import("./coverage.js").Coverage | null} coverage null where it does not matter what is run
+   * @param {import("./search_coverage.js").Coverage | null} coverage null where it does not matter what is run
    */
   constructor(subject, campaign, coverage) {
     this.subject = subject;

@@ -17,7 +17,7 @@ import { stretchOf } from "../machine/listing_stretch.js";
  * @typedef {import("../bench/answers.js").Registers} Registers
  * @typedef {import("../board/brightness.js").Brightness} Brightness
  * @typedef {import("../board/seen_lamps.js").SeenLamp} SeenLamp
- * @typedef {import("./panel.js").Panel} Panel
+ * @typedef {import("./terminal_panel.js").Panel} Panel
  */
 
 /** Each chip has this many rows: its registers and its port. */

@@ -5,7 +5,7 @@
 import { hex, upTo } from "../bench/numbers.js";
 import { linesOf } from "../board/strip.js";
 import { escaped } from "../text/escaped.js";
-import { withoutTabs } from "../text/tabs.js";
+import { withoutTabs } from "../text/without_tabs.js";
 import { LARGE_ROWS, largeRows } from "./large_digits.js";
 import { lampRowsOf, textOfCell } from "./lamp_rows.js";
 import { CHIP_ROWS } from "./panel_look.js";
@@ -14,7 +14,7 @@ import * as say from "../../words/panel.js";
 
 /**
  * @typedef {import("../board/board_keys.js").BoardKey} BoardKey
- * @typedef {import("./panel.js").Panel} Panel
+ * @typedef {import("./terminal_panel.js").Panel} Panel
  *
  * @typedef {{ rows: number, columns: number }} ScreenSize
  * @typedef {{ text: string, colour: string, level: number }} Piece `colour` is "" for text of no lamp

@@ -6,8 +6,8 @@ import { instructionIn, refuse } from "./words_of_line.js";
 import * as say from "../../words/prompt.js";
 
 /**
- * @typedef {import("./prompt.js").Act} Act
- * @typedef {import("./prompt.js").Prompt} Prompt
+ * @typedef {import("./debugger_prompt.js").Act} Act
+ * @typedef {import("./debugger_prompt.js").Prompt} Prompt
  */
 
 const BREAK = /^(.*?)(?:\s*\bfrom\s+(\d{1,9}))?(?:\s*\bif\s+(.+?))?(?:\s*\blog\s+"([^"]*)")?$/;

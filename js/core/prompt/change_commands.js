@@ -1,12 +1,12 @@
 // Commands that change the session while time stands: keys, values, the program.
 
-import { linesOfSet } from "../adapter/setting.js";
+import { linesOfSet } from "../adapter/set_place.js";
 import { refuse } from "./words_of_line.js";
 import * as say from "../../words/prompt.js";
 
 /**
- * @typedef {import("./prompt.js").Act} Act
- * @typedef {import("./prompt.js").Prompt} Prompt
+ * @typedef {import("./debugger_prompt.js").Act} Act
+ * @typedef {import("./debugger_prompt.js").Prompt} Prompt
  */
 
 

@@ -1,7 +1,7 @@
 // Values as `print/FORMAT` shows them.
 
-import { expressionOf } from "../conditions/conditions.js";
-import { valueOfExpression } from "../adapter/values.js";
+import { expressionOf } from "../conditions/condition_language.js";
+import { valueOfExpression } from "../adapter/expression_values.js";
 import { hex } from "../bench/numbers.js";
 import { refuse } from "./words_of_line.js";
 import { inColumn } from "../../words/conditions.js";
@@ -9,7 +9,7 @@ import * as say from "../../words/prompt.js";
 
 /**
  * @typedef {import("../debug/debug_session.js").DebugSession} DebugSession
- * @typedef {import("../adapter/values.js").Known} Known
+ * @typedef {import("../adapter/expression_values.js").Known} Known
  */
 
 /** @type {(base: number, mark: string) => (value: number) => string} */

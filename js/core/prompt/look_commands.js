@@ -2,7 +2,7 @@
 
 import { LAST_ADDRESS } from "../bench/numbers.js";
 import { placeOf } from "../conditions/places.js";
-import { commandOf, helpOf } from "./command_table.js";
+import { commandOf, helpOf } from "./prompt_commands.js";
 import { formattedValue } from "./formats.js";
 import * as looks from "./looks.js";
 import { addressIn, countIn, instructionIn, refuse } from "./words_of_line.js";
@@ -11,8 +11,8 @@ import * as say from "../../words/prompt.js";
 import { stoppedAt } from "../../words/stops.js";
 
 /**
- * @typedef {import("./prompt.js").Act} Act
- * @typedef {import("./prompt.js").Prompt} Prompt
+ * @typedef {import("./debugger_prompt.js").Act} Act
+ * @typedef {import("./debugger_prompt.js").Prompt} Prompt
  */
 
 const MOST_SHOWN = 4096;

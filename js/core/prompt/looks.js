@@ -3,7 +3,7 @@
 import { counted, hex, numberOf, upTo } from "../bench/numbers.js";
 import { linesOfBreakpoints } from "../debug/breakpoint_lines.js";
 import { Standing } from "../debug/standing.js";
-import { withoutTabs } from "../text/tabs.js";
+import { withoutTabs } from "../text/without_tabs.js";
 import { wordsOfAddress } from "../../words/stops.js";
 import { framesOf } from "../adapter/frames.js";
 import { rowsAt } from "../adapter/disassembly.js";

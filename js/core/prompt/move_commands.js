@@ -8,8 +8,8 @@ import * as say from "../../words/prompt.js";
 import { NO_CALL_WAITS, stoppedAt } from "../../words/stops.js";
 
 /**
- * @typedef {import("./prompt.js").Act} Act
- * @typedef {import("./prompt.js").Prompt} Prompt
+ * @typedef {import("./debugger_prompt.js").Act} Act
+ * @typedef {import("./debugger_prompt.js").Prompt} Prompt
  * @typedef {import("../debug/goals.js").Goal} Goal
  * @typedef {import("../engine/going_back.js").BackGoal} BackGoal
  */

@@ -12,7 +12,7 @@ import { codeLines, keysDown, linesOfSource, sourceLine } from "./looks.js";
 import * as say from "../../words/prompt.js";
 
 /**
- * @typedef {import("./prompt.js").Prompt} Prompt
+ * @typedef {import("./debugger_prompt.js").Prompt} Prompt
  * @typedef {{ rows: number, columns: number }} ViewSize how many lines the view has, and how long each is at most
  * @typedef {(text: string) => string} Marked
  * @typedef {{ head: Marked, here: Marked, other: Marked }} Marks of the line above, of the line that comes next, of a value that differs

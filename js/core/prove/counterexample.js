@@ -10,7 +10,7 @@ import { allInputs, wayOf } from "./way.js";
 
 /**
  * @typedef {import("../explore/campaign.js").Campaign} Campaign
- * @typedef {import("../explore/inputs.js").Input} Input
+ * @typedef {import("../explore/explored_inputs.js").Input} Input
  * @typedef {import("../explore/search.js").Find} Find
  * @typedef {import("../explore/subject.js").Subject} Subject
  * @typedef {import("../explore/walks.js").WalkStep} WalkStep

@@ -9,7 +9,7 @@ import * as say from "../../words/prove.js";
  * @typedef {import("./cells.js").All} All
  * @typedef {import("./cells.js").Field} Field
  * @typedef {import("../bench/answers.js").Board} Board
- * @typedef {import("../conditions/conditions.js").Condition} Condition
+ * @typedef {import("../conditions/condition_language.js").Condition} Condition
  *
  * What a condition says: that alone, or by the value of a field. Values that say the same follow each other in one range.
  * @typedef {boolean | { field: Field, ranges: { low: number, high: number, said: Said }[] }} Said

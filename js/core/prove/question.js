@@ -29,9 +29,11 @@ export const PAUSE = 1000000;
  */
 const FORMS = {
   never: ({ condition, address }, board) => (condition ? comparisonsOf(condition, true, board) : [isAt(address)]),
-  always: ({ condition }, board) => comparisonsOf(/** @type {import("../conditions/conditions.js").Condition} */ (condition), false, board),
+  always: ({ condition }, board) => (
+    comparisonsOf(/** @type {import("../conditions/condition_language.js").Condition} */ (condition), false, board)
+  ),
   at: ({ condition, address }, board) => (
-    comparisonsOf(/** @type {import("../conditions/conditions.js").Condition} */ (condition), false, board)
+    comparisonsOf(/** @type {import("../conditions/condition_language.js").Condition} */ (condition), false, board)
       .map((comparisons) => [...isAt(address), ...comparisons])),
   reach: ({ condition, address }, board) => (condition ? comparisonsOf(condition, true, board) : [isAt(address)]),
   "reach at": ({ address }) => [isAt(address)],

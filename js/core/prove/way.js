@@ -6,11 +6,11 @@ import { ADDRESSES } from "../bench/rom_bytes.js";
 import { portsOf, partsOfState } from "../bench/state_line.js";
 import { MOST_ON } from "../debug/breakpoints.js";
 import { LONGEST_RUN } from "../engine/key_queue.js";
-import { keysOf, pinOf } from "../explore/inputs.js";
+import { keysOf, pinOf } from "../explore/explored_inputs.js";
 import { PAUSE } from "./question.js";
 
 /**
- * @typedef {import("../explore/inputs.js").Input} Input
+ * @typedef {import("../explore/explored_inputs.js").Input} Input
  * @typedef {import("../explore/subject.js").Subject} Subject
  * @typedef {import("../explore/walks.js").WalkStep} WalkStep
  */

@@ -6,7 +6,7 @@ import { namesOf, partsOf } from "../text/assembly.js";
 import { definitionOf } from "../text/references.js";
 import { wordsUpTo } from "../text/test_words.js";
 import { asMarkdown } from "./markdown.js";
-import { rangeOf } from "./protocol.js";
+import { rangeOf } from "./lsp_protocol.js";
 import { inColumn } from "../../words/conditions.js";
 import * as say from "../../words/server.js";
 
@@ -16,7 +16,7 @@ import * as say from "../../words/server.js";
  * @typedef {import("../text/test_words.js").TestNames} TestNames
  * @typedef {import("./diagnostics.js").ShownFault} ShownFault
  * @typedef {import("./open_text.js").OpenText} OpenText
- * @typedef {import("./protocol.js").Position} Position
+ * @typedef {import("./lsp_protocol.js").Position} Position
  *
  * A text with its address; the text is null if it cannot be read.
  * @typedef {{ uri: string, text: string | null }} NamedText

@@ -11,12 +11,12 @@ import { helpForBoard } from "../text/text_help.js";
 import { tomlWords } from "../text/toml_words.js";
 import { BoardReferences } from "./board_references.js";
 import { asMarkdown } from "./markdown.js";
-import { REQUEST_FAILED, ProtocolError, rangeOf } from "./protocol.js";
+import { REQUEST_FAILED, ProtocolError, rangeOf } from "./lsp_protocol.js";
 import * as say from "../../words/server.js";
 
 /**
  * @typedef {import("./open_text.js").OpenText} OpenText
- * @typedef {import("./protocol.js").Position} Position
+ * @typedef {import("./lsp_protocol.js").Position} Position
  * @typedef {import("./text_bench.js").TextBench} TextBench
  * @typedef {import("./token_codes.js").ColouredWord} ColouredWord
  */
@@ -93,7 +93,7 @@ export class BoardLanguage {
     return [...(withDefinition ? [part] : []), ...found].map((each) => rangeOf(each.line, each.from, each.to));
   }
 
-  /** @returns {import("./protocol.js").TextEdit[]} */
+  /** @returns {import("./lsp_protocol.js").TextEdit[]} */
   rename() {
     throw new ProtocolError(REQUEST_FAILED, say.NO_BOARD_NAMES);
   }

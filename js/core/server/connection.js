@@ -1,7 +1,9 @@
 // Requests, answers and notifications over a stream, in the order of the protocol: first `initialize`, last `shutdown` and `exit`.
 
 import { MessageReader, StreamLost, fieldOf, framed } from "./framing.js";
-import { CANCELLED, INTERNAL_ERROR, INVALID_REQUEST, METHOD_NOT_FOUND, NOT_INITIALIZED, PARSE_ERROR, ProtocolError } from "./protocol.js";
+import {
+  CANCELLED, INTERNAL_ERROR, INVALID_REQUEST, METHOD_NOT_FOUND, NOT_INITIALIZED, PARSE_ERROR, ProtocolError,
+} from "./lsp_protocol.js";
 import { IT_WAS_CANCELLED } from "../../words/bench.js";
 import * as say from "../../words/server.js";
 

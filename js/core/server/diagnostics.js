@@ -2,12 +2,12 @@
 
 import { MOST_FAULTS } from "../text/program_faults.js";
 import { LONGEST_KEPT, TEXT_TOO_LONG } from "../text/text_fault.js";
-import { rangeOf } from "./protocol.js";
+import { rangeOf } from "./lsp_protocol.js";
 import * as say from "../../words/server.js";
 
 /**
  * @typedef {import("../text/text_fault.js").Fault} Fault
- * @typedef {import("./protocol.js").Range} Range
+ * @typedef {import("./lsp_protocol.js").Range} Range
  *
  * A fault of any text; without a number it is a warning if it is not said to be an error.
  * @typedef {Fault & { isError?: boolean }} ShownFault

@@ -7,7 +7,7 @@ import * as say from "../../words/server.js";
 /**
  * @typedef {import("../machine/source_map.js").SourceMap} SourceMap
  * @typedef {import("./language.js").InlayHint} InlayHint
- * @typedef {import("./protocol.js").Range} Range
+ * @typedef {import("./lsp_protocol.js").Range} Range
  */
 
 /**

@@ -6,10 +6,10 @@
  * @typedef {import("../text/folding.js").Parts} Parts
  * @typedef {import("../text/program_format.js").Layout} Layout
  * @typedef {import("./open_text.js").OpenText} OpenText
- * @typedef {import("./protocol.js").Location} Location
- * @typedef {import("./protocol.js").Position} Position
- * @typedef {import("./protocol.js").Range} Range
- * @typedef {import("./protocol.js").TextEdit} TextEdit
+ * @typedef {import("./lsp_protocol.js").Location} Location
+ * @typedef {import("./lsp_protocol.js").Position} Position
+ * @typedef {import("./lsp_protocol.js").Range} Range
+ * @typedef {import("./lsp_protocol.js").TextEdit} TextEdit
  * @typedef {import("./token_codes.js").ColouredWord} ColouredWord
  *
  * @typedef {{ faults: import("./diagnostics.js").ShownFault[], areAll: boolean }} FoundFaults

@@ -12,7 +12,7 @@ import { OpenText } from "./open_text.js";
 import { ProgramLanguage } from "./program_language.js";
 import { ProjectLanguage } from "./project_language.js";
 import { PropertyLanguage } from "./property_language.js";
-import { INVALID_PARAMS, ProtocolError, needRange, needText } from "./protocol.js";
+import { INVALID_PARAMS, ProtocolError, needRange, needText } from "./lsp_protocol.js";
 import { Requests } from "./requests.js";
 import { TestLanguage } from "./test_language.js";
 import { TestRuns } from "./test_runs.js";

@@ -1,8 +1,8 @@
 // A text that is open in an editor, with its edits.
 
 /**
- * @typedef {import("./protocol.js").Position} Position
- * @typedef {import("./protocol.js").Range} Range
+ * @typedef {import("./lsp_protocol.js").Position} Position
+ * @typedef {import("./lsp_protocol.js").Range} Range
  * @typedef {import("../text/text_fault.js").Fault} Fault
  */
 

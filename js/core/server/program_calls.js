@@ -1,7 +1,7 @@
 // The routines of a program as editors show them: a call hierarchy, and above each label how often it is called.
 
 import { Routines } from "../text/routines.js";
-import { rangeOf } from "./protocol.js";
+import { rangeOf } from "./lsp_protocol.js";
 import * as say from "../../words/server.js";
 
 /**
@@ -10,7 +10,7 @@ import * as say from "../../words/server.js";
  * @typedef {import("./language.js").Call} Call
  * @typedef {import("./language.js").Lens} Lens
  * @typedef {import("./language.js").Routine} Routine
- * @typedef {import("./protocol.js").Range} Range
+ * @typedef {import("./lsp_protocol.js").Range} Range
  */
 
 /** @param {CallPlace} place */

@@ -8,7 +8,7 @@ import { wordsOfDirective, wordsOfInstruction, wordsOfRegister } from "../text/t
 /**
  * @typedef {import("../help/manual.js").Instruction} Instruction
  * @typedef {import("./language.js").CompletedWord} CompletedWord
- * @typedef {import("./protocol.js").Position} Position
+ * @typedef {import("./lsp_protocol.js").Position} Position
  * @typedef {{ instructions: Map<string, Instruction>, conditions: Map<number, string>, meaningOf: (name: string) => string }} Known the
  *   manual's instructions and conditions of JCN, and what a name is
  */

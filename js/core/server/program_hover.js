@@ -5,14 +5,14 @@ import { NUMBER, namesOf, partsOf, wordAt } from "../text/assembly.js";
 import { operandsOfForm } from "../text/program_words.js";
 import { doesOf, helpForProgram } from "../text/text_help.js";
 import { asBlock, asCode, asMarkdown, asTable } from "./markdown.js";
-import { rangeOf } from "./protocol.js";
+import { rangeOf } from "./lsp_protocol.js";
 import * as say from "../../words/server.js";
 
 /**
  * @typedef {import("../help/manual.js").Instruction} Instruction
  * @typedef {import("../text/assembly.js").Word} Word
  * @typedef {import("./language.js").Hover} Hover
- * @typedef {import("./protocol.js").Position} Position
+ * @typedef {import("./lsp_protocol.js").Position} Position
  *
  * What is known: the instructions and the conditions of JCN by the manual, what a name is, its value, and where a line is ("" if that is
  * not known).

@@ -14,7 +14,7 @@ import { hintsOf } from "./inlay_hints.js";
 import { ProgramCalls } from "./program_calls.js";
 import { completionOfProgram } from "./program_completion.js";
 import { hoverOfProgram } from "./program_hover.js";
-import { REQUEST_FAILED, ProtocolError, rangeOf } from "./protocol.js";
+import { REQUEST_FAILED, ProtocolError, rangeOf } from "./lsp_protocol.js";
 import { signatureAt } from "./signature_help.js";
 import * as say from "../../words/server.js";
 
@@ -22,8 +22,8 @@ import * as say from "../../words/server.js";
  * @typedef {import("../help/manual.js").ManualSection} ManualSection
  * @typedef {import("../text/program_format.js").Layout} Layout
  * @typedef {import("./open_text.js").OpenText} OpenText
- * @typedef {import("./protocol.js").Position} Position
- * @typedef {import("./protocol.js").Range} Range
+ * @typedef {import("./lsp_protocol.js").Position} Position
+ * @typedef {import("./lsp_protocol.js").Range} Range
  * @typedef {import("./text_bench.js").TextBench} TextBench
  * @typedef {import("./token_codes.js").ColouredWord} ColouredWord
  * @typedef {{ map: SourceMap, bytes: () => Int16Array }} Assembled where lines are, and what bytes they put

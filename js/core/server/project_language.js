@@ -3,7 +3,7 @@
 import { filesNamed } from "../project/project_toml.js";
 import { PARTS } from "../text/folding.js";
 import { faultsOfProject, folderOf, readProject, within } from "./kinds.js";
-import { rangeOf } from "./protocol.js";
+import { rangeOf } from "./lsp_protocol.js";
 
 /**
  * @typedef {import("./kinds.js").TextOf} TextOf

@@ -7,13 +7,13 @@ import { PARTS } from "../text/folding.js";
 import { completeProperty, helpForProperty, propertyForms } from "../text/property_words.js";
 import { BesideLanguage, faultInLine } from "./beside_language.js";
 import { folderOf, within } from "./kinds.js";
-import { rangeOf } from "./protocol.js";
+import { rangeOf } from "./lsp_protocol.js";
 import { colouredWords } from "./token_codes.js";
 
 /**
  * @typedef {import("./language.js").DocumentLink} DocumentLink
  * @typedef {import("./open_text.js").OpenText} OpenText
- * @typedef {import("./protocol.js").Position} Position
+ * @typedef {import("./lsp_protocol.js").Position} Position
  */
 
 const PROPERTY = 7;

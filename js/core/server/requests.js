@@ -6,7 +6,7 @@ import { codeLensOf } from "./code_lens.js";
 import { cures } from "./diagnostics.js";
 import { foldsOf } from "./folding_ranges.js";
 import { fieldOf } from "./framing.js";
-import { INVALID_PARAMS, ProtocolError, needPosition, needRange, needText } from "./protocol.js";
+import { INVALID_PARAMS, ProtocolError, needPosition, needRange, needText } from "./lsp_protocol.js";
 import { selectionAt } from "./selection_ranges.js";
 import { TokenMemory } from "./token_memory.js";
 import { workspaceSymbols } from "./workspace_symbols.js";
@@ -18,7 +18,7 @@ import * as say from "../../words/server.js";
  * @typedef {import("./language.js").Routine} Routine
  * @typedef {import("./language_server.js").LanguageServer} LanguageServer
  * @typedef {import("./open_text.js").OpenText} OpenText
- * @typedef {import("./protocol.js").Position} Position
+ * @typedef {import("./lsp_protocol.js").Position} Position
  */
 
 const FUNCTION = 12;
@@ -129,7 +129,7 @@ export class Requests {
 
   /**
    * @param {any} params
-   * @param {import("./protocol.js").Range} range
+   * @param {import("./lsp_protocol.js").Range} range
    */
   format(params, range) {
     const layout = layoutOf(fieldOf(params, "options"));

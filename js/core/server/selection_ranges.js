@@ -5,8 +5,8 @@ import { foldsOf } from "./folding_ranges.js";
 
 /**
  * @typedef {import("../text/folding.js").Parts} Parts
- * @typedef {import("./protocol.js").Position} Position
- * @typedef {import("./protocol.js").Range} Range
+ * @typedef {import("./lsp_protocol.js").Position} Position
+ * @typedef {import("./lsp_protocol.js").Range} Range
  * @typedef {{ range: Range, parent?: SelectionRange }} SelectionRange
  */
 

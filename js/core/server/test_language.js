@@ -5,14 +5,14 @@ import { COLOURS } from "../text/test_colours.js";
 import { PARTS } from "../text/folding.js";
 import { completeTest, helpForTest, testForms } from "../text/test_words.js";
 import { BesideLanguage, faultInLine } from "./beside_language.js";
-import { rangeOf } from "./protocol.js";
+import { rangeOf } from "./lsp_protocol.js";
 import { colouredWords } from "./token_codes.js";
 import * as say from "../../words/server.js";
 
 /**
  * @typedef {import("./language.js").Lens} Lens
  * @typedef {import("./open_text.js").OpenText} OpenText
- * @typedef {import("./protocol.js").Position} Position
+ * @typedef {import("./lsp_protocol.js").Position} Position
  * @typedef {{ kind: "test" | "steps", name: string, line: number, from: number, to: number }} Head of a test or of shared steps
  */
 

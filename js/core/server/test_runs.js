@@ -2,9 +2,9 @@
 // editor.
 
 import { Cancelled } from "../bench/faults.js";
-import { runTests } from "../testing/testing.js";
+import { runTests } from "../testing/test_suite.js";
 import { faultInLine, fileNameOf } from "./beside_language.js";
-import { CANCELLED, ProtocolError } from "./protocol.js";
+import { CANCELLED, ProtocolError } from "./lsp_protocol.js";
 import { IT_WAS_CANCELLED } from "../../words/bench.js";
 import * as say from "../../words/server.js";
 
@@ -68,7 +68,7 @@ export class TestRuns {
 
   /**
    * Runs one test; a run that another one ends is a cancelled request.
-   * @param {import("../testing/testing.js").TestedTexts} texts
+   * @param {import("../testing/test_suite.js").TestedTexts} texts
    * @param {() => Promise<boolean>} goesOn
    * @param {{ name: string, source: string }} only
    */

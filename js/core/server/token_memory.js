@@ -4,7 +4,7 @@ import { codeEdits, tokenCodes } from "./token_codes.js";
 
 /**
  * @typedef {import("./open_text.js").OpenText} OpenText
- * @typedef {import("./protocol.js").Range} Range
+ * @typedef {import("./lsp_protocol.js").Range} Range
  * @typedef {import("./token_codes.js").ColouredWord} ColouredWord
  */
 

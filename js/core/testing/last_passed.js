@@ -5,7 +5,7 @@ import { Answers, readTraced } from "../engine/tracing.js";
 import * as say from "../../words/testing.js";
 
 /**
- * @typedef {import("../conditions/conditions.js").Condition} Condition
+ * @typedef {import("../conditions/condition_language.js").Condition} Condition
  * @typedef {import("../machine/source_map.js").SourceMap} SourceMap
  * @typedef {import("./test_session.js").Done} Done
  * @typedef {import("./test_session.js").TestSession} TestSession

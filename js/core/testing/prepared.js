@@ -9,7 +9,7 @@ import { faultsOfLines, sentText } from "../text/text_fault.js";
 import { romCodes } from "../engine/rom_codes.js";
 
 /**
- * @typedef {import("../conditions/conditions.js").Names} Names
+ * @typedef {import("../conditions/condition_language.js").Names} Names
  * @typedef {import("../engine/engine_host.js").EngineHost} Engine
  * @typedef {{ boardText: string, programText: string }} Texts
  *

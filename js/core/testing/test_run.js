@@ -14,8 +14,8 @@ import * as say from "../../words/testing.js";
 
 /**
  * @typedef {import("./account.js").Account} Account
- * @typedef {import("../conditions/conditions.js").Beside} Beside
- * @typedef {import("../conditions/conditions.js").Condition} Condition
+ * @typedef {import("../conditions/condition_language.js").Beside} Beside
+ * @typedef {import("../conditions/condition_language.js").Condition} Condition
  * @typedef {import("../engine/engine_host.js").EngineHost} Engine
  * @typedef {import("./prepared.js").Prepared} Prepared
  * @typedef {import("./test_text.js").Action} Action
@@ -189,7 +189,7 @@ export class TestRun {
     return stop === "code" ? say.runStopped(session.elapsed, this.wordsOfCode(session)) : "";
   }
 
-  /** @param {TestSession} session stands before a code that is no instruction */
+  /** @param {TestSession} session stands before a code that is not an instruction */
   wordsOfCode({ counter }) {
     return say.beforeCode(this.named(counter));
   }

@@ -10,8 +10,8 @@ import { Answers, readTraced, valuesOf } from "../engine/tracing.js";
 
 /**
  * @typedef {import("./account.js").Account} Account
- * @typedef {import("../conditions/conditions.js").Beside} Beside
- * @typedef {import("../conditions/conditions.js").Condition} Condition
+ * @typedef {import("../conditions/condition_language.js").Beside} Beside
+ * @typedef {import("../conditions/condition_language.js").Condition} Condition
  * @typedef {import("../engine/engine_host.js").EngineHost} Engine
  * @typedef {import("./paper.js").Paper} Paper
  * @typedef {{ line: string, cycles: number }} Done a command, or a run of so many cycles ("run")

@@ -3,7 +3,7 @@
 // The manual ("The lines of a test") has the language.
 
 import { durationOf, wholeDuration } from "../conditions/durations.js";
-import { expressionOf, testConditionOf } from "../conditions/conditions.js";
+import { expressionOf, testConditionOf } from "../conditions/condition_language.js";
 import { placeOf } from "../conditions/places.js";
 import { readSetting } from "../conditions/setting.js";
 import { numberOf } from "../bench/numbers.js";
@@ -11,8 +11,8 @@ import { inColumn } from "../../words/conditions.js";
 import * as say from "../../words/testing.js";
 
 /**
- * @typedef {import("../conditions/conditions.js").Condition} Condition
- * @typedef {import("../conditions/conditions.js").Names} Names
+ * @typedef {import("../conditions/condition_language.js").Condition} Condition
+ * @typedef {import("../conditions/condition_language.js").Names} Names
  * @typedef {{ name: string, text: string }} Source a text of tests with the name of its file, "" where it has none
  * @typedef {{ file: string, line: number, column: number, words: string }} Fault `column` counts from 0, -1 if none is known
  * @typedef {{ name: string, press: string, release: string }} Key with the commands that move it

@@ -4,8 +4,8 @@ import { wordsOfGone } from "../../words/stops.js";
 import * as say from "../../words/time.js";
 
 /**
- * @typedef {import("../bench/bench.js").Bench} Bench
- * @typedef {import("../bench/bench.js").Ways} Ways
+ * @typedef {import("../bench/bench_client.js").Bench} Bench
+ * @typedef {import("../bench/bench_client.js").Ways} Ways
  * @typedef {import("../engine/going_back.js").BackGoal} BackGoal
  * @typedef {import("../bench/protocol.js").Stop} Stop
  * @typedef {import("../bench/protocol.js").Tally} Tally

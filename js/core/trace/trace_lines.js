@@ -1,7 +1,7 @@
 // A trace: a line for each instruction that a run begins, with what it changes. The bench is asked before the run; nothing is run here.
 
 import { valueIn } from "../bench/state_line.js";
-import { MOST_PLACES } from "../conditions/conditions.js";
+import { MOST_PLACES } from "../conditions/condition_language.js";
 import { cyclesOf } from "../engine/rom_codes.js";
 import { Answers, readTraced, valuesOf } from "../engine/tracing.js";
 import { upTo } from "../bench/numbers.js";

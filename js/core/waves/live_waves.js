@@ -1,6 +1,6 @@
 // A recording that goes on while time runs: what is kept of it, and what is told. Without a document.
 
-import { Waves } from "./waves.js";
+import { Waves } from "./wave_recording.js";
 import { cyclesText, grouped, microseconds } from "./wave_words.js";
 import * as say from "../../words/waves.js";
 

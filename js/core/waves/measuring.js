@@ -5,7 +5,7 @@ import { isText } from "./wave_lines.js";
 import * as say from "../../words/waves.js";
 
 /**
- * @typedef {import("./waves.js").Waves} Waves
+ * @typedef {import("./wave_recording.js").Waves} Waves
  *
  * The line has its value from one moment to another one; `isWhole`: both are changes of the line, not ends of the recording. `period`: from
  * the edge before to the next one of its kind, 0 if there is none.

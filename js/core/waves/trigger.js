@@ -1,12 +1,12 @@
 // What a recording waits for, in words: an edge of a line (`rom0.2 rises`, `lamp 3 falls`, `r5 changes`), or a condition,
-// which it waits to become true (`r9 = 9`, `lamp 3 on`, `display 42`, `@LABEL`: conditions/conditions.js). Without a document.
+// which it waits to become true (`r9 = 9`, `lamp 3 on`, `display 42`, `@LABEL`: conditions/condition_language.js). Without a document.
 
-import { tracedConditionOf } from "../conditions/conditions.js";
+import { tracedConditionOf } from "../conditions/condition_language.js";
 import { inColumn } from "../../words/conditions.js";
 import * as say from "../../words/waves.js";
 
 /**
- * @typedef {import("../conditions/conditions.js").Names} Names
+ * @typedef {import("../conditions/condition_language.js").Names} Names
  * @typedef {import("./wave_lines.js").WaveLine} WaveLine
  * @typedef {"rises" | "falls" | "changes"} Edge
  *

@@ -1,6 +1,6 @@
 // A recording as a VCD file (IEEE 1364): the page and `mcs4 wave` write the same bytes for the same lines of the same session.
 
-/** @typedef {import("./waves.js").Waves} Waves */
+/** @typedef {import("./wave_recording.js").Waves} Waves */
 
 /** Units of time in a cycle of 10.8 microseconds: a unit is 100 ns. */
 const UNITS = 108;

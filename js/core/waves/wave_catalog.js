@@ -7,7 +7,7 @@ import * as say from "../../words/waves.js";
 /**
  * @typedef {import("../bench/answers.js").Board} Board
  * @typedef {import("./wave_lines.js").WaveLine} WaveLine
- * @typedef {import("./waves.js").Waves} Waves
+ * @typedef {import("./wave_recording.js").Waves} Waves
  */
 
 /** So many lines are shown where none were chosen yet. */

@@ -7,7 +7,7 @@ import { lineNamed } from "./trigger.js";
 import * as say from "../../words/waves.js";
 
 /**
- * @typedef {import("./waves.js").Waves} Waves
+ * @typedef {import("./wave_recording.js").Waves} Waves
  *
  * What is looked for: a line, by its number, and whether a value of it is one of those that are; with `each` every change to such a value
  * counts, else only one from a value that is none.

@@ -7,7 +7,7 @@ const USUAL = 20000;
 /** An edge that is so near to a click, in pixels, is meant by it. */
 const NEAR = 7;
 
-/** @typedef {import("./waves.js").Waves} Waves */
+/** @typedef {import("./wave_recording.js").Waves} Waves */
 
 /**
  * @param {number} number

@@ -4,8 +4,8 @@ import { countOf, counted } from "../bench/numbers.js";
 import * as say from "../../words/waves.js";
 
 /**
- * @typedef {import("./waves.js").Instruction} Instruction
- * @typedef {import("./waves.js").Waves} Waves
+ * @typedef {import("./wave_recording.js").Instruction} Instruction
+ * @typedef {import("./wave_recording.js").Waves} Waves
  * @typedef {"hex" | "decimal" | "binary"} Base
  */
 

@@ -3,7 +3,7 @@ import { LineAccount } from "../../core/testing/account.js";
 import { coverageText, lcovOf } from "../../core/testing/coverage_text.js";
 import { NO_LCOV } from "../../words/commands.js";
 import { print } from "../output.mjs";
-import { testOrCount } from "../testing.mjs";
+import { testOrCount } from "../test_commands.mjs";
 import { needOwnFile, writeUserFile } from "../user_files.mjs";
 
 /** Begins a file in LCOV's format. */

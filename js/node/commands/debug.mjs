@@ -1,6 +1,6 @@
 // `mcs4 debug`: the prompt of js/core/prompt on the bench that is in the page, at a terminal, or with commands from standard input.
 import { createInterface } from "node:readline";
-import { Prompt } from "../../core/prompt/prompt.js";
+import { Prompt } from "../../core/prompt/debugger_prompt.js";
 import { launch } from "../../core/adapter/launching.js";
 import { Words } from "../../core/bench/words.js";
 import { escaped } from "../../core/text/escaped.js";

@@ -2,9 +2,9 @@
 import { join } from "node:path";
 import { isRight, tapOf, testsOfReport } from "../../core/explore/report.js";
 import { namesWithProperties, needCount, needWords } from "../arguments.mjs";
-import { exploreAsJob, exploreTexts, jobOf, mergeReports } from "../exploring.mjs";
-import { GivenTexts, MOST_GIVEN } from "../given_texts.mjs";
-import { CommandError, print } from "../output.mjs";
+import { exploreAsJob, exploreTexts, jobOf, mergeReports } from "../explore_processes.mjs";
+import { GivenTexts } from "../given_texts.mjs";
+import { print } from "../output.mjs";
 import { temporaryFolder } from "../temporary.mjs";
 import { needOwnFile, writeUserFile } from "../user_files.mjs";
 import { NO_FINDS, NO_REPORT } from "../../words/commands.js";
@@ -43,7 +43,7 @@ export async function run(values, positionals) {
 /**
  * Searches; returns the report.
  * @param {string[]} names of board, program and properties
- * @param {Omit<import("../exploring.mjs").Settings, "folder" | "texts">} limits
+ * @param {Omit<import("../explore_processes.mjs").Settings, "folder" | "texts">} limits
  */
 function explore([board, program, properties], limits) {
   const texts = new GivenTexts();

@@ -17,7 +17,7 @@ const MOST_CYCLES = 100000;
  * @param {string[]} lines
  */
 async function pressOn(session, lines) {
-  const { openProgram } = await import("../session_program.mjs");
+  const { openProgram } = await import("../program_on_file.mjs");
   const program = await openProgram("open", session);
   print(`${program.opened}\n`);
   let answer = "";

@@ -1,6 +1,6 @@
 // `mcs4 new` at a terminal. (The starter runs the program itself where there is none.)
 import { needWords } from "../arguments.mjs";
-import { servePrompt } from "../session_prompt.mjs";
+import { servePrompt } from "../session_terminal.mjs";
 
 /** @type {import("./table.mjs").CommandModule["run"]} */
 export function run(_, positionals) {

@@ -1,12 +1,11 @@
 // `mcs4 panel`: the front panel of a board in a terminal, with live keys. All that is done goes into the session's file, by the program itself.
 import { basename } from "node:path";
-import { readBoard } from "../../core/bench/answers.js";
 import { codesOf } from "../../core/engine/rom_codes.js";
 import { listsOf, PAGES } from "../../core/bench/rom_bytes.js";
 import { differences } from "../../core/bench/begun_script.js";
 import { missingOf } from "../../core/board/face_board.js";
 import { sorted } from "../../core/board/face.js";
-import { Panel } from "../../core/panel/panel.js";
+import { Panel } from "../../core/panel/terminal_panel.js";
 import { Screen, hasRoom, middleRows } from "../../core/panel/screen.js";
 import { otherBoard } from "../../words/commands.js";
 import { noteOfBoard } from "../../words/panel.js";
@@ -17,11 +16,11 @@ import { endEngine, endOnSignals, programOf, startEngine } from "../native_progr
 import { CommandError } from "../output.mjs";
 import { PanelTerminal } from "../panel_terminal.mjs";
 import { wordsOfRefusal } from "../refused_texts.mjs";
-import { openProgram } from "../session_program.mjs";
+import { openProgram } from "../program_on_file.mjs";
 
 /**
  * @typedef {import("../given_texts.mjs").GivenText} GivenText
- * @typedef {import("../session_program.mjs").SessionProgram} SessionProgram
+ * @typedef {import("../program_on_file.mjs").SessionProgram} SessionProgram
  */
 
 const FAILED = 1;

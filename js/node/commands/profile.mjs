@@ -2,7 +2,7 @@
 import { Account } from "../../core/testing/account.js";
 import { profileText } from "../../core/testing/profile_text.js";
 import { print } from "../output.mjs";
-import { testOrCount } from "../testing.mjs";
+import { testOrCount } from "../test_commands.mjs";
 
 /** @type {import("./table.mjs").CommandModule["run"]} */
 export function run({ folder, session }, positionals) {

@@ -1,7 +1,7 @@
 // `mcs4 test`: runs tests of a program, and prints the results as TAP.
 import { NoAccount } from "../../core/testing/account.js";
 import { tapOfTest } from "../../core/testing/tap.js";
-import { testBy } from "../testing.mjs";
+import { testBy } from "../test_commands.mjs";
 
 /** @type {import("./table.mjs").CommandModule["run"]} */
 export function run({ folder }, positionals) {

@@ -69,7 +69,8 @@ async function wired(session, { board: boardName, program: programName }) {
   if (boardText) await needBoard(engine, boardText, answers);
   const map = program && await programOf(engine, romCodes(engine, opened), program);
   const state = withoutStops(engine, opened);
-  return { engine, state, board: readBoard(answers), boardText, face: new Face(boardText ? boardText.text : ""), program: map && programInWaves(map, program.text) };
+  const face = new Face(boardText ? boardText.text : "");
+  return { engine, state, board: readBoard(answers), boardText, face, program: map && programInWaves(map, program.text) };
 }
 
 /** @type {(wanted: Wired) => string} */
@@ -88,7 +89,7 @@ function chosenBy(choose) {
   }
 }
 
-/** @param {import("../../core/waves/waves.js").Waves} waves */
+/** @param {import("../../core/waves/wave_recording.js").Waves} waves */
 function reportStop({ isStuck, cycles }, wanted) {
   if (isStuck && cycles < wanted) printError(`wave: ${say.stoppedAtCode(cycles)}\n`);
 }

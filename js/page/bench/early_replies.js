@@ -2,7 +2,7 @@
 // those of a broadcast channel. These can be lost, in a page that was frozen say: so each reply comes the usual way as well.
 
 /**
- * @typedef {import("../../core/bench/bench.js").WorkerLike} WorkerLike
+ * @typedef {import("../../core/bench/bench_client.js").WorkerLike} WorkerLike
  * @typedef {import("../../core/bench/protocol.js").Early} Early
  */
 

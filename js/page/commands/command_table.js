@@ -3,7 +3,7 @@
 
 import { SPEEDS } from "../../core/time/speeds.js";
 import { KEYBOARD } from "../../words/help.js";
-import { PANELS, RESET_LAYOUT } from "../../words/layout.js";
+import { PANELS, RESET_LAYOUT } from "../../words/workbench.js";
 import * as say from "../../words/page_commands.js";
 
 /**

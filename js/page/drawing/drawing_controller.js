@@ -2,7 +2,7 @@
 
 import { wantsKey } from "../board/pressing.js";
 import { button, isDialogOpen, onClick } from "../ui/dom.js";
-import { Drawing } from "../../core/drawing/drawing.js";
+import { Drawing } from "../../core/drawing/board_drawing.js";
 import { DrawingView } from "./drawing_view.js";
 import { PictureInput } from "./picture_input.js";
 import { PictureZoom } from "./picture_zoom.js";
@@ -10,8 +10,8 @@ import { PictureZoom } from "./picture_zoom.js";
 /**
  * @typedef {import("../board/wiring_view.js").WiringView} WiringView
  * @typedef {import("../session/kept_session.js").KeptSession} KeptSession
- * @typedef {import("../../core/drawing/drawing.js").DrawingCalls} DrawingCalls
- * @typedef {import("../../core/drawing/drawing.js").Shown} Shown
+ * @typedef {import("../../core/drawing/board_drawing.js").DrawingCalls} DrawingCalls
+ * @typedef {import("../../core/drawing/board_drawing.js").Shown} Shown
  *
  * What it calls, beside what the drawing does: whether the picture is in front, and it is put there; the text is wired, which gives what
  * is told of that; a routine that scans its keys comes into the source; the lines of a part are shown in the text; the session that is

@@ -8,7 +8,7 @@ import * as say from "../../words/drawing.js";
 /**
  * @typedef {import("../../core/drawing/acts.js").Act} Act
  * @typedef {import("../../core/drawing/acts.js").Shelved} Shelved
- * @typedef {import("../../core/drawing/drawing.js").Shown} Shown
+ * @typedef {import("../../core/drawing/board_drawing.js").Shown} Shown
  * @typedef {import("../../core/drawing/fields.js").Field} Field
  * @typedef {import("../board/wiring_view.js").WiringView} WiringView
  * @typedef {{ act: (act: Act) => void, undoOrRedo: (which: "undo" | "redo") => void, wire: () => void, find: (part: string) => void,

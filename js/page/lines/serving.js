@@ -14,9 +14,9 @@ import { stoppedAt } from "../../words/stops.js";
  * @typedef {import("../../core/debug/debugger.js").Tally} Tally
  * @typedef {import("../../core/machine/source_map.js").SourceMap} SourceMap
  * @typedef {import("../ui/notice.js").Notice} Notice
- * @typedef {import("../../core/bench/bench.js").Bench} Bench
+ * @typedef {import("../../core/bench/bench_client.js").Bench} Bench
  * @typedef {import("../../core/bench/protocol.js").ServedLines} ServedLines
- * @typedef {import("../../core/bench/bench.js").Ways} Ways
+ * @typedef {import("../../core/bench/bench_client.js").Ways} Ways
  *
  * What it calls: the program that stands in ROM; long work tells how far it is, and can be cancelled; the counter that is shown; what the
  * session is now is shown; whether the source is what stands in ROM; the session is kept, which gives its fault; answers are logged;

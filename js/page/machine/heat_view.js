@@ -3,13 +3,13 @@
 
 import { block, byId, field } from "../ui/dom.js";
 import { countOf } from "../../core/bench/numbers.js";
-import { PassingHeat, warmthOf, wordsOfHeat, wordsOfHeated, wordsOfPassing, wordsOfSeen } from "../../core/machine/heat.js";
+import { PassingHeat, warmthOf, wordsOfHeat, wordsOfHeated, wordsOfPassing, wordsOfSeen } from "../../core/machine/warmth.js";
 import * as say from "../../words/machine.js";
 
 /**
  * @typedef {import("../../core/engine/heat.js").Heat} Heat
  * @typedef {import("../../core/engine/heating.js").PassedHeat} PassedHeat
- * @typedef {import("../../core/machine/heat.js").HeatKind} HeatKind
+ * @typedef {import("../../core/machine/warmth.js").HeatKind} HeatKind
  * @typedef {import("../../core/machine/source_map.js").SourceMap} SourceMap
  * @typedef {{ warmth: number, words: string }} Warm
  *

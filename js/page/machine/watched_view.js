@@ -7,7 +7,7 @@ import * as say from "../../words/machine.js";
 /**
  * @typedef {import("../../core/debug/standing.js").Standing} Standing
  * @typedef {import("../../core/debug/watched.js").Watched} Watched
- * @typedef {import("../../core/conditions/conditions.js").Names} Names
+ * @typedef {import("../../core/conditions/condition_language.js").Names} Names
  * @typedef {{ root: HTMLLIElement, value: HTMLElement, shape: string, cells: Cell[] }} Row
  *
  * What it calls: a cell that shows a value can be edited; what stands in the machine, null while time runs; the list is another one; its

@@ -10,7 +10,7 @@ import * as say from "../../words/session.js";
 
 /**
  * @typedef {import("./locks.js").Release} Release
- * @typedef {import("../../core/bench/bench.js").Bench} Bench
+ * @typedef {import("../../core/bench/bench_client.js").Bench} Bench
  * @typedef {import("../../core/bench/ran.js").RanEntry} RanEntry
  * @typedef {import("./kept_past.js").KeptPast} KeptPast
  * @typedef {import("../../core/bench/protocol.js").Shown} Shown

@@ -10,7 +10,7 @@ import { NotKept, wordsOfStoreFault } from "./store.js";
 import * as say from "../../words/session.js";
 
 /**
- * @typedef {import("../../core/bench/bench.js").Bench} Bench
+ * @typedef {import("../../core/bench/bench_client.js").Bench} Bench
  * @typedef {import("../../core/engine/examples.js").Example} Example
  * @typedef {import("./kept_session.js").KeptSession} KeptSession
  * @typedef {import("../ui/notice.js").NoticeAction} NoticeAction

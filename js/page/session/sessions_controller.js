@@ -16,7 +16,7 @@ import * as say from "../../words/session.js";
  * @typedef {import("./kept_session.js").KeptSession} KeptSession
  * @typedef {import("./locks.js").Release} Release
  * @typedef {import("./store.js").SessionRecord} SessionRecord
- * @typedef {{ bench: import("../../core/bench/bench.js").Bench, store: import("./store.js").SessionStore,
+ * @typedef {{ bench: import("../../core/bench/bench_client.js").Bench, store: import("./store.js").SessionStore,
  *   locks: import("./locks.js").Locks, words: import("../../core/bench/words.js").Words,
  *   notice: import("../ui/notice.js").Notice, examples: Example[] }} Parts
  *

@@ -4,7 +4,7 @@ import { pictureOf } from "./gallery_view.js";
 import { block, button, byId, element, field, onClick } from "../ui/dom.js";
 import { folderOfFiles, foldersOf, readFolder } from "./folder_files.js";
 import { KeptList } from "./kept_list.js";
-import { ORDER, TO_DO, exampleWords } from "../../words/examples.js";
+import { ORDER, TO_DO, exampleWords } from "../../words/example_notes.js";
 import * as say from "../../words/session.js";
 
 /**

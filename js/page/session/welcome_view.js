@@ -4,7 +4,7 @@ import { pictureOf } from "./gallery_view.js";
 import { buttonOf, element } from "../ui/dom.js";
 import { icon } from "../ui/icons.js";
 import { TOUR_BOARD } from "../../words/help.js";
-import * as say from "../../words/examples.js";
+import * as say from "../../words/example_notes.js";
 
 /**
  * @typedef {import("../../core/engine/examples.js").Example} Example

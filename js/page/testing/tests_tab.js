@@ -11,8 +11,8 @@ import * as say from "../../words/testing.js";
 
 /**
  * @typedef {import("../../core/testing/prepared.js").TextFault} TextFault
- * @typedef {import("../../core/testing/testing.js").Report} Report
- * @typedef {import("../../core/testing/testing.js").TestedTexts} TestedTexts
+ * @typedef {import("../../core/testing/test_suite.js").Report} Report
+ * @typedef {import("../../core/testing/test_suite.js").TestedTexts} TestedTexts
  * @typedef {import("../../core/testing/test_run.js").Outcome} Outcome
  *
  * What it calls: the texts of board and program; the labels of the program; the faults of texts; tests are run (null where that failed,

@@ -8,7 +8,7 @@ import * as say from "../../words/testing.js";
 
 /**
  * @typedef {import("../../core/testing/profile.js").Profile} Profile
- * @typedef {import("../../core/testing/testing.js").Report} Report
+ * @typedef {import("../../core/testing/test_suite.js").Report} Report
  * @typedef {import("../../core/testing/test_run.js").Failure} Failure
  * @typedef {import("../../core/testing/test_run.js").Outcome} Outcome
  *

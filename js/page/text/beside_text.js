@@ -3,7 +3,7 @@
 
 import { Face, moreThan } from "../../core/board/face.js";
 import { button, onClick } from "../ui/dom.js";
-import { EditorView } from "./editor_view.js";
+import { EditorView } from "./text_editor_view.js";
 import { PARTS } from "../../core/text/folding.js";
 import { LiveFaults } from "./live_faults.js";
 import { COLOURS } from "../../core/text/test_colours.js";

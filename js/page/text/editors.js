@@ -9,7 +9,7 @@ import { boardColours } from "./board_colours.js";
 import { completeBoard } from "../../core/text/board_completion.js";
 import { completeProgram } from "../../core/text/completion.js";
 import { block, button, onClick } from "../ui/dom.js";
-import { EditorView } from "./editor_view.js";
+import { EditorView } from "./text_editor_view.js";
 import { moreThan } from "../../core/board/face.js";
 import { PARTS } from "../../core/text/folding.js";
 import { LiveFaults } from "./live_faults.js";
@@ -20,7 +20,7 @@ import { TOUR_BOARD } from "../../words/help.js";
 import * as say from "../../words/text.js";
 
 /**
- * @typedef {import("../../core/bench/bench.js").Bench} Bench
+ * @typedef {import("../../core/bench/bench_client.js").Bench} Bench
  * @typedef {import("../../core/help/manual.js").ManualSection} ManualSection
  * @typedef {import("../../core/text/program_faults.js").AllFaults} AllFaults
  * @typedef {import("../../core/debug/breakpoints.js").Edit} Edit

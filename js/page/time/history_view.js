@@ -12,7 +12,7 @@ import * as say from "../../words/time.js";
  *
  * What it calls: time passes until a goal is reached; back and forward; the names that a condition may have; the status says something.
  * @typedef {{ goOn: (goal: Goal) => void, goBack: (goal: BackGoal) => void, goForward: () => void,
- *   names: () => import("../../core/conditions/conditions.js").Names, tell: (words: string) => void }} HistoryCalls
+ *   names: () => import("../../core/conditions/condition_language.js").Names, tell: (words: string) => void }} HistoryCalls
  */
 
 const MOST_INSTRUCTIONS = 10000000;

@@ -15,7 +15,7 @@ import * as say from "../../words/time.js";
  * @typedef {import("../../core/bench/protocol.js").Frame} Frame
  * @typedef {import("../../core/bench/protocol.js").Stop} Stop
  * @typedef {import("../../core/debug/goals.js").Goal} Goal
- * @typedef {import("../../core/bench/bench.js").Bench} Bench
+ * @typedef {import("../../core/bench/bench_client.js").Bench} Bench
  * @typedef {import("../session/current_session.js").CurrentSession} CurrentSession
  * @typedef {import("../../core/time/speeds.js").Speed} Speed
  *

@@ -2,7 +2,7 @@
 // is kept.
 
 import { Switch, block, button, buttonOf, element, onClick } from "./dom.js";
-import * as say from "../../words/layout.js";
+import * as say from "../../words/workbench.js";
 
 /**
  * @typedef {import("./choices.js").Choices} Choices

@@ -10,7 +10,7 @@ import { pngOf, svgOf } from "./wave_pictures.js";
 import { find, readSearch } from "../../core/waves/wave_search.js";
 import { WaveView } from "./wave_view.js";
 import { MOST_CYCLES, grouped, readCycles, recordedText } from "../../core/waves/wave_words.js";
-import { Waves } from "../../core/waves/waves.js";
+import { Waves } from "../../core/waves/wave_recording.js";
 import * as say from "../../words/waves.js";
 
 /**

@@ -5,7 +5,7 @@ import { isText } from "../../core/waves/wave_lines.js";
 import { ticksOf } from "../../core/waves/wave_window.js";
 
 /**
- * @typedef {import("../../core/waves/waves.js").Waves} Waves
+ * @typedef {import("../../core/waves/wave_recording.js").Waves} Waves
  * @typedef {import("../../core/waves/wave_window.js").WaveWindow} WaveWindow
  * @typedef {import("../../core/waves/wave_rows.js").WaveRow} WaveRow
  * @typedef {import("../../core/waves/wave_rows.js").RowColour} RowColour

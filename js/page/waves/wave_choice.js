@@ -6,7 +6,7 @@ import * as say from "../../words/waves.js";
 
 /**
  * @typedef {import("../../core/waves/wave_lines.js").WaveLine} WaveLine
- * @typedef {import("../../core/waves/waves.js").Waves} Waves
+ * @typedef {import("../../core/waves/wave_recording.js").Waves} Waves
  *
  * What it calls: all that the board of now has, recorded or not; the lines of the recording that are shown, in their order; other values
  * are wanted than the recording has.

@@ -2,7 +2,7 @@
 
 import { Cell, block, byId, element } from "../ui/dom.js";
 
-/** @typedef {import("../../core/waves/waves.js").Waves} Waves */
+/** @typedef {import("../../core/waves/wave_recording.js").Waves} Waves */
 
 export class WaveValues {
   /** @param {() => void} opened it was opened: its values are wanted */

@@ -19,7 +19,7 @@ import * as say from "../../words/waves.js";
  * @typedef {import("../../core/waves/wave_rows.js").RowColour} RowColour
  * @typedef {import("../../core/waves/wave_rows.js").WaveRow} WaveRow
  * @typedef {import("../../core/waves/wave_words.js").Base} Base
- * @typedef {import("../../core/waves/waves.js").Waves} Waves
+ * @typedef {import("../../core/waves/wave_recording.js").Waves} Waves
  *
  * What it calls: shows an address in the program; a line is not to be shown; how the rows are arranged is kept.
  * @typedef {{ goTo: (address: number) => void, hide: (name: string) => void, keep: (rows: KeptRows) => void }} WaveViewCalls

@@ -1,11 +1,11 @@
 // What an expression is now: a place, a name of the program, a lamp, the display, a sum of values, a condition.
 
 import { hex } from "../bench/numbers.js";
-import { expressionOf } from "../conditions/conditions.js";
+import { expressionOf } from "../conditions/condition_language.js";
 import { placeOf } from "../conditions/places.js";
 import { Standing } from "../debug/standing.js";
 import { textOf, valuesAt } from "../debug/value_words.js";
-import { AdapterError } from "./protocol.js";
+import { AdapterError } from "./dap_protocol.js";
 import * as say from "../../words/adapter.js";
 import { inColumn } from "../../words/conditions.js";
 

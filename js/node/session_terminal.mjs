@@ -1,14 +1,14 @@
 // `mcs4 new` and `mcs4 open` at a terminal: the program serves the lines, and what it answers is on standard output, as it comes. The prompt, and
 // all words beside the answers, are on standard error.
 import { linesOf } from "../core/bench/inputs.js";
-import { SessionPrompt } from "../core/prompt/session_prompt.js";
+import { SessionPrompt } from "../core/prompt/bench_prompt.js";
 import { BEGINNING } from "../words/session_prompt.js";
 import { fileNames, withoutTilde } from "./file_names.mjs";
 import { MOST_SCRIPT, decodedFile } from "./given_texts.mjs";
 import { print } from "./output.mjs";
 import { dataOfPage } from "./page_parts.mjs";
 import { wordsOfRefusal } from "./refused_texts.mjs";
-import { ProgramEnded, SessionProgram } from "./session_program.mjs";
+import { ProgramEnded, SessionProgram } from "./program_on_file.mjs";
 import { TerminalPrompt } from "./terminal_prompt.mjs";
 
 /**

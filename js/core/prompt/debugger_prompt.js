@@ -10,11 +10,11 @@ import { PLACES_TOLD } from "../../words/conditions.js";
 import { Face } from "../board/face.js";
 import { instructionsOf } from "../help/manual.js";
 import { Console } from "../adapter/console.js";
-import { Machine } from "../adapter/machine.js";
+import { Machine } from "../adapter/debugged_machine.js";
 import { Words } from "../bench/words.js";
 import { BreakpointCommands } from "./breakpoint_commands.js";
 import { ChangeCommands } from "./change_commands.js";
-import { COMMANDS, commandOf } from "./command_table.js";
+import { COMMANDS, commandOf } from "./prompt_commands.js";
 import { KeysOfPrompt } from "./keys_of_prompt.js";
 import { INFOS, LookCommands } from "./look_commands.js";
 import { hereLine } from "./looks.js";
@@ -76,7 +76,7 @@ export class Prompt {
     this.isInterrupted = false;
     /** @type {{ commands: string[], isSilent: boolean, words: string, hasMoved: boolean }} what the stop of the last command asks for */
     this.atStop = NO_COMMANDS;
-    /** @type {import("../adapter/machine.js").Ended} the last stop */
+    /** @type {import("../adapter/debugged_machine.js").Ended} the last stop */
     this.ended = { reason: "", words: "", id: 0 };
     this.machine = this.makeMachine();
     this.face = new Face(this.session.boardText);

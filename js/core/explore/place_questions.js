@@ -1,7 +1,7 @@
 // The places of `trace` that properties and notes look at, in questions of at most 16, and where each condition finds its values.
 
 import { refusalOf } from "../bench/answers.js";
-import { MOST_PLACES } from "../conditions/conditions.js";
+import { MOST_PLACES } from "../conditions/condition_language.js";
 import { Answers, readTraced, valuesOf } from "../engine/tracing.js";
 
 /** @typedef {import("./properties.js").Property} Property */
@@ -71,7 +71,7 @@ export class Conditions {
 }
 
 /**
- * @param {{ condition: import("../conditions/conditions.js").Condition | null, indexes: number[] }} asked
+ * @param {{ condition: import("../conditions/condition_language.js").Condition | null, indexes: number[] }} asked
  * @param {string[]} values
  */
 function holdsBy({ condition, indexes }, values) {

@@ -4,7 +4,7 @@
 import { Cancelled } from "../bench/faults.js";
 import { CYCLE_TIME } from "../time/cycles.js";
 import { Shown } from "./shown.js";
-import { fail, wordsOf } from "./protocol.js";
+import { fail, wordsOf } from "./dap_protocol.js";
 import * as say from "../../words/adapter.js";
 import { stoppedAt } from "../../words/stops.js";
 
@@ -14,7 +14,7 @@ import { stoppedAt } from "../../words/stops.js";
  * @typedef {import("../debug/debugger.js").Tally} Tally
  * @typedef {import("../debug/goals.js").Goal} Goal
  * @typedef {import("../engine/going_back.js").BackGoal} BackGoal
- * @typedef {import("./kept_session.js").KeptSession} KeptSession
+ * @typedef {import("./session_writer.js").KeptSession} KeptSession
  *
  * How a move ended: its reason as the protocol has it, the words, and the breakpoint that stopped it, 0 for none.
  * @typedef {{ reason: string, words: string, id: number }} Ended

@@ -1,5 +1,5 @@
 // What `mcs4 test`, `cover` and `profile` share: tests are run, or the next cycles of a session are counted.
-import { runTests } from "../core/testing/testing.js";
+import { runTests } from "../core/testing/test_suite.js";
 import { failureLine } from "../core/testing/tap.js";
 import { excludeEachOther, otherProgram, sessionStopped } from "../words/commands.js";
 import { needCount, needNamed, needWords, projectFor } from "./arguments.mjs";
@@ -15,7 +15,8 @@ import { CommandError, UsageError, print, printError } from "./output.mjs";
  * @typedef {import("./given_texts.mjs").GivenText} GivenText
  *
  * What a command does: with the names of files before they are read, with each result as its test ends, and with the counts at the end.
- * @typedef {{ name: string, Counting: typeof Account, checkNames?: (names: string[]) => void, outcome?: (outcome: Outcome, number: number, total: number) => string,
+ * @typedef {{ name: string, Counting: typeof Account, checkNames?: (names: string[]) => void,
+ *   outcome?: (outcome: Outcome, number: number, total: number) => string,
  *   report?: (counts: { coverage: Coverage | null, profile: Profile | null }, program: GivenText) => void }} Tool
  */
 

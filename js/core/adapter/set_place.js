@@ -1,12 +1,12 @@
 // Gives a place of the machine another value: what `poke` has, TEST, a pair of registers, a key.
 
 import { refusalOf } from "../bench/answers.js";
-import { expressionOf } from "../conditions/conditions.js";
+import { expressionOf } from "../conditions/condition_language.js";
 import { largestOf } from "../conditions/places.js";
 import { Unreadable } from "../conditions/scanner.js";
 import { linesOfSetting, settablePlace, settingOf } from "../conditions/setting.js";
 import { lineOfChange } from "../engine/key_queue.js";
-import { AdapterError } from "./protocol.js";
+import { AdapterError } from "./dap_protocol.js";
 import * as say from "../../words/adapter.js";
 import { keysOf } from "../testing/test_text.js";
 import { cannotBeSet, inColumn } from "../../words/conditions.js";

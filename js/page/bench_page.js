@@ -20,7 +20,7 @@ import { WorkView } from "./ui/work_view.js";
 import * as say from "../words/page.js";
 
 /**
- * @typedef {import("../core/bench/bench.js").Bench} Bench
+ * @typedef {import("../core/bench/bench_client.js").Bench} Bench
  * @typedef {import("../core/engine/examples.js").Example} Example
  * @typedef {import("./session/locks.js").Locks} Locks
  * @typedef {import("../core/help/manual.js").ManualSection} ManualSection
@@ -95,7 +95,7 @@ export class Page {
 
   /**
    * What the bench tells by itself.
-   * @returns {import("../core/bench/bench.js").Listener}
+   * @returns {import("../core/bench/bench_client.js").Listener}
    */
   listener() {
     return {

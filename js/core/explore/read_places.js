@@ -2,11 +2,11 @@
 // does, without a copy of the bench. The values are those of `trace`, to the letter.
 
 import { numberOf } from "../bench/numbers.js";
-import { Places } from "./places.js";
+import { Places } from "./place_questions.js";
 
 /**
  * @typedef {import("../bench/answers.js").Board} Board
- * @typedef {import("./places.js").Told} Told
+ * @typedef {import("./place_questions.js").Told} Told
  *
  * Where a value stands: the line of which question, how many lines behind its first one, from which letter on and how many; where the
  * answer has words of changing length, behind which of its words. `length` 0: up to the end.

@@ -3,7 +3,7 @@
 
 import { refusalOf } from "../bench/answers.js";
 import { linesOf } from "../bench/inputs.js";
-import { AdapterError } from "./protocol.js";
+import { AdapterError } from "./dap_protocol.js";
 import * as say from "../../words/adapter.js";
 
 /**
