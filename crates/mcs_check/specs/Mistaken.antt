@@ -79,15 +79,23 @@ abbrev pub is_wrr : Op → Bool
 is_wrr Wrr = true
 is_wrr _ = false
 
--- whether an instruction makes one of these mistakes
-abbrev pub makes : Mistakes → Op → Tracked → Bool
-makes asked op s =
-    (asked.fourth_call && is_fourth_call op s.2)
-    || (asked.lone_return && is_lone_return op s.2)
-    || (asked.absent_ram && uses_ram op && lacks_ram s.0 s.1)
+-- whether an instruction makes one of these mistakes: with calls, with chips, with lines
+abbrev pub errs_in_calls : Mistakes → Op → Tracked → Bool
+errs_in_calls asked op s =
+    (asked.fourth_call && is_fourth_call op s.2) || (asked.lone_return && is_lone_return op s.2)
+
+abbrev pub errs_in_chips : Mistakes → Op → Tracked → Bool
+errs_in_chips asked op s =
+    (asked.absent_ram && uses_ram op && lacks_ram s.0 s.1)
     || (asked.absent_rom && lacks_word op s.0 s.1.board)
-    || (asked.no_inputs && is_rdr op && not (has_input s.1.board (s.1.rom_src / 16)))
+
+abbrev pub errs_in_lines : Mistakes → Op → Tracked → Bool
+errs_in_lines asked op s =
+    (asked.no_inputs && is_rdr op && not (has_input s.1.board (s.1.rom_src / 16)))
     || (asked.no_outputs && is_wrr op && not (has_output s.1.board (s.1.rom_src / 16)))
+
+abbrev pub makes : Mistakes → Op → Tracked → Bool
+makes asked op s = errs_in_calls asked op s || errs_in_chips asked op s || errs_in_lines asked op s
 
 -- whether the next cycle makes one of these mistakes: it begins an instruction that does, or there is
 -- none to begin, since the code at the counter is outside the instruction table

@@ -1,7 +1,7 @@
 //! Mistakes that no program should make.
 ghost use Rattle.std.specs.Prelude.{◌≡◌};
 ghost use Rattle.mcs_model.specs.Command.{lacks_rom};
-ghost use Rattle.mcs_check.specs.Mistaken.{has_input, has_output, is_fourth_call, is_lone_return, is_mistaken, is_rdr, is_wrr, lacks_ram, lacks_word, last_read, makes, uses_ram};
+ghost use Rattle.mcs_check.specs.Mistaken.{errs_in_calls, errs_in_chips, errs_in_lines, has_input, has_output, is_fourth_call, is_lone_return, is_mistaken, is_rdr, is_wrr, lacks_ram, lacks_word, last_read, makes, uses_ram};
 
 use crate::replica::Replica;
 use mcs_model::board::Board;
@@ -153,19 +153,39 @@ impl Replica {
         !has_chip
     }
 
+    /// Returns whether an instruction makes one of these mistakes with calls.
+    fn errs_in_calls(&self, asked: &Mistakes, op: &Op) -> bool
+        ensures { result ≡ errs_in_calls asked.now op.now self.now }
+    {
+        asked.fourth_call && is_fourth_call(op, self.calls)
+            || asked.lone_return && is_lone_return(op, self.calls)
+    }
+
+    /// Returns whether an instruction makes one of these mistakes with chips.
+    fn errs_in_chips(&self, asked: &Mistakes, op: &Op) -> bool
+        ensures { result ≡ errs_in_chips asked.now op.now self.now }
+    {
+        asked.absent_ram && uses_ram(op) && self.lacks_ram()
+            || asked.absent_rom && lacks_word(op, &self.cpu.regs(), self.rig.board())
+    }
+
+    /// Returns whether an instruction makes one of these mistakes with the lines of a port.
+    fn errs_in_lines(&self, asked: &Mistakes, op: &Op) -> bool
+        ensures { result ≡ errs_in_lines asked.now op.now self.now }
+    {
+        let board = self.rig.board();
+        let chip = self.rig.rom_src() / 16;
+        asked.no_inputs && is_rdr(op) && !has_input(board, chip)
+            || asked.no_outputs && is_wrr(op) && !has_output(board, chip)
+    }
+
     /// Returns whether an instruction makes one of these mistakes.
     fn makes(&self, asked: &Mistakes, op: &Op) -> bool
         ensures { result ≡ makes asked.now op.now self.now }
     {
-        let board = self.rig.board();
-        let chip = self.rig.rom_src() / 16;
-        let regs = self.cpu.regs();
-        asked.fourth_call && is_fourth_call(op, self.calls)
-            || asked.lone_return && is_lone_return(op, self.calls)
-            || asked.absent_ram && uses_ram(op) && self.lacks_ram()
-            || asked.absent_rom && lacks_word(op, &regs, board)
-            || asked.no_inputs && is_rdr(op) && !has_input(board, chip)
-            || asked.no_outputs && is_wrr(op) && !has_output(board, chip)
+        self.errs_in_calls(asked, op)
+            || self.errs_in_chips(asked, op)
+            || self.errs_in_lines(asked, op)
     }
 
     /// Returns whether the next cycle makes one of these mistakes.
