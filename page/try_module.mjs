@@ -1,6 +1,7 @@
 // Tries a module of the bench that page/wasm made: `node try_module.mjs MODULE SHORT`. SHORT is the same module with a stack that is too
 // short for any call. Looked at are what no compiler tells: MODULE has one memory, of 32-bit addresses and at most 256 MiB; where that cannot
-// grow, calls answer `no 90` and leave the file, and they do their work once there is memory again; and the stack of SHORT ends in a trap.
+// grow, calls answer `no 90` and leave the file, and they do their work once there is memory again; the prover answers, and also a question
+// with more states than there is memory for; and the stack of SHORT ends in a trap.
 import { readFileSync } from "node:fs";
 
 const MEMORY_SECTION = 5;
@@ -99,6 +100,38 @@ function tryWithoutMemory(calls) {
   expect("the file has changed then", fileOf(calls, own).equals(before), false);
 }
 
+// A program that counts in some registers, and turns the lamp on while TEST is 0; never are the comparisons of the second RAM line met.
+function question(most, registers, never) {
+  const counts = [...Array(registers).keys()].map((register) => `ISZ R${register}, look\n`).join("");
+  return `most ${most}\nwire\n[[rom]]\nchip = 0\nport = "0000"\n[[ram]]\nbank = 0\nchips = 1\n.\nasm\n`
+    + `look: JCN 1, on\nLDM 0\nWMP\n${counts}JUN look\non: LDM 1\nWMP\n${counts}JUN look\n.\nnever\nin ramport 0 ${never}\nprove\n`;
+}
+
+// The line of the answer; if there is none, the number and the count that the call gives.
+function prove(calls, text, room = 4096n) {
+  const input = Buffer.from(text);
+  const [lines, answers, told] = [BigInt(input.length), room, BigInt(TOLD_SIZE)].map((size) => calls.page_buffer(size));
+  new Uint8Array(calls.memory.buffer, Number(lines)).set(input);
+  const isAnswered = calls.page_prove(lines, BigInt(input.length), answers, room, told);
+  const words = new DataView(calls.memory.buffer, Number(told));
+  const [number, count] = [words.getUint32(0, true), Number(words.getBigUint64(8, true))];
+  const answer = Buffer.from(new Uint8Array(calls.memory.buffer, Number(answers), isAnswered ? count : 0)).toString();
+  for (const block of [lines, answers, told]) calls.page_buffer_back(block);
+  return isAnswered ? `${number} ${answer}` : `nothing: ${number} ${count}`;
+}
+
+function tryProver(calls) {
+  expect("a proof", prove(calls, question(1000, 1, "line1 1 1")), "0 holds 32");
+  expect("a question of too many states", prove(calls, question(10, 1, "line1 1 1")), "0 too many");
+  expect("a way to what is never to be", prove(calls, question(1000, 1, "line0 1 1")), "0 may fail 0");
+  expect("a way that has no room", prove(calls, question(1000, 1, "line0 1 1"), 4n), "nothing: 0 10");
+  expect("no question", prove(calls, "most 3\n"), "2 no question");
+  expect("no board", prove(calls, "wire\nrom = 5\n.\nasm\n.\nprove\n"), "3 no 23");
+  expect("bytes that are no text", prove(calls, Buffer.from([255])), "2 no question");
+  expect("states without memory", prove(calls, question(4000000000, 16, "line1 1 1")), "nothing: 90 0");
+  expect("a proof with memory again", prove(calls, question(1000, 1, "line1 1 1")), "0 holds 32");
+}
+
 function tryShortStack(calls) {
   const own = desk(calls, Buffer.from("seq\n"));
   let stopped = "no trap";
@@ -113,6 +146,7 @@ function tryShortStack(calls) {
 const [path, shortPath] = process.argv.slice(2);
 tryMemory(readFileSync(path));
 tryWithoutMemory(start(path));
+tryProver(start(path));
 tryShortStack(start(shortPath));
 for (const fault of faults) console.error(`try_module: ${fault}`);
 process.exitCode = faults.length === 0 ? 0 : 1;

@@ -82,15 +82,15 @@ fn serve_on(alloc: Global, file: &[u8], input: &[u8], room: usize) -> Result<Ans
     Ok(Answered { session, end, told })
 }
 
-/// Writes what was told to the front of a buffer, and answers how many bytes that are.
-fn tell(answers: &mut [u8], told: &[u8]) -> usize
-    requires room { length told.now ≤ length answers.old }
-    ensures count { result ≡ length told.now }
-    ensures told { take result answers.new ≡ told.now }
-    ensures rest { drop result answers.new ≡ drop result answers.old }
+/// Writes answers to the front of a buffer, and returns how many bytes they have.
+pub fn put_in_front(buffer: &mut [u8], answers: &[u8]) -> usize
+    requires room { length answers.now ≤ length buffer.old }
+    ensures count { result ≡ length answers.now }
+    ensures answers { take result buffer.new ≡ answers.now }
+    ensures rest { drop result buffer.new ≡ drop result buffer.old }
 {
-    let count = told.len();
-    answers[..count].copy_from_slice(told);
+    let count = answers.len();
+    buffer[..count].copy_from_slice(answers);
     count
 }
 
@@ -118,7 +118,7 @@ pub fn serve(
         Err(why) => return Err(why),
     };
     write_back(&session.into_disk(), file);
-    let count = tell(answers, &told);
+    let count = put_in_front(answers, &told);
     Ok(ServedInput { end, count })
 }
 
@@ -143,7 +143,7 @@ pub fn serve_and_settle(
         Err(why) => return Err(why),
     };
     settle_into(session, file);
-    let count = tell(answers, &told);
+    let count = put_in_front(answers, &told);
     Ok(ServedInput { end, count })
 }
 
@@ -168,7 +168,7 @@ pub fn ask(
         Ok(answered) => answered,
         Err(why) => return Err(why),
     };
-    let count = tell(answers, &told);
+    let count = put_in_front(answers, &told);
     Ok(ServedInput { end, count })
 }
 

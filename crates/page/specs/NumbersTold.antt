@@ -1,5 +1,6 @@
 -- What a call of the page tells.
-use Rattle.std.specs.Prelude.{◌≡◌, ℕ, List}
+use Rattle.std.specs.Prelude.{◌≡◌, ◌<◌, ◌≤◌, ℕ, List, length, drop}
+use Rattle.mcs_journal.specs.declared.fault.StoreFault.TheVariants as store_fault
 use Rattle.mcs_page.specs.Page.{AnswersInBuffer, AnswersAndSettles, IsWhyNotServed, WouldAnswer}
 use Rattle.mcs_page.specs.declared.fault.ServeFault.{ServeFault}
 use Rattle.mcs_page.specs.declared.fault.ServeFault.TheVariants.{Refused, NoRoom}
@@ -44,3 +45,22 @@ pub record TellsWhyNot (file input : List ℕ) (number count room : ℕ) : Type 
   pub told : number ≡ number_told why
   pub counted : count ≡ count_told why
   pub is : IsWhyNotServed why file input room
+
+-- why a question to the prover has no line: there was no memory, or the line has that many bytes,
+-- more than there is room for
+abbrev pub IsWhyNoLine : ServeFault → ℕ → Type 0
+IsWhyNoLine (Refused store_fault.NoMemory) room = Unit {0}
+IsWhyNoLine (Refused fault) room = ⊥
+IsWhyNoLine (NoRoom count) room = room < count
+
+-- the number and the count tell why
+pub record TellsWhyNoLine (number count room : ℕ) : Type 0 where
+  pub why : ServeFault
+  pub told : number ≡ number_told why
+  pub counted : count ≡ count_told why
+  pub is : IsWhyNoLine why room
+
+-- a line of that many bytes is at the front of the buffer
+pub record HasLineInFront (count : ℕ) (buffer buffer' : List ℕ) : Type 0 where
+  pub within : count ≤ length buffer
+  pub rest : drop count buffer' ≡ drop count buffer

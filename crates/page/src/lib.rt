@@ -1,17 +1,21 @@
-//! What a page in a browser calls: the bench over the bytes of a session file that the page keeps.
+//! What a page in a browser calls: the bench over the bytes of a session file that the page keeps, and the prover.
 #![tactic(auto)]
 
 ghost use Rattle.std.specs.Prelude.{◌≡◌, length, true, false};
 ghost use Rattle.mcs_journal.specs.declared.format.TheConstants.{FILE_SIZE};
 ghost use Rattle.mcs_page.specs.Page.{IsNewFile, StandsForSameState};
-ghost use Rattle.page.specs.NumbersTold.{TellsAndSettles, TellsAnswers, TellsWhatItWouldAnswer, TellsWhyNot, count_told, number_told};
+ghost use Rattle.page.specs.NumbersTold.{HasLineInFront, TellsAndSettles, TellsAnswers, TellsWhatItWouldAnswer, TellsWhyNoLine};
+ghost use Rattle.page.specs.NumbersTold.{TellsWhyNot, count_told, number_told};
 ghost use Rattle.mcs_shell.specs.Shell.{exit_status_of};
 
+use mcs_journal::StoreFault;
 use mcs_page::fault::ServeFault;
-use mcs_page::page::{ServedInput, ask, begin, serve, serve_and_settle, settle};
+use mcs_page::page::{ServedInput, ask, begin, put_in_front, serve, serve_and_settle, settle};
+use mcs_prove::{Answer, answer_to};
 use mcs_shell::ends::status;
 use mcs_shell::faults::store_number;
 use std::alloc::Global;
+use std::str;
 
 /// What came of a call.
 #[derive(Clone, Copy)]
@@ -147,4 +151,36 @@ pub extern "C" fn page_settle(alloc: Global, file: &mut [u8]) -> bool
     ensures stays { result ≡ false → file.new ≡ file.old }
 {
     settle(alloc, file).is_ok()
+}
+
+/// Answers a question to the prover as the program mcs4_prove does: the line of the answer is at the
+/// front of the buffer, and `told` has the exit status and the number of its bytes. Where it answers
+/// false, the buffer stays: `told` has 90 if there was no memory, or 0 and the number of bytes if
+/// they have no room.
+#[unsafe(no_mangle)]
+pub extern "C" fn page_prove(
+    alloc: Global,
+    question: &[u8],
+    answers: &mut [u8],
+    told: &mut CallResult,
+) -> bool
+    ensures answered { result ≡ true → HasLineInFront told.new.count answers.old answers.new }
+    ensures refused { result ≡ false →
+        TellsWhyNoLine told.new.number told.new.count (length answers.old) }
+    ensures stays { result ≡ false → answers.new ≡ answers.old }
+{
+    // as the program does: bytes that are no text are no question
+    let Ok(Answer { text, status }) = answer_to(alloc, str::from_utf8(question).unwrap_or(""))
+    else {
+        return tell_why(ServeFault::Refused(StoreFault::NoMemory), told);
+    };
+    let line = text.as_bytes();
+    if answers.len() < line.len() {
+        return tell_why(ServeFault::NoRoom(line.len()), told);
+    }
+    *told = CallResult {
+        number: u32::from(status),
+        count: put_in_front(answers, line),
+    };
+    true
 }

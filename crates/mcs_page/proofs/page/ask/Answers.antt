@@ -7,8 +7,8 @@ use Rattle.mcs_page.proofs.page.ask.Goals as goal
 pub returns-clause-served : goal.returns-clause-served
 returns-clause-served c =
     let told = c.deref.ensures.value in
-    let count = c.tell-count.ensures.count ∙ ap (λ (bytes : List ℕ). length bytes) told in
+    let count = c.put_in_front-count.ensures.count ∙ ap (λ (bytes : List ℕ). length bytes) told in
     record {
       after = bytes_of (mem_disk_state c.in-Ok.answered.session.disk);
-      answers = answers_of _ _ _ _ _ _ _ _ _ c.in-Ok.ensures.served c.in-Ok.ensures.room count (c.tell-count.ensures.told ∙ told) c.tell-count.ensures.rest refl;
+      answers = answers_of _ _ _ _ _ _ _ _ _ c.in-Ok.ensures.served c.in-Ok.ensures.room count (c.put_in_front-count.ensures.answers ∙ told) c.put_in_front-count.ensures.rest refl;
     }
