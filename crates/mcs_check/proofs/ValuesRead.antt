@@ -1,5 +1,5 @@
 -- What is read decides: one run for each value shows what all levels do.
-use Rattle.std.proofs.Common.{◌≡◌, ◌<◌, ◌≤◌, ◌+◌, ◌%◌, ℕ, suc, Bool, true, false, not, ◌&&◌, cond, replicate, Option, Some, None, unwrap_or, refl, sym, ap, ◌∙◌, arith, eqb}
+use Rattle.std.proofs.Common.{◌≡◌, ◌<◌, ◌≤◌, ◌%◌, ℕ, suc, Bool, true, false, not, ◌&&◌, cond, replicate, Option, Some, None, unwrap_or, refl, sym, ap, ◌∙◌, arith, eqb}
 use Rattle.mcs_model.specs.declared.regs.Regs.{Regs}
 use Rattle.mcs_model.specs.declared.op.Op.{Op}
 use Rattle.mcs_model.specs.declared.op.Op.TheVariants.{Jcn, Rdr}
