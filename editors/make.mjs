@@ -40,7 +40,7 @@ function programOfTextMate() {
   const own = "mcs4";
   return {
     information_for_contributors: [WARNING],
-    name: "MCS-4 program", scopeName: "source.mcs4", fileTypes: ["asm"],
+    name: "MCS-4 program", scopeName: "source.mcs4", fileTypes: ["4004", "asm"],
     patterns: [
       { name: `comment.line.semicolon.${own}`, match: ";.*$" },
       { match: `^\\s*(${NAME})\\s*(=)`, captures: { 1: { name: `entity.name.constant.${own}` }, 2: { name: `keyword.operator.${own}` } } },
@@ -142,6 +142,7 @@ let b:current_syntax = "mcs4board"
 
 const DETECT_OF_VIM = `" ${WARNING}
 autocmd BufRead,BufNewFile board.toml setlocal syntax=mcs4board
+autocmd BufRead,BufNewFile *.4004 setfiletype mcs4
 `;
 
 // --- Emacs
@@ -191,7 +192,7 @@ ${begin.join("\n")}
       <context name="Operands" attribute="Normal" lineEndContext="#pop">
 ${operands.join("\n")}
       </context>`;
-  return languageOfKate("MCS-4 program", "*.asm", contexts, [["Normal", "dsNormal"], ["Comment", "dsComment"], ["Constant", "dsConstant"],
+  return languageOfKate("MCS-4 program", "*.asm;*.4004", contexts, [["Normal", "dsNormal"], ["Comment", "dsComment"], ["Constant", "dsConstant"],
     ["Label", "dsFunction"], ["Instruction", "dsKeyword"], ["Directive", "dsPreprocessor"], ["Register", "dsBuiltIn"],
     ["Number", "dsDecVal"], ["Name", "dsVariable"]], ";");
 }

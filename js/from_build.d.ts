@@ -5,7 +5,7 @@ declare module "#answer-table" {
 }
 
 /** What Visual Studio Code gives to the script of a view. */
-declare function acquireVsCodeApi(): { postMessage(message: { place: string, isDown: boolean } | { isReady: true }): void };
+declare function acquireVsCodeApi(): { postMessage(message: { place: string, isDown: boolean } | { isReady: true } | { isTorn: true }): void };
 
 declare module "#face-table" {
   const text: string;

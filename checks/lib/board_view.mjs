@@ -17,6 +17,7 @@ const listening = (name) => (act) => {
   return { dispose: () => {} };
 };
 const vscode = {
+  commands: { registerCommand: () => ({ dispose: () => {} }) },
   Uri: { file: (path) => ({ path }) },
   window: { registerWebviewViewProvider: (_, provider) => listening("view")(provider), showErrorMessage: (error) => say({ error }) },
   debug: {

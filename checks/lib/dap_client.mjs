@@ -2,9 +2,9 @@
 import { MessageClient } from "./message_client.mjs";
 
 export class Client extends MessageClient {
-  /** @param {string} command that is mcs4 */
-  constructor(command, folder = ".", words = []) {
-    super(command, folder, ["dap", ...words]);
+  /** @param {string} command that is mcs4, or starts it by some words and an environment of its own */
+  constructor(command, folder = ".", words = [], { before = [], env = process.env } = {}) {
+    super(command, folder, [...before, "dap", ...words], env);
     /** The faults of what it was sent, by the protocol. */
     this.faults = [];
     this.expected = 0;

@@ -106,6 +106,10 @@ local function main()
     local properties = edit("lock.props")
     diagnostics(properties, 0)
 
+    -- A program whose name has the bench's own ending.
+    local own = edit("own.4004")
+    diagnostics(own, 3)
+
     -- Faults, of which one is cured.
     local wrong = edit("wrong.asm")
     diagnostics(wrong, 3)

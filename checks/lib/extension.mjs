@@ -35,15 +35,20 @@ const languages = new Proxy({ setTextDocumentLanguage }, {
     }),
 });
 const text = "start:  JMP start\n        LDM 3\n";
-const uri = { scheme: "file", text: "file:///tmp/a.asm", toString: () => "file:///tmp/a.asm" };
+const uri = { scheme: "file", text: "file:///tmp/a.asm", fsPath: "/tmp/a.asm", toString: () => "file:///tmp/a.asm" };
 const document = { languageId: "mcs4", fileName: "/tmp/a.asm", uri, version: 1, getText: () => text };
 const factories = {};
 const told = [];
 const opened = [];
 const vscode = {
   languages,
+  tasks: { registerTaskProvider: () => disposable },
+  tests: { createTestController: () => ({ createRunProfile: () => {}, items: { get: () => undefined, add: () => {} },
+    createTestItem: () => ({ children: { replace: () => {} } }) }) },
+  TestRunProfileKind: { Run: 1, Debug: 2 },
   workspace: {
     textDocuments: [document],
+    createFileSystemWatcher: () => ({ onDidCreate: () => disposable, onDidChange: () => disposable, onDidDelete: () => disposable }),
     getConfiguration: () => ({ get: () => `${TOP}mcs4` }),
     onDidOpenTextDocument: (act) => {
       opened.push(act);
@@ -155,7 +160,7 @@ verdict((await providers.registerCompletionItemProvider.provideCompletionItems(d
 const { given: [data] } = await providers.registerDocumentSemanticTokensProvider.provideDocumentSemanticTokens(document);
 verdict(data.length % 5 === 0 && data.length > 0, true, "colours by what a word is");
 await tryFeatures();
-verdict(factories.mcs4.createDebugAdapterDescriptor().given, [`${TOP}mcs4`, ["dap"]], "the debug adapter");
+verdict(factories.mcs4.createDebugAdapterDescriptor().given, [`${TOP}mcs4`, ["dap"], { env: {} }], "the debug adapter");
 verdict(factories.provider.resolveDebugConfiguration(undefined, {}).program, "/tmp/a.asm", "F5 debugs the program that is shown");
 // An .asm is claimed beside board.toml and below mcs4.toml alone, once each; a program of another kind is not.
 const folder = mkdtempSync(join(tmpdir(), "extension."));
@@ -163,7 +168,7 @@ for (const name of ["board", "project/deep/er", "other"]) mkdirSync(join(folder,
 for (const name of ["board/board.toml", "project/mcs4.toml"]) writeFileSync(join(folder, name), "");
 const show = (name, languageId = "asm", scheme = "file") => {
   const fileName = join(folder, name);
-  for (const act of opened) act({ languageId, fileName, uri: { scheme, toString: () => `${scheme}://${fileName}` }, version: 1, getText: () => "" });
+  for (const act of opened) act({ languageId, fileName, uri: { scheme, fsPath: fileName, toString: () => `${scheme}://${fileName}` }, version: 1, getText: () => "" });
 };
 for (const name of ["board/a.asm", "project/deep/er/A.ASM", "project/b.asm", "other/x86.asm", "board/a.s", "board/a.asm"]) show(name);
 for (const name of ["board/a.test", "project/a.props", "other/a.test", "other/a.props"]) show(name, "plaintext");
@@ -177,8 +182,8 @@ rmSync(folder, { recursive: true });
 const own = JSON.parse(readFileSync(`${TOP}editors/vscode/package.json`, "utf8"));
 verdict([factories.view, factories.tracker], [own.contributes.views.debug[0].id, "mcs4"], "the view of lamps and keys");
 verdict(own.contributes.languages.map(({ extensions, filenames }) => [extensions, filenames]), [
-  [undefined, undefined], [undefined, ["board.toml"]], [undefined, undefined], [undefined, undefined]],
-  "no text is claimed by its extension");
+  [[".4004"], undefined], [undefined, ["board.toml"]], [undefined, undefined], [undefined, undefined]],
+  "no text but a .4004 is claimed by its extension");
 verdict(own.activationEvents.filter((event) => event.startsWith("workspace")), ["workspaceContains:**/mcs4.toml", "workspaceContains:**/board.toml"],
   "it starts where a project or a board is");
 verdict(own.contributes.configuration.properties["mcs4.command"].scope, "machine", "no workspace names the command");

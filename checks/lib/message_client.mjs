@@ -6,8 +6,8 @@ const PATIENCE = 60000;
 
 export class MessageClient {
   /** @param {string} command that starts the server */
-  constructor(command, folder = ".", words = []) {
-    this.child = spawn(command, words, { stdio: ["pipe", "pipe", "pipe"], cwd: folder });
+  constructor(command, folder = ".", words = [], env = process.env) {
+    this.child = spawn(command, words, { stdio: ["pipe", "pipe", "pipe"], cwd: folder, env });
     this.input = Buffer.alloc(0);
     this.received = [];
     this.told = "";

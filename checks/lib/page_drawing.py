@@ -360,6 +360,92 @@ def check_by_fingers(browser):
     comes(browser, "a button undoes it", SAID, "Undone.")
 
 
+# Where a point of the screen is on the sheet, and the middle of the head of a part there.
+ON_SHEET = """
+const [x, y] = arguments;
+const at = new DOMPoint(x, y).matrixTransform(document.querySelector("#wiring-picture svg").getScreenCTM().inverse());
+return [at.x, at.y]"""
+HEAD_OF = """
+const box = document.querySelector(`#wiring-picture .part[aria-label^='${arguments[0]}'] rect`);
+if (!box) return null;
+const [x, y, width] = ["x", "y", "width"].map((name) => Number(box.getAttribute(name)));
+return [x + width / 2, y + 13]"""
+SHEET = "const { left, top } = document.getElementById('wiring-picture').getBoundingClientRect(); return [Math.round(left), Math.round(top)]"
+
+
+def pull(browser, part, place, kind="mouse", key=""):
+    """A part of the shelf is dragged to a point of the window; a key may be pressed before it is dropped."""
+    begin = [round(each) for each in browser.script(MIDDLE, f"#shelf-{part}")]
+    places = [[round(begin[each] + step * (place[each] - begin[each])) for each in (0, 1)] for step in (0, 0.3, 0.7, 1)]
+    first, *way = [{"type": "pointerMove", "duration": 60, "x": x, "y": y} for x, y in places]
+    pause = {"type": "pause", "duration": 60}
+    keys = [{"type": "key", "id": "while dragged", "actions": [
+        *[pause] * 5, {"type": "keyDown", "value": key}, {"type": "keyUp", "value": key}]}] if key else []
+    browser.actions({"type": "pointer", "id": f"shelf {kind}", "parameters": {"pointerType": kind}, "actions": [
+        first, {"type": "pointerDown", "button": 0}, *way, *[pause] * (4 if key else 0), {"type": "pointerUp", "button": 0}]}, *keys)
+
+
+def is_near(one, other):
+    return one is not None and all(abs(a - b) < 2 for a, b in zip(one, other))
+
+
+def check_pulled(browser, kind):
+    choose_example(browser, "empty bench")
+    show_text(browser, "wiring")
+    comes(browser, "the shelf offers all", DISABLED, [])
+    left, top = browser.script(SHEET)
+    place = [left + 330, top + 20]
+    wanted = browser.script(ON_SHEET, *place)
+    pull(browser, "rom", place, kind)
+    comes(browser, f"a {kind} drags a chip onto the sheet", SAID, "ROM 0 was added.")
+    verdict("where it was dropped", is_near(browser.script(HEAD_OF, "ROM 0"), wanted), True)
+    verdict("once", text_of(browser), '[[rom]]\nchip = 0\nport = "0000"\n')
+    pull(browser, "lamp", [round(each) for each in browser.script(MIDDLE, f"{pin('ROM 0 · 4001, out 3')} circle")], kind)
+    comes(browser, "a lamp that is dropped on a pin is wired to it", LINES, re.compile("lamp 0 is at rom0.3"))
+    browser.click("#drawing-undo")
+    comes(browser, "undone in one step", SAID, "Undone.")
+    verdict("the chip is as before", text_of(browser), '[[rom]]\nchip = 0\nport = "0000"\n')
+    if kind == "mouse":
+        pull(browser, "ram", place, kind, ESCAPE)
+        verdict("Escape drops nothing", "ram" in text_of(browser), False)
+    left, top = (round(each) for each in browser.script(MIDDLE, "#text-tabs"))
+    pull(browser, "ram", [left, top], kind)
+    verdict("nor does one that is dropped elsewhere", "ram" in text_of(browser), False)
+    browser.click("#shelf-ram")
+    comes(browser, "a click adds one, as ever", SAID, "RAM 0.0 was added.")
+
+
+def check_shelf(browser):
+    """Parts come from the shelf to where they are dropped, by mouse and by finger, and by the keyboard to the sheet."""
+    for kind in ("mouse", "touch") if browser.has_fingers else ("mouse",):
+        check_pulled(browser, kind)
+    browser.script("document.getElementById('shelf-chain').focus()")
+    browser.chord(SHIFT, ENTER)
+    comes(browser, "Shift and Enter add a part", SAID, re.compile("^Chain 0 was added"))
+    comes(browser, "and go to it on the sheet", FOCUS, re.compile("^Chain 0"))
+    before = browser.script(HEAD_OF, "Chain 0")
+    browser.chord(SHIFT, DOWN)
+    comes(browser, "where arrows move it", f"return ((...arguments) => {{{HEAD_OF}}})('Chain 0')[1] > {before[1] + 6}", True)
+
+
+def check_scan_at_caret(browser):
+    """With a caret in the source the routine comes behind its line, as one step."""
+    choose_example(browser, "lock")
+    source = browser.script(SOURCE)
+    show_text(browser, "program")
+    browser.script("document.querySelector('#program-editor .cm-editor').lineEditor.setCursor({ line: 1, ch: 0 })")
+    browser.click("#program-editor .cm-line:nth-child(2)")
+    show_text(browser, "wiring")
+    browser.click("#wiring-picture .of-keys text")
+    browser.click(f"#chosen [aria-label='{INSERT}']")
+    comes(browser, "the routine is behind the line of the caret", "return document.querySelector('#program-editor .told').textContent",
+          "A routine that scans the keys is at line 4 of the source.")
+    lines = browser.script(SOURCE).split("\n")
+    verdict("between what was before and after it", lines[:3] + lines[-9:], [*source.split("\n")[:2], "", *source.split("\n")[-9:]])
+    browser.chord(CONTROL, "z")
+    comes(browser, "one step undoes it", SOURCE, source)
+
+
 def check_scan(browser):
     """A key matrix that was just drawn: its routine comes into the source, which assembles and finds the key."""
     choose_example(browser, "empty bench")
@@ -418,4 +504,6 @@ def check(browser, page, _folder, _mcs4):
         check_by_fingers(browser)
     check_faults(browser)
     check_other_boards(browser)
+    check_shelf(browser)
     check_scan(browser)
+    check_scan_at_caret(browser)

@@ -5,7 +5,7 @@ import time
 
 from page_in_browser import (AT_COUNTER, ENTER, ESCAPE, STATUS, STEPPED, choose_example, key, lines_answered, open_anew, show_text,
                              step_with_marks, stop_time, until_ready)
-from page_workbench import check_arrangement, check_by_finger, check_first_glance, check_shifts
+from page_workbench import check_arrangement, check_by_finger, check_first_glance, check_newcomer, check_shifts, check_small_things
 from verdicts import comes, verdict
 from web_driver import Chromium
 
@@ -30,6 +30,8 @@ def check(browser, page, _folder, _mcs4):
     check_letters(browser)
     if isinstance(browser, Chromium):
         check_first_glance(browser, page, at_size)
+        check_small_things(browser, at_size)
+        check_newcomer(browser)
         check_by_finger(browser, at_size)
         check_shifts(browser, page, at_size)
         check_sizes(browser)

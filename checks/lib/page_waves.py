@@ -139,7 +139,8 @@ def check_file(browser, folder, mcs4):
     session.write_bytes(saved(browser, folder, "#save-session-button", "calculator.mcs"))
     board, program = TOP / "examples/calculator/board.toml", TOP / "examples/calculator/calculator.asm"
     verdict("the calculator is recorded", record(browser, 3000), re.compile("^3,000 cycles recorded"))
-    verdict("the lines that change are shown", browser.script(NAMES), re.compile(r"^rom0\.0 rom0\.1 chain0\.0 .*pc label$"))
+    verdict("the lines that change are shown, and the decoders", browser.script(NAMES),
+            re.compile(r"^rom0\.0 rom0\.1 chain0\.0 .*shift\.chain0 .*scan\.keys pc label$"))
     browser.script(CHOOSE, ["acc", "cy", "r5", "p2", "dcl", "src"])
     for name in ("ram 0 0x12", "st 0 1 2"):
         look_for(browser, name)
@@ -152,7 +153,7 @@ def check_file(browser, folder, mcs4):
     names = browser.script(NAMES).split(" ")
     values = {"acc", "cy", "r5", "p2", "dcl", "src", "ram.0.0x12", "st.0.1.2", "rom0[3:0]", "ram0.0[3:0]", "chain1[39:0]"}
     verdict("values can be chosen", values <= set(names), True)
-    verdict("all lines can be chosen", {"rom1.3", "ram0.0.3", "chain1.39", "lamp.minus", "lamp42", "key.CE", "key3.3", "test"} <= set(names), True)
+    verdict("all lines can be chosen", {"rom1.3", "ram0.0.3", "chain1.39", "lamp.minus", "lamp42", "key.CE", "key3.3", "test", "shift.chain1"} <= set(names), True)
     written = saved(browser, folder, "#save-waves", "calculator.vcd")
     verdict("the file has what mcs4 wave writes", written == wave(mcs4, "--board", board, "--names", program, session, "3000", *names), True)
     chosen = ["rom0.0", "chain0.4", "key.CE", "rom0[3:0]", "p2", "pc"]
@@ -175,6 +176,9 @@ def check_before(browser):
     browser.keys(["b", HOME, "n", "n"], 1, 1)
     comes(browser, "and up again", SPOKEN, re.compile("^key.7 is 0, cycle [1-9]"))
     verdict("after 5,000 cycles", browser.script(BETWEEN), "A to B: 5,000 cycles, 54,000.0 microseconds")
+    browser.keys([HOME], 1, 1)
+    browser.script("const f = document.getElementById('wave-search'); f.value = 'key scan = 7'; document.getElementById('find-after').click()")
+    comes(browser, "the key scan has found it", SPOKEN, re.compile(r"^scan\.keys is row 0: 7, cycle [1-9]"))
 
 
 # Puts values into fields of the waves, by their names.

@@ -3,10 +3,13 @@ of it is remembered, and reset."""
 
 import re
 
-from page_in_browser import ESCAPE, STATUS, choose_example, open_anew, show_text, stop_time, until_ready
+from page_in_browser import ENTER, ESCAPE, STATUS, choose_example, open_anew, show_text, stop_time, until_ready
 from verdicts import comes, verdict
 
-HOME, UP, RIGHT, LEFT = "\ue011", "\ue013", "\ue014", "\ue012"
+HOME, UP, RIGHT, LEFT, F1 = "\ue011", "\ue013", "\ue014", "\ue012", "\ue031"
+END, BACKSPACE, CONTROL = "\ue010", "\ue003", "\ue009"
+DRAWN = "return document.getElementById('drawing-told').textContent"
+SOURCE = "return document.querySelector('#program-editor .cm-editor').lineEditor.getValue()"
 SIZE = """
 const { width, height } = document.getElementById(arguments[0]).getBoundingClientRect();
 return Math.round(arguments[1] === "vertical" ? width : height)"""
@@ -171,6 +174,172 @@ def check_first_glance(browser, page, at_size):
         verdict(f"no target is below 24 pixels with {text}", browser.script(SMALL, 24), [])
 
 
+# --- what is easily lost again ---
+
+CHOSEN = """
+const { left, top, right, bottom } = document.getElementById("chosen").getBoundingClientRect();
+const isIn = (box) => box.left >= left && box.right <= right + 1 && box.top >= top && box.bottom <= bottom + 1;
+return [...document.querySelectorAll("#chosen :is(button, input, select)")].filter((each) => !isIn(each.getBoundingClientRect()))
+  .map((each) => each.getAttribute("aria-label"))"""
+DIGITS_IN_GALLERY = """
+return getComputedStyle(document.querySelector(`#examples button[aria-label='new session: ${arguments[0]}'] .digits`)).fill"""
+OFFERS = """
+return ["board-offer", "hello"].filter((id) => isShown(document.getElementById(id)))"""
+NARROW = """
+const { left, right } = document.getElementById("history").getBoundingClientRect();
+return [...document.querySelectorAll("#history button")].map((each) => each.getBoundingClientRect())
+  .filter((box) => box.left < left + 8 || box.right > right - 8).length"""
+TOP_OF = "return Math.round(document.querySelector(arguments[0]).getBoundingClientRect().top)"
+WATCHED = "return [...document.querySelectorAll('#watched-list .values')].filter((each) => each.querySelector('button')).length"
+WIDTH_OF_HELP = "return document.getElementById('help').getBoundingClientRect().width / innerWidth"
+
+
+def check_small_things(browser, at_size):
+    """All that can be set of twenty keys is in view, a display has its colour in the gallery, an empty bench offers one beginning .."""
+    at_size(browser, 1440, 900)
+    choose_example(browser, "calculator")
+    show_text(browser, "wiring")
+    comes(browser, "the picture has the keys", "return document.querySelectorAll('#wiring-picture .of-keys').length", 1)
+    browser.script("document.querySelector('#wiring-picture .of-keys').focus()")
+    browser.keys([ENTER])
+    comes(browser, "keys are chosen", "return document.querySelectorAll('#chosen input').length", 20)
+    verdict("nothing of them is hidden behind the edge of their box", browser.script(CHOSEN), [])
+    show_text(browser, "program")
+    browser.click("#sessions-button")
+    browser.until("return document.getElementById('sessions').open", True)
+    verdict("the display of the calculator is not that of the counter", browser.script(DIGITS_IN_GALLERY, "calculator")
+            == browser.script(DIGITS_IN_GALLERY, "counter"), False)
+    browser.click("#close-sessions")
+    choose_example(browser, "empty bench")
+    verdict("an empty bench offers what it can begin with, and nothing else", browser.script(OFFERS), ["board-offer"])
+    choose_example(browser, "three lamps")
+    browser.click("#program-editor .cm-content")
+    browser.script("document.querySelector('#program-editor .cm-editor').lineEditor.setCursor(arguments[0])", first_word(browser, "SRC"))
+    browser.keys([F1])
+    comes(browser, "F1 looks up the word at the caret", "return document.getElementById('help-search').value", "SRC")
+    verdict("beside most of the page", browser.script(WIDTH_OF_HELP) <= 0.34, True)
+    browser.keys([ESCAPE])
+    check_watch_rows(browser)
+    at_size(browser, 1920, 1080)
+    choose_example(browser, "calculator")
+    found = browser.script(CONTROLS)
+    verdict(f"a large window has at most {MOST_CONTROLS} controls, too", found <= MOST_CONTROLS or found, True)
+    verdict("and no log in front", browser.script(SHOWN, ["log"]), [])
+    at_size(browser, 390, 844, True)
+    browser.click("#region-debug")
+    verdict("on a phone no button touches the edge of its panel", browser.script(NARROW), 0)
+    browser.click("#region-source")
+    verdict("and the source begins in the upper quarter", browser.script(TOP_OF, "#program-editor .cm-scroller") < 844 / 4, True)
+    browser.click("#region-board")
+    browser.command("Emulation.clearDeviceMetricsOverride")
+
+
+def first_word(browser, word):
+    """Where a word of the source is first."""
+    lines = browser.script("return document.querySelector('#program-editor .cm-editor').lineEditor.getValue()").split("\n")
+    line = next(at for at, text in enumerate(lines) if re.search(rf"^[^;]*\b{word}\b", text))
+    return {"line": line, "ch": lines[line].index(word) + 1}
+
+
+def check_watch_rows(browser):
+    """Four values need as much room as four lines of text with a margin."""
+    stop_time(browser)
+    for words in ("count = R5", "R6", "acc", "P2"):
+        browser.type_into("#watched-field", words + ENTER)
+    comes(browser, "four values are watched", WATCHED, 4)
+    verdict("in rows of 24 pixels", browser.script("return Math.round(document.getElementById('watched-list').getBoundingClientRect().height)"), 96)
+    for _ in range(4):
+        browser.click("#watched-list .remove")
+
+
+# --- how many clicks a newcomer needs ---
+
+COUNT_CLICKS = """
+window.clicks = 0;
+if (!window.countsClicks) addEventListener("click", ({ isTrusted, detail }) => { window.clicks += Number(isTrusted && detail > 0); }, true);
+window.countsClicks = true"""
+COUNTED = "return [...new Set(window.counted)].sort().join(' ')"
+# Which lamps are seen to be lit.
+COUNT_LAMPS = """
+window.counted = [];
+const note = () => window.counted.push([...document.querySelectorAll("#front .bulb")].map((bulb) => Number(bulb.classList.contains("lit"))).join(""));
+window.noting = new MutationObserver(note);
+window.noting.observe(document.getElementById("front"), { subtree: true, attributes: true })"""
+
+
+def clicks_of(browser, what, most, path):
+    """A way of a newcomer takes at most so many clicks; what is typed is none."""
+    browser.script(COUNT_CLICKS)
+    path(browser)
+    found = browser.script("return window.clicks")
+    verdict(f"{what} takes {most} clicks at most", 0 < found <= most or found, True)
+
+
+def draw_board(browser):
+    """Four by four keys, four lamps and a shift register, with a program that scans the keys."""
+    browser.click("#first-drawing")
+    browser.click("#shelf-keys")
+    comes(browser, "keys are chosen", "return document.querySelectorAll('#chosen [aria-label=rows]').length", 1)
+    browser.type_into("#chosen [aria-label=rows]", "4")
+    comes(browser, "they have four rows", DRAWN, re.compile("The keys have 4 rows"))
+    for lamp in range(4):
+        browser.click("#shelf-lamp")
+        comes(browser, f"lamp {lamp} comes", DRAWN, re.compile(f"^Lamp {lamp} was added"))
+    browser.click("#drawing-wire")
+    comes(browser, "there are sixteen keys", "return document.querySelectorAll('#keys .key').length", 16)
+    browser.script("document.activeElement.blur()")
+    browser.chord(CONTROL, "k")
+    browser.until("return document.activeElement.getAttribute('role')", "combobox")
+    browser.keys([*"scan", ENTER], 5, 5)
+    comes(browser, "the source has a routine", SOURCE, re.compile("keys_scan"))
+    browser.click("#program-editor .send")
+    comes(browser, "it runs", STATUS, re.compile("^Running"))
+
+
+def mend_bug(browser):
+    choose_example(browser, "a fault to find")
+    comes(browser, "it is paused at the breakpoint", "return document.querySelectorAll('#breakpoint-list li').length", 1)
+    browser.click("#over")
+    comes(browser, "a step is done", STATUS, re.compile("^At 009"))
+    browser.click("#program-editor .cm-line:nth-child(24)")
+    browser.keys([END, BACKSPACE, "5"])
+    browser.click("#breakpoint-list [aria-label^='remove']")
+    browser.script(COUNT_LAMPS)
+    browser.click("#program-editor .send")
+    wanted = [f"{number:04b}" for number in range(10)]
+    comes(browser, "lamps count from 0 to 9", COUNTED, re.compile("^" + " ".join(wanted)), 60)
+    comes(browser, "and begin again", "return window.counted.lastIndexOf('0000') > window.counted.indexOf('1001')", True, 60)
+    verdict("and no further", browser.script(COUNTED), " ".join(wanted))
+    browser.script("window.noting.disconnect()")
+
+
+def run_test(browser):
+    browser.click("#tests-tab")
+    browser.click("#first-test")
+    browser.click("#tests-editor .send")
+    comes(browser, "the test was run", "return document.querySelectorAll('#test-list li').length", 1)
+
+
+def search_property(browser):
+    browser.click("#properties-tab")
+    if browser.script("return isShown(document.getElementById('first-properties'))"):
+        browser.click("#first-properties")
+    browser.script("document.getElementById('explore-seconds').value = '2'")
+    browser.click("#explore")
+    comes(browser, "it is searched", "return isShown(document.getElementById('explore-results'))", True, 60)
+
+
+def check_newcomer(browser):
+    """The first lamp has its own check, where the cards are looked at (page_commands)."""
+    choose_example(browser, "empty bench")
+    clicks_of(browser, "a board of one's own", 12, draw_board)
+    clicks_of(browser, "a bug", 6, mend_bug)
+    clicks_of(browser, "a test", 3, run_test)
+    clicks_of(browser, "a property", 3, search_property)
+    browser.until("return document.getElementById('work').hidden", True, 60)
+    show_text(browser, "program")
+
+
 # What moved though nobody had touched anything, if browsers measure more than 0.005 of it: 0 is nothing, 0.1 is much.
 SHIFTS = """
 return new Promise((done) => {
@@ -205,5 +374,9 @@ def check_by_finger(browser, at_size):
     for width, height in ((390, 844), (820, 1180)):
         at_size(browser, width, height, True)
         verdict(f"at {width} a finger meets nothing below 44 pixels", browser.script(SMALL, 44), [])
+        browser.script("document.getElementById('region-source').click(); document.getElementById('wiring-tab').click()")
+        comes(browser, f"at {width} the shelf is seen", "return isShown(document.getElementById('shelf'))", True)
+        verdict(f"at {width} nothing of Wiring is below 44 pixels", browser.script(SMALL, 44), [])
+        browser.script("document.getElementById('program-tab').click(); document.getElementById('region-board').click()")
     browser.command("Emulation.setTouchEmulationEnabled", enabled=False)
     browser.command("Emulation.clearDeviceMetricsOverride")

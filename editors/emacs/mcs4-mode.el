@@ -48,7 +48,7 @@
   (setq-local comment-start "# " comment-start-skip "#+[ \t]*" font-lock-defaults '(mcs4-board-words)))
 
 ;;;###autoload
-(add-to-list 'auto-mode-alist '("\\.asm\\'" . mcs4-mode))
+(add-to-list 'auto-mode-alist '("\\.\\(asm\\|4004\\)\\'" . mcs4-mode))
 ;;;###autoload
 (add-to-list 'auto-mode-alist '("/board\\.toml\\'" . mcs4-board-mode))
 

@@ -1,20 +1,21 @@
-// The extension: it starts the language server and the debug adapter of the bench.
+// The extension: it starts the language server and the debug adapter of the bench, and has tests, tasks and the front panel.
 "use strict";
 const vscode = require("vscode");
+const { BenchCommand } = require("./bench_command.js");
 const { BoardView } = require("./board_view.js");
 const { LanguageClient } = require("./language_client.js");
 const { ProgramLanguage } = require("./program_language.js");
+const { Tasks } = require("./tasks.js");
+const { TestExplorer } = require("./test_explorer.js");
 
 const LANGUAGES = ["mcs4", "mcs4-board", "mcs4-test", "mcs4-props"];
-
-const command = () => vscode.workspace.getConfiguration("mcs4").get("command") || "mcs4";
 
 /** F5 without a configuration debugs the program that is shown. */
 function resolved(folder, configuration) {
   if (configuration.type) return configuration;
   const editor = vscode.window.activeTextEditor;
   if (!editor || editor.document.languageId !== "mcs4") return configuration;
-  return { type: "mcs4", request: "launch", name: "This program on its board", program: editor.document.fileName };
+  return { type: "mcs4", request: "launch", name: "This program on its board", program: editor.document.uri.fsPath };
 }
 
 async function pressKey() {
@@ -35,15 +36,16 @@ async function pressKey() {
 let client = null;
 
 exports.activate = (context) => {
-  client = new LanguageClient(vscode, command(), LANGUAGES);
+  const bench = new BenchCommand(vscode, __dirname);
+  client = new LanguageClient(vscode, bench, LANGUAGES);
   context.subscriptions.push(
     client,
     new ProgramLanguage(vscode).register(),
-    vscode.debug.registerDebugAdapterDescriptorFactory("mcs4", {
-      createDebugAdapterDescriptor: () => new vscode.DebugAdapterExecutable(command(), ["dap"]),
-    }),
+    vscode.debug.registerDebugAdapterDescriptorFactory("mcs4", { createDebugAdapterDescriptor: () => bench.debugAdapter(["dap"]) }),
     vscode.debug.registerDebugConfigurationProvider("mcs4", { resolveDebugConfiguration: resolved }),
     vscode.commands.registerCommand("mcs4.pressKey", pressKey),
+    new Tasks(vscode, bench).register(),
+    ...new TestExplorer(vscode, bench).register(),
     ...new BoardView(vscode, __dirname).register(),
   );
   return client.begin();

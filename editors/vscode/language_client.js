@@ -1,6 +1,5 @@
 // A client of `mcs4 lsp` for Visual Studio Code, without a package: what the editor asks is asked of the server.
 "use strict";
-const { spawn } = require("node:child_process");
 const { LanguageFeatures } = require("./language_features.js");
 
 /** What the editor can, as far as an answer hangs on it. */
@@ -14,12 +13,12 @@ const NAMES = { "mcs4": "asm", "mcs4-board": "toml" };
 class LanguageClient {
   /**
    * @param vscode the editor's own module
-   * @param {string} command
+   * @param {import("./bench_command.js").BenchCommand} bench starts the server
    * @param {string[]} languages
    */
-  constructor(vscode, command, languages) {
+  constructor(vscode, bench, languages) {
     this.vscode = vscode;
-    this.command = command;
+    this.bench = bench;
     this.languages = languages;
     this.input = Buffer.alloc(0);
     this.waiting = new Map();
@@ -34,11 +33,7 @@ class LanguageClient {
     const { vscode } = this;
     this.diagnostics = vscode.languages.createDiagnosticCollection("mcs4");
     this.disposables.push(this.diagnostics);
-    this.child = spawn(this.command, ["lsp"], { stdio: ["pipe", "pipe", "ignore"] });
-    this.child.on("error", () => this.lost(`The command ${this.command} was not started; the setting mcs4.command names it.`));
-    this.child.on("close", () => this.lost(""));
-    this.child.stdin.on("error", () => {});
-    this.child.stdout.on("data", (bytes) => this.take(bytes));
+    await this.start();
     const workspaceFolders = (vscode.workspace.workspaceFolders || []).map(({ uri, name }) => ({ uri: uri.toString(), name }));
     const about = { processId: process.pid, rootUri: null, workspaceFolders, capabilities: CAPABILITIES };
     const { capabilities } = await this.ask("initialize", about);
@@ -47,8 +42,34 @@ class LanguageClient {
     this.provide(capabilities);
   }
 
-  lost(words) {
-    if (words) this.vscode.window.showErrorMessage(words);
+  /** Starts the server; if the command that the setting names is not started, the extension's own. */
+  async start() {
+    const { bench } = this;
+    const { named } = bench;
+    if (await this.isStarted()) return;
+    if (named === "") throw new Error("The language server was not started.");
+    bench.isGivenUp = true;
+    const words = `The command ${named} was not started; the setting mcs4.command names it. The extension's own commands take its place.`;
+    this.vscode.window.showErrorMessage(words);
+    if (!(await this.isStarted())) throw new Error("The language server was not started.");
+  }
+
+  /** Starts the server once; returns whether there is such a program. */
+  async isStarted() {
+    const child = this.bench.start(["lsp"], "ignore");
+    const isThere = await new Promise((settle) => {
+      child.on("spawn", () => settle(true));
+      child.on("error", () => settle(false));
+    });
+    if (!isThere) return false;
+    this.child = child;
+    child.on("close", () => this.lost());
+    child.stdin.on("error", () => {});
+    child.stdout.on("data", (bytes) => this.take(bytes));
+    return true;
+  }
+
+  lost() {
     for (const { reject } of this.waiting.values()) reject(new Error("the language server has ended"));
     this.waiting.clear();
     this.child = null;

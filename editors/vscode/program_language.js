@@ -1,26 +1,11 @@
 // Which texts are programs, tests and properties of the bench: others have .asm, .test and .props, too, so they are claimed only beside a
-// project or a board.
+// project or a board. A program may have .4004, which nobody else has: package.json claims it.
 "use strict";
-const { existsSync } = require("node:fs");
-const { dirname, extname, join } = require("node:path");
+const { extname } = require("node:path");
+const { belongsToBench } = require("./bench_files.js");
 
 /** The languages of files by their extensions. */
 const LANGUAGES = { ".asm": "mcs4", ".test": "mcs4-test", ".props": "mcs4-props" };
-
-/**
- * Whether board.toml is beside a file, or mcs4.toml is there or in a folder above.
- * @param {string} file
- */
-function belongsToBench(file) {
-  let folder = dirname(file);
-  if (existsSync(join(folder, "board.toml"))) return true;
-  while (!existsSync(join(folder, "mcs4.toml"))) {
-    const above = dirname(folder);
-    if (above === folder) return false;
-    folder = above;
-  }
-  return true;
-}
 
 /** Gives texts of the bench their language, once each: a user who chooses another one keeps it. */
 class ProgramLanguage {

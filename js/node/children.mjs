@@ -3,6 +3,10 @@ import { spawn } from "node:child_process";
 
 /** The most bytes that a command may print. */
 const MOST_OUTPUT = 1048576;
+/** Names an environment variable of commands that are run here: what is said once is not said to them. */
+export const IS_RUN_BY_COMMAND = "MCS4_IS_RUN_BY_COMMAND";
+/** Windows has no process groups. */
+const HAS_GROUPS = process.platform !== "win32";
 /** A command that ignores the signal is killed after this time, in milliseconds; this tool itself, which ends what it has started, later. */
 const PATIENCE = { command: 1000, tool: 10000 };
 
@@ -21,7 +25,7 @@ const never = () => new Promise(() => {});
 function send(pid, signal) {
   const { hasGroup = false } = running.get(pid) || {};
   try {
-    process.kill(hasGroup ? -pid : pid, signal);
+    process.kill(hasGroup && HAS_GROUPS ? -pid : pid, signal);
   } catch {
     // It has ended.
   }
@@ -52,7 +56,8 @@ function follow(child, hasGroup) {
  * @param {string} [input]
  */
 export async function runCommand(command, words, input = "") {
-  const child = spawn(command, words, { detached: true, stdio: ["pipe", "pipe", "pipe"] });
+  const env = { ...process.env, [IS_RUN_BY_COMMAND]: "1" };
+  const child = spawn(command, words, { detached: HAS_GROUPS, env, stdio: ["pipe", "pipe", "pipe"] });
   const ended = follow(child, true);
   const printed = [child.stdout, child.stderr].map((stream) => {
     const taken = { text: "" };

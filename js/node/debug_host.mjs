@@ -1,6 +1,6 @@
 // What a debugger that runs by node needs of its host: files, and session files that the program itself writes (`mcs4 open`).
 import { closeSync, existsSync, fsyncSync, openSync, realpathSync } from "node:fs";
-import { dirname, isAbsolute, join, resolve } from "node:path";
+import { dirname, isAbsolute, join, resolve, sep } from "node:path";
 import { openProgram } from "./program_on_file.mjs";
 import { isInside, readUserFile, readUserText, replacementOf } from "./user_files.mjs";
 
@@ -42,6 +42,9 @@ class SessionFile {
   }
 }
 
+/** @type {(name: string) => string} Windows takes names with slashes, too, and all parts of the debugger have them */
+const withSlashes = (name) => (sep === "/" ? name : name.split(sep).join("/"));
+
 function syncFolder(name) {
   const folder = openSync(name, "r");
   fsyncSync(folder);
@@ -52,9 +55,9 @@ function syncFolder(name) {
 export const host = {
   nameOf: (name, folder) => {
     const whole = isAbsolute(name) ? name : resolve(folder || ".", name);
-    return existsSync(whole) ? realpathSync(whole) : whole;
+    return withSlashes(existsSync(whole) ? realpathSync(whole) : whole);
   },
-  beside: (name, other) => join(dirname(other), name),
+  beside: (name, other) => withSlashes(join(dirname(other), name)),
   read: (name) => {
     try {
       return readUserText(name);

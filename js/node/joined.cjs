@@ -7,6 +7,7 @@ const { dirname, join } = require("node:path");
 
 const TOP = join(__dirname, "../..");
 const FOLDER = join(TOP, "shipped/commands");
+const IS_WINDOWS = process.platform === "win32";
 const OWNER_ALONE = 0o700;
 const OTHERS = 0o077;
 /** What has changed in so many milliseconds is not remembered: a clock that ticks by seconds might not show its next change. */
@@ -28,19 +29,20 @@ function sumOfFiles(names) {
  */
 function isOwn(name) {
   const stat = lstatSync(name, { throwIfNoEntry: false });
-  return stat !== undefined && stat.isDirectory() && stat.uid === process.getuid();
+  // Windows has no numbers of users; a home is the user's own there.
+  return stat !== undefined && stat.isDirectory() && (!process.getuid || stat.uid === process.getuid());
 }
 
 /** Returns the folder of what is remembered, which nobody else can read or write; "" if there is none. */
 function rememberedFolder() {
-  const { XDG_CACHE_HOME = "", HOME = "" } = process.env;
-  const cache = XDG_CACHE_HOME.startsWith("/") ? XDG_CACHE_HOME : /^\/./.test(HOME) ? join(HOME, ".cache") : "";
+  const { XDG_CACHE_HOME = "", HOME = "", LOCALAPPDATA = "" } = process.env;
+  const cache = IS_WINDOWS ? LOCALAPPDATA : XDG_CACHE_HOME.startsWith("/") ? XDG_CACHE_HOME : /^\/./.test(HOME) ? join(HOME, ".cache") : "";
   if (cache === "") return "";
   const folder = join(cache, "fethsaim");
   if (!existsSync(folder) && (isOwn(cache) || (!existsSync(cache) && isOwn(dirname(cache))))) {
     mkdirSync(folder, { recursive: true, mode: OWNER_ALONE });
   }
-  return isOwn(folder) && (statSync(folder).mode & OTHERS) === 0 ? folder : "";
+  return isOwn(folder) && (IS_WINDOWS || (statSync(folder).mode & OTHERS) === 0) ? folder : "";
 }
 
 /**
@@ -77,7 +79,7 @@ function remember(place, text) {
 function areThose(name, files, sum) {
   const folder = rememberedFolder();
   if (folder === "") return sumOfFiles(files) === sum;
-  const place = join(folder, `${TOP.replace(/\//g, "%")}.${name}.joined`);
+  const place = join(folder, `${TOP.replace(/[/\\:]/g, "%")}.${name}.joined`);
   const { look, isYoung } = lookOf(files);
   const seen = `${sum}\n${look}`;
   if (existsSync(place) && readFileSync(place, "utf8") === seen) return true;
@@ -102,4 +104,4 @@ function joinedFile(name) {
   }
 }
 
-module.exports = { sumOfFiles, joinedFile };
+module.exports = { sumOfFiles, joinedFile, rememberedFolder };

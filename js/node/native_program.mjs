@@ -1,51 +1,93 @@
-// The native program for commands: which one it is, and the engine on it.
+// Which program runs the sessions of commands, and the engine on it: the native program, or the proved module where no program is for the system.
 import { spawnSync } from "node:child_process";
 import { existsSync } from "node:fs";
+import { type } from "node:os";
+import { join } from "node:path";
 import { BenchRefusal } from "../core/bench/faults.js";
 import { readSource, sessionProgram } from "../core/engine/session_program.js";
 import { MOST_GIVEN } from "./given_texts.mjs";
 import { NativeEngine } from "./native_engine.mjs";
 import { CommandError } from "./output.mjs";
 import { TOP } from "./top.mjs";
-import { inUse, noNamedProver, noProver, otherProgram, sessionRefused } from "../words/commands.js";
+import {
+  NO_PROGRAM_IN_COPY, inUse, needsProgram, noNamedProver, noProver, noProverHere, notForSystem, otherProgram, runsOnModule, sessionRefused,
+} from "../words/commands.js";
+
+/**
+ * @typedef {import("../core/engine/engine_host.js").EngineHost} EngineHost
+ *
+ * A program: its path, "" for none, and why there is none; whether none can be built for this system.
+ * @typedef {{ program: string, fault: string, isForOthers: boolean }} Found
+ */
 
 const SIGNALS = /** @type {const} */ ({ SIGHUP: 129, SIGINT: 130, SIGTERM: 143 });
-const FIND_PROGRAM = 'top=$0; . "$top/tools/lib/start.sh"; need_program >&2; printf %s "$program"';
+const STARTER = 'top=$0; . "$top/tools/lib/start.sh"; ';
+const FIND_PROGRAM = `${STARTER}find_or_build >&2; printf "%s\\n%s" "$program" "$fault"`;
+const FIND_PROVER = `${STARTER}find_prover; printf "%s\\n%s\\n" "$program" "$fault"; if is_without_program; then echo 1; fi`;
 
-/** The program, once it was found. */
-let found = "";
+const hasStarter = existsSync(join(TOP, "tools/lib/start.sh"));
 
-/** Returns the program: MCS4 names it, or the one that ./mcs4 starts, which is built first if it has to be. */
-export function programPath() {
-  if (process.env.MCS4) return process.env.MCS4;
-  if (found !== "") return found;
-  const { status, stdout } = spawnSync("/bin/sh", ["-c", FIND_PROGRAM, TOP], { encoding: "utf8", stdio: ["ignore", "pipe", "inherit"] });
+/**
+ * Runs a script of the starter, which prints a program and why there is none; null where the starter or the shell is missing.
+ * @param {string} script
+ * @returns {Found | null}
+ */
+function ask(script) {
+  if (!hasStarter) return null;
+  const { status, stdout, error } = spawnSync("/bin/sh", ["-c", script, TOP], { encoding: "utf8", stdio: ["ignore", "pipe", "inherit"] });
+  if (error) return null;
   if (status !== 0) process.exit(status || 1);
-  found = stdout;
+  const [program, fault, isForOthers = "1"] = stdout.split("\n");
+  return { program, fault, isForOthers: program === "" && isForOthers === "1" };
+}
+
+/** @returns {Found} what is found where no starter runs: in an editor's extension there is none, and Windows has no shell for it */
+const noneHere = () => ({ program: "", fault: hasStarter ? notForSystem(type(), process.arch) : NO_PROGRAM_IN_COPY, isForOthers: true });
+
+/** @type {Found | null} the program, once it was looked for */
+let found = null;
+
+/** Finds the program: MCS4 names it, or it is the one that ./mcs4 starts, which is built first if it has to be. */
+function findProgram() {
+  if (process.env.MCS4) return { program: process.env.MCS4, fault: "", isForOthers: false };
+  found ||= ask(FIND_PROGRAM) || noneHere();
   return found;
 }
 
-const FIND_PROVER = 'top=$0; . "$top/tools/lib/start.sh"; find_prover; printf "%s\\n%s" "$program" "$fault"';
+/** Returns the program; where none is for this system, that is an error. */
+export function programPath() {
+  const { program, fault } = findProgram();
+  if (program === "") throw new CommandError(needsProgram(fault));
+  return program;
+}
+
 
 /** Returns the program that searches for `mcs4 prove`: MCS4_PROVE names it, or it was built here, or it is the shipped one. */
 export function proverPath() {
   const { MCS4_PROVE: named } = process.env;
   if (named && !existsSync(named)) throw new CommandError(noNamedProver(named));
   if (named) return named;
-  const { stdout } = spawnSync("/bin/sh", ["-c", FIND_PROVER, TOP], { encoding: "utf8", stdio: ["ignore", "pipe", "inherit"] });
-  const [program, fault] = stdout.split("\n");
-  if (program === "") throw new CommandError(noProver(fault));
+  const { program, fault, isForOthers } = ask(FIND_PROVER) || noneHere();
+  if (program === "") throw new CommandError(isForOthers ? noProverHere(fault) : noProver(fault));
   return program;
 }
 
 /** @type {NativeEngine | null} */
 let started = null;
 
-/** Starts the engine; its processes and files are gone when this process ends. */
-export function startEngine() {
-  const program = programPath();
+/**
+ * Starts the engine: the native program, or the proved module where no program is for this system, which is said once to each user. (The
+ * module is loaded only then.) Its processes and files are gone when this process ends.
+ * @returns {Promise<EngineHost>}
+ */
+export async function startEngine() {
+  const { program, fault } = findProgram();
   // Before there is a folder: a signal that comes while it is made must not leave it.
   endOnSignals();
+  if (program === "") {
+    const { startModule } = await import("./module_engine.mjs");
+    return startModule(hasStarter ? runsOnModule(fault) : "");
+  }
   const engine = new NativeEngine(program);
   started = engine;
   process.on("exit", endEngine);
@@ -79,7 +121,7 @@ export function lackOfRoom() {
 
 /**
  * Opens a session, of which a copy is used; a rejected one is named.
- * @param {NativeEngine} engine
+ * @param {EngineHost} engine
  * @param {import("./given_texts.mjs").GivenTexts} texts
  * @param {string} session its file
  */
@@ -99,7 +141,7 @@ export async function openSession(engine, texts, session) {
 
 /**
  * Returns the error of texts that are rejected. (What finds its words is loaded only then.)
- * @param {NativeEngine} engine
+ * @param {EngineHost} engine
  * @param {ConstructorParameters<typeof import("./refused_texts.mjs").RefusedTexts>[1]} given
  * @param {import("../core/testing/prepared.js").TextFault[]} faults
  */
@@ -110,7 +152,7 @@ export async function errorOfTexts(engine, given, faults) {
 
 /**
  * Returns the map of a program that has to be the one in ROM.
- * @param {NativeEngine} engine
+ * @param {EngineHost} engine
  * @param {Uint8Array} codes the bytes in ROM
  * @param {import("./given_texts.mjs").GivenText} program
  */
@@ -131,7 +173,7 @@ export async function breathe() {
 
 /**
  * Reads a program alone, on a board with all ROMs; returns its map, and the byte at each address.
- * @param {NativeEngine} engine
+ * @param {EngineHost} engine
  * @param {import("./given_texts.mjs").GivenText} program
  */
 export async function mappedProgram(engine, program) {
@@ -143,7 +185,7 @@ export async function mappedProgram(engine, program) {
 /**
  * Reads a program that has to be the one in the ROM of a session; returns what names addresses by it.
  * @param {import("./given_texts.mjs").GivenTexts} texts
- * @param {NativeEngine} engine
+ * @param {EngineHost} engine
  * @param {string} programName
  * @param {string} session its file
  * @returns {Promise<(address: number) => string>}

@@ -33,12 +33,12 @@ class Proving {
     this.program = proverPath();
     // Before the engine's own end on this signal: the search has a group of its own, which Ctrl-C does not reach.
     process.on("SIGINT", interrupt);
-    this.engine = startEngine();
   }
 
   /** Reads the texts: what is searched, and the properties. */
   async begin() {
-    const { engine, texts: { board, program, properties } } = this;
+    const engine = await startEngine();
+    const { board, program, properties } = this.texts;
     const { prepared, faults: wrong } = prepare(engine, { boardText: board.text, programText: program.text });
     if (!prepared) throw await errorOfTexts(engine, { board, program }, wrong);
     this.subject = subjectOf(engine, board.text, program.text, program.before);

@@ -17,9 +17,15 @@ import { isDumb, painter } from "./terminal.mjs";
  * words of that.
  * @typedef {{ label: string, isEnded: boolean, take: (line: string) => Promise<boolean>,
  *   complete: (line: string) => Promise<[string[], string]>, interrupt: () => boolean, drop: () => string }} PromptOfLines
- *
- * Where prompt and words go to; what is called after each line, and when the terminal belongs to others for a while (Ctrl-Z) and again to us.
- * @typedef {{ output: import("node:tty").WriteStream, served?: () => void, left?: () => void, entered?: () => void }} TerminalCalls
+ */
+
+/**
+ * What a prompt at a terminal writes to and calls.
+ * @typedef {object} TerminalCalls
+ * @property {import("node:tty").WriteStream} output The terminal, which gets the prompt and messages.
+ * @property {() => void} [served] A line was served.
+ * @property {() => void} [left] The terminal belongs to other programs for a while (Ctrl-Z).
+ * @property {() => void} [entered] The terminal belongs to the prompt again.
  */
 
 /** What a terminal puts round a paste, and how it is asked to. */

@@ -48,7 +48,7 @@ export async function testBy({ Counting, checkNames = () => {}, outcome: tapOf =
   const board = texts.text(boardName, "wire");
   const program = texts.text(programName, "asm");
   const sources = names.map((each) => texts.source(each));
-  const engine = startEngine();
+  const engine = await startEngine();
   const ended = (outcome, number, total) => {
     printError(failureLine(outcome));
     print(tapOf(outcome, number, total));
@@ -73,7 +73,7 @@ export async function countBy({ name, Counting, checkNames = () => {}, report = 
   const { countSession } = await import("../core/testing/session_count.js");
   const texts = new GivenTexts();
   const program = texts.text(programName, "asm");
-  const engine = startEngine();
+  const engine = await startEngine();
   const state = await openSession(engine, texts, session);
   const { faults, other, counted } = await countSession(engine, state, program.text, cycles, Counting);
   if (faults.length > 0) throw await errorOfTexts(engine, { program }, faults);

@@ -14,7 +14,7 @@ import { LookView } from "./look_view.js";
 import { isDialogOpen } from "./ui/dom.js";
 import { Scope } from "./waves/scope.js";
 import { catalogOf } from "../core/waves/wave_catalog.js";
-import { lineOfChange } from "../core/engine/key_queue.js";
+import { lineOfKey } from "../core/board/key_place.js";
 import * as say from "../words/page.js";
 
 /** @typedef {import("./bench_page.js").Page} Page */
@@ -66,7 +66,7 @@ export function pressingOf(page) {
     release: (key) => running.queue("release", key),
     change: (word, key) => {
       running.queue("forget", key);
-      page.serving.act(`${lineOfChange({ word, key })}\n`);
+      page.serving.act(`${lineOfKey(word, key)}\n`);
     },
     meant: (event) => {
       if (event.ctrlKey || event.metaKey || event.altKey || !page.types || isDialogOpen()) return undefined;

@@ -1,5 +1,6 @@
 // What commands call of the page's parts; the palette, which lists them; and the keys.
 
+import { textOfKey } from "../core/board/key_place.js";
 import { COMMANDS, oneOf } from "./commands/command_table.js";
 import { fillEmptyPanels } from "./commands/empty_panels.js";
 import { listenToKeys } from "./commands/keys.js";
@@ -247,7 +248,7 @@ export class Commands {
     return [
       ...this.examples.map((example) => oneOf(`example.${example.name}`, say.openExample(example.name), "example",
         () => void sessionsController.begin(example), "examples")),
-      ...lookView.front.keys.map((key) => oneOf(`key.${key.key}`, say.pressKey(key.legend || key.key), "key", () => {
+      ...lookView.front.keys.map((key) => oneOf(`key.${textOfKey(key.key)}`, say.pressKey(key.legend || textOfKey(key.key)), "key", () => {
         pressing.down(key, false);
         pressing.up(key.key);
       })),

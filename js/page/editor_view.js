@@ -5,18 +5,23 @@
 import { readBoard } from "../core/bench/answers.js";
 import { keyOfKeyboard } from "../core/board/board_keys.js";
 import { Face } from "../core/board/face.js";
+import { pinKey, textOfKey } from "../core/board/key_place.js";
 import { FrontView } from "./board/front_view.js";
 import { Pressing, wantsKey } from "./board/pressing.js";
+import { StripView } from "./board/strip_view.js";
 import { block, button, field } from "./ui/dom.js";
 
-/** @typedef {import("../core/adapter/shown_board.js").ShownNews} ShownNews */
+/**
+ * @typedef {import("../core/adapter/shown_board.js").ShownNews} ShownNews
+ * @typedef {import("../core/board/key_place.js").Key} Key
+ */
 
 /** What Visual Studio Code gives to a view. */
 const editor = globalThis.acquireVsCodeApi();
 let isRunning = false;
 
-/** @type {(key: string, isDown: boolean) => void} */
-const tell = (key, isDown) => editor.postMessage({ place: key, isDown });
+/** @type {(key: Key, isDown: boolean) => void} */
+const tell = (key, isDown) => editor.postMessage({ place: textOfKey(key), isDown });
 
 /** @type {Pressing} */
 const pressing = new Pressing({
@@ -32,8 +37,10 @@ const pressing = new Pressing({
 });
 /** While time runs, lamps are shown as an eye sees them; else as they are at that instant. */
 const front = new FrontView((node, key) => pressing.listen(node, key), () => {});
+/** The adapter keeps what is printed from the moment that the board is drawn. */
+const strip = new StripView({ printOn: () => {}, tear: () => editor.postMessage({ isTorn: true }) });
 pressing.listenToKeyboard();
-button("test").addEventListener("click", () => tell(`test ${front.level === "1" ? 0 : 1}`, true));
+button("test").addEventListener("click", () => tell(pinKey(front.level === "1" ? 0 : 1), true));
 
 /**
  * Shows what is new; null where nothing is debugged any more.
@@ -48,7 +55,9 @@ function show(news) {
   }
   if (news.board) {
     pressing.forget();
-    front.draw(readBoard(news.board), new Face(news.boardText || ""));
+    const [board, face] = [readBoard(news.board), new Face(news.boardText || "")];
+    front.draw(board, face);
+    strip.draw(board, face);
   }
   if (news.isRunning !== undefined) isRunning = news.isRunning;
   if (news.test !== undefined) {
@@ -56,6 +65,7 @@ function show(news) {
     button("test").textContent = `TEST ${news.test}`;
     button("test").setAttribute("aria-pressed", String(news.test === "1"));
   }
+  if (news.printed) strip.take(news.printed);
   if (news.keys) front.showKeys(news.keys);
   const marks = news.lamps ?? front.marks;
   if (news.shone) front.shine(marks, news.shone, Infinity);

@@ -23,20 +23,31 @@ import * as say from "../words/page.js";
  * @typedef {import("../core/bench/look.js").Changed} Changed
  * @typedef {import("../core/bench/look.js").ChangedFront} ChangedFront
  * @typedef {import("../core/machine/source_map.js").SourceMap} SourceMap
- *
- * What it calls: a button presses its key; whether time runs, and so fast that no line of the program is followed; whether the picture
- * of the wiring is in front; questions are asked; a
- * line is served, which gives its answer, or null where it failed; a refusal is put into words; what a cell shows is told; the source
- * is told where the counter is, or that the listing went to an address; the bench tells its breakpoints; one is set or taken away; how long
- * lamps are lit is asked for, by a face and its number; how many milliseconds so many cycles take; a call failed. And those of the strip.
- * @typedef {{ listen: (node: HTMLButtonElement, key: BoardKey) => void, isRunning: () => boolean, isFast: () => boolean,
- *   isWiringShown: () => boolean,
- *   ask: (lines: string) => Promise<string[]>, act: (line: string) => Promise<string | null>, wordsOfRefusal: (number: number) => string,
- *   explain: (name: string) => string,
- *   isAt: (counter: number) => void, breakAt: (breakpoints: string[]) => void, toggleBreakpoint: (address: number) => void,
- *   wentTo: (address: number) => void, watchLamps: (face: string, number: number) => void, timeOf: (cycles: number) => number,
- *   failed: (fault: unknown) => void } & import("./board/strip_view.js").StripCalls} LookCalls
  */
+
+/**
+ * What the views of a snapshot call of the page.
+ * @typedef {object} LookOwnCalls
+ * @property {(node: HTMLButtonElement, key: BoardKey) => void} listen Makes a button press its key.
+ * @property {() => boolean} isRunning Returns whether time runs.
+ * @property {() => boolean} isFast Returns whether time runs so fast that the listing follows no instruction.
+ * @property {() => boolean} isWiringShown Returns whether the picture of the wiring is in front.
+ * @property {(lines: string) => Promise<string[]>} ask Resolves to the bench's answers to questions.
+ * @property {(line: string) => Promise<string | null>} act Serves a line. Resolves to its answer, null if the call failed, which is then
+ *   reported.
+ * @property {(number: number) => string} wordsOfRefusal Returns what the number of a refusal means.
+ * @property {(name: string) => string} explain Returns what a place, or a name of the program, means, as words.
+ * @property {(counter: number) => void} isAt The counter of the machine is at an address; source and listing follow.
+ * @property {(breakpoints: string[]) => void} breakAt The bench has breakpoints at these addresses, each as three hexadecimal digits.
+ * @property {(address: number) => void} toggleBreakpoint Sets or removes the breakpoint of an address.
+ * @property {(address: number) => void} wentTo The listing went to an address, which the source shows too.
+ * @property {(face: string, number: number) => void} watchLamps Asks the bench how long lamps are lit, by the text of a face and its
+ *   number.
+ * @property {(cycles: number) => number} timeOf Returns the milliseconds that cycles take at the speed of now; Infinity at full speed.
+ * @property {(fault: unknown) => void} failed Reports an error that a call threw.
+ */
+
+/** @typedef {import("./board/strip_view.js").StripCalls & LookOwnCalls} LookCalls */
 
 /** @typedef {{ seeLamps: (lamps: string) => void, seeKeys: (keysDown: number) => void }} Watcher */
 
@@ -195,7 +206,7 @@ export class LookView {
       this.wiring.showTest(test === "1");
     }
     if (this.watcher && (keys || lamps !== undefined)) {
-      this.watcher.seeKeys(this.front.down.size);
+      this.watcher.seeKeys(this.front.down.count);
       this.watcher.seeLamps(this.front.marks);
     }
   }

@@ -9,11 +9,18 @@ import * as say from "../words/page.js";
  * @typedef {import("./session/kept_session.js").KeptSession} KeptSession
  * @typedef {import("./session/store.js").SessionRecord} SessionRecord
  * @typedef {import("./ui/notice.js").Notice} Notice
- *
- * What it calls: the session that is shown; whether time runs; no more of it passes; it stands still, and words tell why; it has done
- * something; a session is opened in another worker, and shown.
- * @typedef {{ session: () => KeptSession | null, isRunning: () => boolean, stopClock: () => void, halted: (words: string) => void,
- *   ran: (frame: Frame) => void, openAgain: (record: SessionRecord) => Promise<void> }} RecoveryCalls
+ */
+
+/**
+ * What the recovery from errors and dead workers calls.
+ * @typedef {object} RecoveryCalls
+ * @property {() => KeptSession | null} session Returns the session that is shown; null if there is none.
+ * @property {() => boolean} isRunning Returns whether time runs.
+ * @property {() => void} stopClock Stops the clock of the page; the worker is not asked.
+ * @property {(words: string) => void} halted Shows that time is paused, and why.
+ * @property {(frame: Frame) => void} ran Shows what time has done before the worker failed.
+ * @property {(record: SessionRecord) => Promise<void>} openAgain Opens a session in a new worker and shows it. Rejects if the worker
+ *   fails again.
  */
 
 export class Recovery {

@@ -3,7 +3,7 @@
 import { countOfFaults } from "../core/bench/words.js";
 import { ExploreTab } from "./explore/explore_tab.js";
 import { Explorer } from "../core/explore/explorer.js";
-import { keyScanOf } from "../core/drawing/scan_routine.js";
+import { keyScanOf, placeOfRoutine } from "../core/drawing/scan_routine.js";
 import { namesOfCharacters } from "../core/machine/ram_names.js";
 import { SourceSync } from "../core/machine/source_sync.js";
 import { titleOf } from "../core/session/described.js";
@@ -120,19 +120,18 @@ export function textsOf(page) {
 }
 
 /**
- * Puts a routine that scans the keys of a board behind the source, as one step that can be undone, and shows it.
+ * Puts a routine that scans the keys of a board into the source, as one step that can be undone, and shows it.
  * @param {Page} page
  * @param {import("../core/bench/answers.js").Board} board
  */
 export function insertKeyScan({ layout, programEditor }, board) {
   const { text, editor } = programEditor;
-  const begun = text.trimEnd() === "" ? "" : `${text.trimEnd()}\n\n`;
   const code = keyScanOf(board, text);
-  editor.edit([{ from: begun.trimEnd().length, to: text.length, insert: begun.slice(begun.trimEnd().length) + code }]);
+  const { edit, first, isEnd } = placeOfRoutine(text, editor.caretLine, code);
+  editor.edit([edit]);
   layout.showText("program");
-  const first = begun.split("\n").length;
   editor.select({ from: first, to: first + code.trimEnd().split("\n").length - 1 });
-  programEditor.tell(say.KEY_SCAN_INSERTED);
+  programEditor.tell(isEnd ? say.KEY_SCAN_INSERTED : say.keyScanAt(first));
 }
 
 /**

@@ -6,7 +6,7 @@ import { AdapterConnection } from "../core/adapter/adapter_connection.js";
 import { DebugAdapter } from "../core/adapter/debug_adapter.js";
 import { LONGEST_MESSAGE, MessageReader, framed } from "../core/server/framing.js";
 import { Engine } from "../core/engine/engine.js";
-import { CYCLES_OF_EYE } from "../core/engine/shining.js";
+import { EYE_CYCLES } from "../core/time/mcs4_time.js";
 import { dataOfPage } from "../node/page_parts.mjs";
 import { moduleOfPage } from "./page_session.js";
 
@@ -59,7 +59,7 @@ function served(files = FILES, sessions = {}) {
   const ended = [];
   const connection = new AdapterConnection((bytes) => told.push(...[...reader.take(bytes)].map(({ text }) => JSON.parse(text))));
   const host = {
-    nameOf: (name, folder) => (name.startsWith("/") ? name : `${folder}/${name}`),
+    nameOf: (name, folder) => (/^([A-Z]:)?\//.test(name) ? name : `${folder}/${name}`),
     beside: (name, other) => other.replace(/[^/]*$/, name),
     read: (name) => files[name] ?? null,
     isThere: (name) => name in files || name in sessions,
@@ -376,7 +376,7 @@ test("a client that draws the board is told it once, what changes, and moves key
   await until(({ event, body }) => event === "boardShown" && body.isRunning === false && news().length > 4);
   assert.ok(news().some(({ lamps }) => lamps === "*.."));
   const seen = news().filter(({ shone }) => shone);
-  assert.ok(seen.some(({ shone }) => shone.cycles === CYCLES_OF_EYE && shone.lamps[0] === CYCLES_OF_EYE));
+  assert.ok(seen.some(({ shone }) => shone.cycles === EYE_CYCLES && shone.lamps[0] === EYE_CYCLES));
   assert.equal(news().pop().shone, undefined);
   assert.equal(news().filter((each) => each.board).length, 0);
   await ask("restart", {});
@@ -447,4 +447,62 @@ test("a session file is made, or opened without a program; another program is re
   assert.equal(source.sourceReference, 1);
   const { content } = await bare.ask("source", { source, sourceReference: 1 });
   assert.match(content.split("\n")[line - 1], /JUN 0x02C/);
+});
+
+const THREE = "test it shows 12\n  run 10\n  save shown\n\ntest it goes on\n  from shown\n  press 1\n  run 200000\n  release 1\n  run 7\n\n"
+  + "test it fails\n  from shown\n  run 20\n  expect acc 9\n  run 5\n";
+
+test("a test is debugged: where it fails, or at its end, with its past", async () => {
+  const project = FILES["/lock/mcs4.toml"].replace(/^tests.*$/m, 'tests = ["a b.test"]');
+  const files = { ...FILES, "/lock/mcs4.toml": project, "/lock/a b.test": THREE };
+  const { ask, begin, move, told } = served(files);
+  await begin({ test: "it fails", tests: "/lock/a b.test" });
+  const output = () => told.filter(({ event }) => event === "output").map(({ body }) => body.output).join("");
+  assert.match(output(), /^\/lock\/a b\.test:15: it fails: acc is \d+, and has to be 9\n/);
+  const counter = async () => (await ask("stackTrace", { threadId: 1 })).stackFrames[0].instructionPointerReference;
+  const failed = await counter();
+  await move("stepBack");
+  assert.notEqual(await counter(), failed);
+  await ask("restart", {});
+  assert.equal(await counter(), failed);
+  const other = served(files);
+  await other.begin({ test: "it goes on", tests: "/lock/a b.test" });
+  const shown = other.told.filter(({ event }) => event === "output").map(({ body }) => body.output).join("");
+  assert.match(shown, /The test passes: it goes on\./);
+  const failing = async (given) => {
+    const { ask: request, answer: response } = served(files);
+    await request("initialize", { adapterID: "mcs4" });
+    return (await response("launch", given)).message;
+  };
+  assert.match(await failing({ test: "none", tests: "/lock/a b.test" }), /\/lock\/a b\.test has no test none/);
+  assert.match(await failing({ test: "it fails" }), /a test needs `tests`/);
+});
+
+test("a client that draws the board is told what is printed, and clears it", async () => {
+  const example = (name) => readFileSync(new URL(`../../examples/printing_calculator/${name}`, import.meta.url), "utf8");
+  const files = { "/p/board.toml": example("board.toml"), "/p/p.asm": example("printing_calculator.asm") };
+  const { begin, ask, answer, told } = served(files);
+  await begin({ program: "/p/p.asm" });
+  assert.deepEqual((await ask("watchBoard")).printed.codes, []);
+  const lines = async (text) => {
+    for (const line of text.split("; ")) assert.ok((await answer("evaluate", { expression: line, context: "repl" })).success, line);
+  };
+  await lines("run 20000; press 7; run 4000; release 7; run 16000; press +; run 4000; release +; run 60000");
+  const printed = () => told.filter(({ event, body }) => event === "boardShown" && body.printed)
+    .map(({ body }) => body.printed.codes.length);
+  assert.ok(Math.max(...printed()) > 1, `what was printed: ${printed()}`);
+  await ask("tearPaper");
+  await lines("run 10");
+  assert.equal(printed().pop(), 0);
+});
+
+test("names of files as Windows has them lead to the board and the tests beside them", async () => {
+  const place = "C:/Users/me/my boards";
+  const files = Object.fromEntries(Object.entries(FILES).map(([name, text]) => [name.replace("/lock", place), text]));
+  const { begin, ask } = served({ ...files, [`${place}/other/lock.asm`]: files[`${place}/lock.asm`], [`${place}/lock.test`]: THREE });
+  await begin({ program: `${place}/lock.asm` });
+  const { stackFrames: [{ source }] } = await ask("stackTrace", { threadId: 1 });
+  assert.equal(source.path, `${place}/lock.asm`);
+  const other = served({ ...files, [`${place}/lock.test`]: THREE });
+  await other.begin({ test: "it shows 12", tests: `${place}/lock.test` });
 });

@@ -3,10 +3,11 @@
 import assert from "node:assert/strict";
 import test from "node:test";
 import { AskedKeys } from "../core/board/asked_keys.js";
+import { matrixKey } from "../core/board/key_place.js";
 import { Pressing } from "../page/board/pressing.js";
 import { begin } from "./page_session.js";
 
-const KEY = { key: "0 0", isSwitch: false };
+const KEY = { key: matrixKey(0, 0), isSwitch: false };
 
 /** Fingers on a key while time runs: the worker has what is asked for once `arrive` is called, and tells it by `look`. */
 async function typing() {
@@ -83,10 +84,10 @@ test("a key that stays down is let go by a press, also while that press waits", 
 
 test("what is forgotten of a key leaves it as the bench tells it", () => {
   const asked = new AskedKeys();
-  const arrived = asked.send({ word: "press", key: "0 0" });
-  assert.deepEqual([asked.willBeDown("0 0", false), asked.willBeDown("0 1", false)], [true, false]);
-  asked.send({ word: "forget", key: "0 0" });
-  assert.deepEqual([asked.willBeDown("0 0", false), asked.willBeDown("0 0", true)], [false, true]);
+  const arrived = asked.send({ word: "press", key: matrixKey(0, 0) });
+  assert.deepEqual([asked.willBeDown(matrixKey(0, 0), false), asked.willBeDown(matrixKey(0, 1), false)], [true, false]);
+  asked.send({ word: "forget", key: matrixKey(0, 0) });
+  assert.deepEqual([asked.willBeDown(matrixKey(0, 0), false), asked.willBeDown(matrixKey(0, 0), true)], [false, true]);
   arrived();
   assert.equal(asked.sent.length, 1);
 });

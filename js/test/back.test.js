@@ -1,6 +1,7 @@
 // Going back and forward, on the module of the page itself.
 import assert from "node:assert/strict";
 import { test } from "node:test";
+import { matrixKey } from "../core/board/key_place.js";
 import { CycleCount } from "../core/engine/accepted.js";
 import { MOST_FORWARD, Timeline } from "../core/engine/timeline.js";
 import { FakeEngine } from "./fake_engine.js";
@@ -15,21 +16,21 @@ test("one stop back undoes what was done last, and forward does it again, to the
     await calls.serve(lines);
     seen.push(calls.ask(ALL));
   }
-  const file = Buffer.from(calls.session.file);
-  const { total, reset } = calls.session.count;
+  const file = Buffer.from(calls.bench.session.file);
+  const { total, reset } = calls.bench.session.count;
   for (const before of seen.slice(0, -1).reverse()) {
     assert.equal((await calls.goBack({ kind: "stop" })).isDone, true);
     assert.deepEqual(calls.ask(ALL), before);
   }
   assert.equal((await calls.goBack({ kind: "stop" })).why, "short");
-  assert.equal(calls.session.count.total, 0);
+  assert.equal(calls.bench.session.count.total, 0);
   for (const after of seen.slice(1)) {
     assert.equal(calls.goForward().isDone, true);
     assert.deepEqual(calls.ask(ALL), after);
   }
   assert.equal(calls.goForward().isDone, false);
-  assert.equal(Buffer.compare(file, calls.session.file), 0);
-  assert.deepEqual([calls.session.count.total, calls.session.count.reset], [total, reset]);
+  assert.equal(Buffer.compare(file, calls.bench.session.file), 0);
+  assert.deepEqual([calls.bench.session.count.total, calls.bench.session.count.reset], [total, reset]);
 });
 
 test("the last change of a place is told without going there: where going back to it leads", async () => {
@@ -50,8 +51,8 @@ test("the last change of a place is told without going there: where going back t
 test("keys that were pressed while time ran are pressed again", async () => {
   const calls = await begin("calculator");
   calls.advance(20000);
-  calls.press("3 0");
-  calls.release("3 0");
+  calls.press(matrixKey(3, 0));
+  calls.release(matrixKey(3, 0));
   for (let frame = 0; frame < 20; frame++) calls.advance(1543);
   calls.halt();
   const after = calls.ask(ALL);
@@ -69,8 +70,8 @@ test("an instruction back is where the trace has it, through stops and frames", 
   }
   const other = await begin("three lamps");
   // The frames end in the middle of instructions.
-  while (other.session.count.total < calls.session.count.total) {
-    other.advance(Math.min(7, calls.session.count.total - other.session.count.total));
+  while (other.bench.session.count.total < calls.bench.session.count.total) {
+    other.advance(Math.min(7, calls.bench.session.count.total - other.bench.session.count.total));
   }
   for (const counter of trace.reverse()) {
     assert.equal((await other.goBack({ kind: "instruction" })).isDone, true);

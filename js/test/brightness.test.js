@@ -2,7 +2,9 @@
 import assert from "node:assert/strict";
 import { readFileSync } from "node:fs";
 import { test } from "node:test";
-import { Brightness, PERSISTENCE, shineOf } from "../core/board/brightness.js";
+import { Brightness, shineOf } from "../core/board/brightness.js";
+import { matrixKey } from "../core/board/key_place.js";
+import { EYE_MS } from "../core/time/mcs4_time.js";
 import { numberOf } from "../core/board/digit_patterns.js";
 import { DisplayText } from "../core/board/display_text.js";
 import { Face } from "../core/board/face.js";
@@ -157,11 +159,11 @@ function oneLamp() {
 
 test("a lamp that flickers from now on is seen to 63 % after the persistence, and fades so", () => {
   const { seen, pass } = oneLamp();
-  for (let part = 0; part < 10; part++) pass(0.8, PERSISTENCE / 10, { first: 1, longest: 8, rest: 7 });
+  for (let part = 0; part < 10; part++) pass(0.8, EYE_MS / 10, { first: 1, longest: 8, rest: 7 });
   assert.ok(Math.abs(seen.lamps[0] - 0.8 * (1 - Math.exp(-1))) < 1e-9);
   pass(1, Infinity);
   assert.equal(seen.lamps[0], 1);
-  pass(0, PERSISTENCE);
+  pass(0, EYE_MS);
   assert.ok(Math.abs(seen.lamps[0] - Math.exp(-1)) < 1e-9);
   seen.begin("*");
   assert.equal(seen.lamps[0], 1);
@@ -188,7 +190,7 @@ test("a lamp that rested within a frame stands still once it rests for twice as 
   const { seen, pass } = oneLamp();
   // 2 ms, 8 ms and 10 ms of 20 ms.
   pass(0.5, 20, { first: 10, longest: 40, rest: 50 });
-  assert.ok(Math.abs(seen.lamps[0] - 0.5 * (1 - Math.exp(-20 / PERSISTENCE))) < 1e-9, String(seen.lamps[0]));
+  assert.ok(Math.abs(seen.lamps[0] - 0.5 * (1 - Math.exp(-20 / EYE_MS))) < 1e-9, String(seen.lamps[0]));
   pass(1, 5);
   assert.ok(seen.lamps[0] < 0.5, String(seen.lamps[0]));
   pass(1, 5);
@@ -212,13 +214,14 @@ test("digits that are shifted in are shown at once when they stand, and nothing 
   const example = examplesOfPage.find(({ name }) => name === "calculator");
   const calls = await begin(example);
   const seen = new Brightness(new Face(example.board), 43);
-  const pass = (cycles, key = "") => {
+  const pass = (cycles, key = null) => {
     seen.add(calls.advance(cycles, key).shone, (FRAME_TIME * cycles) / FRAME);
     return seen.patterns.map(numberOf).join(" ");
   };
   for (let frame = 0; frame < 60; frame++) pass(FRAME);
   let isAtOnce = 0;
-  [["2 0", "1"], ["2 1", "12"], ["2 2", "123"], ["1 0", "1234"], ["1 1", "12345"], ["1 2", "123456"]].forEach(([key, number], at) => {
+  [[2, 0, "1"], [2, 1, "12"], [2, 2, "123"], [1, 0, "1234"], [1, 1, "12345"], [1, 2, "123456"]].forEach(([row, column, number], at) => {
+    const key = matrixKey(row, column);
     const before = pass(FRAME + 137 * at);
     // What is lent for a key, and what was owed.
     isAtOnce += Number(pass(2 * FRAME - 100 * at, key) === number);

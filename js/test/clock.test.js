@@ -2,7 +2,8 @@
 import assert from "node:assert/strict";
 import { mock, test } from "node:test";
 import { Clock } from "../page/time/clock.js";
-import { REAL_CYCLES } from "../core/time/real_time.js";
+import { matrixKey } from "../core/board/key_place.js";
+import { CYCLES_PER_SECOND } from "../core/time/mcs4_time.js";
 import { SPEEDS, speedOf } from "../core/time/speeds.js";
 
 /** Gives a clock that runs from 0 on, and what it called; `to` goes to a time, with a frame there. */
@@ -46,20 +47,20 @@ test("a key goes along with the cycles that are due and those of a frame, and th
   const { clock, calls, wait, to } = begin();
   await to(10);
   wait(15);
-  assert.equal(clock.pressNow("0 1"), true);
-  assert.deepEqual(calls, [[925], [464 + 1543, "0 1"]]);
+  assert.equal(clock.pressNow(matrixKey(0, 1)), true);
+  assert.deepEqual(calls, [[925], [464 + 1543, matrixKey(0, 1)]]);
   await settled();
   await to(30);
   assert.equal(calls.length, 2);
   await to(100);
-  assert.equal(sumOf(calls), Math.floor(REAL_CYCLES / 10));
+  assert.equal(sumOf(calls), Math.floor(CYCLES_PER_SECOND / 10));
   assert.equal(clock.now, 100);
 });
 
 test("the time that counts is ahead for as long as cycles are lent", async () => {
   const { clock, wait } = begin();
   wait(10);
-  clock.pressNow("0 1");
+  clock.pressNow(matrixKey(0, 1));
   assert.ok(Math.abs(clock.now - 10 - 1000 / 60) < 0.01, `${clock.now}`);
 });
 
@@ -70,32 +71,32 @@ test("while a call is under way a key is told apart, and cycles follow at the en
   await to(10);
   told.waiting = null;
   wait(12);
-  assert.equal(clock.pressNow("0 1"), false);
+  assert.equal(clock.pressNow(matrixKey(0, 1)), false);
   assert.deepEqual(calls, [[925]]);
   done();
   await settled();
   assert.deepEqual(calls, [[925], [186 + 1543]]);
   await to(60);
-  assert.equal(sumOf(calls), Math.floor(60 * REAL_CYCLES / 1000));
+  assert.equal(sumOf(calls), Math.floor(60 * CYCLES_PER_SECOND / 1000));
 });
 
 test("where that call ends the time nothing follows, and nothing is owed when it goes on", async () => {
   const { clock, told, calls, wait, to } = begin();
   wait(5);
-  clock.pressNow("0 1");
+  clock.pressNow(matrixKey(0, 1));
   await settled();
   wait(6);
   let done = () => {};
   told.waiting = new Promise((keep) => { done = keep; });
   await to(40);
   told.waiting = null;
-  assert.equal(clock.pressNow("0 2"), false);
+  assert.equal(clock.pressNow(matrixKey(0, 2)), false);
   clock.stop();
   done();
   await settled();
   const before = calls.length;
   wait(50);
-  assert.equal(clock.pressNow("0 3"), false);
+  assert.equal(clock.pressNow(matrixKey(0, 3)), false);
   clock.start();
   await to(60);
   assert.deepEqual(calls.slice(before), [[925]]);
@@ -106,35 +107,35 @@ test("nothing is lent while time stands still, at full speed, and in slow motion
     const { clock, calls, wait } = begin(id);
     calls.length = 0;
     wait(500);
-    const isTold = clock.pressNow("0 1");
-    const slow = { tenth: [[4629, "0 1"]], hundredth: [[462, "0 1"]], thousandth: [[46, "0 1"]] };
+    const isTold = clock.pressNow(matrixKey(0, 1));
+    const slow = { tenth: [[4629, matrixKey(0, 1)]], hundredth: [[462, matrixKey(0, 1)]], thousandth: [[46, matrixKey(0, 1)]] };
     assert.deepEqual(calls, slow[id] || [], id);
     assert.equal(isTold, id in slow, id);
     await settled();
     clock.stop();
     wait(900);
-    assert.equal(clock.pressNow("0 1"), false);
+    assert.equal(clock.pressNow(matrixKey(0, 1)), false);
     mock.restoreAll();
   }
   const { clock, calls } = begin();
   clock.stop();
-  assert.equal(clock.pressNow("0 1"), false);
+  assert.equal(clock.pressNow(matrixKey(0, 1)), false);
   assert.deepEqual(calls, []);
 });
 
 test("a page that was hidden owes nothing back, and lends nothing while it is hidden", async () => {
   const { clock, calls, told, wait, to } = begin();
-  clock.pressNow("0 1");
+  clock.pressNow(matrixKey(0, 1));
   await settled();
   globalThis.document.hidden = true;
   clock.hide();
   wait(5000);
-  assert.equal(clock.pressNow("0 2"), false);
+  assert.equal(clock.pressNow(matrixKey(0, 2)), false);
   globalThis.document.hidden = false;
   await to(9000);
   assert.equal(told.gaps, 1);
   await to(9010);
-  assert.deepEqual(calls, [[1543, "0 1"], [925]]);
+  assert.deepEqual(calls, [[1543, matrixKey(0, 1)], [925]]);
 });
 
 test("a call that fails is told, and the next frame goes on", async () => {

@@ -168,6 +168,15 @@ onBoth("the bytes of a session file lead to the same state on each host", (engin
   return Object.values(hosts).map((host) => host.ask(host.stateOf(bytes), "state\nboard\nlist 0 8\n"));
 });
 
+onBoth("a state of bytes that were read from a file does not share their memory, nor that of its copies", (engine) => {
+  const read = Buffer.from(engine.bytesOf(stateAfter(engine, BOARD + PROGRAM)));
+  const state = engine.stateOf(read);
+  const copy = state.slice();
+  engine.serve(copy, "run 9\n", copy);
+  read.fill(255);
+  return [engine.ask(state, "state\n"), engine.ask(copy, "state\n"), state.constructor.name];
+});
+
 onBoth("bytes that are no session file are rejected by a number", (engine) => {
   const whole = engine.bytesOf(stateAfter(engine, BOARD));
   const damaged = whole.slice().fill(255, 0, 4096);

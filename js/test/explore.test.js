@@ -415,7 +415,8 @@ test("what is wrong with the state to begin with is told", async () => {
   assert.equal(await faultOf("from lit", ""), "1: there are no tests, so none saves the state lit");
   assert.match(await faultOf("from lit of"), /^1: it is written as `from STATE` or `from STATE of FILE.test`/);
   assert.match(await faultOf("from lit\nfrom both"), /^2: it begins from a state in a line before/);
-  assert.match(await faultOf("from lit", SAVING.replace("run 400", "rune 400")), /^1: its tests have an error in line 3: no line of a test/);
+  const wrong = await faultOf("from lit", SAVING.replace("run 400", "rune 400"));
+  assert.match(wrong, /^1: its tests have an error in line 3: no line of a test/);
   const failing = SAVING.replace("run 400", "expect lamp on on");
   assert.match(await faultOf("from lit", failing), /^1: line 3 of its tests fails: expect lamp on on: /);
 });

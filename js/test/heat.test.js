@@ -2,6 +2,7 @@
 import assert from "node:assert/strict";
 import { test } from "node:test";
 import { Cancelled } from "../core/bench/faults.js";
+import { pinKey } from "../core/board/key_place.js";
 import { PassingHeat, warmthOf, wordsOfHeat, wordsOfHeated, wordsOfPassing, wordsOfSeen } from "../core/machine/warmth.js";
 import { bytesOfSource, namesOfCharacters } from "../core/machine/ram_names.js";
 import { SourceMap } from "../core/machine/source_map.js";
@@ -56,7 +57,7 @@ test("while time runs the same is told of the cycles that pass, frame by frame",
   calls.watchRam(true);
   const passing = new PassingHeat();
   for (let frame = 0; frame < 20; frame++) {
-    if (frame === 5) calls.press("test 1");
+    if (frame === 5) calls.press(pinKey(1));
     const { warmed, cycles } = calls.advance(FRAME);
     assert.deepEqual([warmed.cycles, warmed.chips], [cycles, 1]);
     passing.add(warmed, cycles, 20 * FRAME);
@@ -75,7 +76,7 @@ test("of several chips one is looked at in each frame, and of full speed a sampl
   assert.deepEqual(told.map(({ cells }) => cells.map(({ place, count }) => `${place} ${count}`)), [
     ["ram.0.0x12 10"], [], [], ["ram.0.0x12 10"], [], []]);
   assert.equal(calls.advance(50000).warmed, null);
-  const { warmed } = calls.session.senseAhead();
+  const { warmed } = calls.bench.session.senseAhead();
   assert.deepEqual([warmed.chips, warmed.cycles, warmed.cells.length], [3, 2778, 1]);
   assert.equal(wordsOfPassing(warmed, false), "Counted while time runs, in one of 3 chips at a time, at full speed in samples.");
   assert.equal(wordsOfPassing({ chips: 1 }, true), "Counted while time runs.");
@@ -121,7 +122,7 @@ test("long runs are looked through in parts, with the same result", async () => 
 
 test("it is cancelled like other long work, and a board without RAM has none", async () => {
   const calls = await ran(SETUP + 20 * TURN);
-  calls.goesOn = async () => false;
+  calls.bench.goesOn = async () => false;
   await assert.rejects(calls.heat(1000), Cancelled);
   const bare = await begin("three lamps");
   await bare.serve("wire\n[[rom]]\nchip = 0\nport = \"0000\"\n.\nrun 20\n");

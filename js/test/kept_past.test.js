@@ -21,8 +21,8 @@ function storeOf(room = 5000000) {
 }
 
 /** What is shown of a call is taken, as the page does it. */
-function seen(past, calls, shown = calls.shown([], false)) {
-  past.take(shown.past, { file: calls.session.file.slice(), total: shown.total, reset: shown.reset });
+function seen(past, calls, shown = calls.bench.shown([], false)) {
+  past.take(shown.past, { file: calls.bench.session.file.slice(), total: shown.total, reset: shown.reset });
 }
 
 /** A page that did some things, and went; what it was after each of them. */
@@ -41,7 +41,7 @@ async function left(store, lines) {
 }
 
 /** Another page, in which the session was opened anew. */
-async function reloaded(store, { session: { file, count } }, name = "one") {
+async function reloaded(store, { bench: { session: { file, count } } }, name = "one") {
   const calls = await begin("three lamps");
   const past = new KeptPast(store);
   past.begin(name);
@@ -69,7 +69,7 @@ test("going back leads through the reload, to each stop", async () => {
     assert.deepEqual(calls.ask(ALL), state);
   }
   assert.equal((await calls.goBack({ kind: "stop" })).why, "short");
-  assert.equal(calls.session.count.total, 0);
+  assert.equal(calls.bench.session.count.total, 0);
 });
 
 test("also through two reloads, and by instructions and changes", async () => {
@@ -150,7 +150,7 @@ test("of a long past the last two files are kept", async () => {
   const cycles = past.segments.map(({ entries }) => entries.reduce((sum, entry) => sum + entry.cycles, 0));
   assert.deepEqual([past.segments[0].total, cycles], [8000000, [4000000, 500000]]);
   const next = await begin("three lamps");
-  next.open(calls.session.file.slice(), calls.session.count.total, 0);
+  next.open(calls.bench.session.file.slice(), calls.bench.session.count.total, 0);
   assert.ok(recall(next, past.segments) >= 0);
   assert.equal((await next.goBack({ kind: "stop" })).cycles, 500000);
 });

@@ -2,7 +2,7 @@
 import assert from "node:assert/strict";
 import { test } from "node:test";
 import { readBoard } from "../core/bench/answers.js";
-import { keyScanOf } from "../core/drawing/scan_routine.js";
+import { keyScanOf, placeOfRoutine } from "../core/drawing/scan_routine.js";
 import { sentText } from "../core/text/text_fault.js";
 import { Engine } from "../core/engine/engine.js";
 import { examplesOfPage, moduleOfPage } from "./page_session.js";
@@ -93,4 +93,19 @@ test("labels of the source are not used again, and a source with instructions ke
   assert.match(keyScanOf(board, one), /^keys1_scan: /m);
   assert.match(keyScanOf(board, one + keyScanOf(board, one)), /^keys2_scan: /m);
   assert.equal(keyScanOf({ ...board, matrix: null }, ""), "");
+});
+
+test("a routine comes behind the line of the caret, else to the end, with blank lines around it", () => {
+  const put = (text, line) => {
+    const { edit, first, isEnd } = placeOfRoutine(text, line, "scan: BBL 0\n");
+    return [text.slice(0, edit.from) + edit.insert + text.slice(edit.to), first, isEnd];
+  };
+  assert.deepEqual(put("", 0), ["scan: BBL 0\n", 1, true]);
+  assert.deepEqual(put("", 1), ["scan: BBL 0\n", 1, true]);
+  assert.deepEqual(put("\n\nNOP\n", 1), ["scan: BBL 0\n\nNOP\n", 1, false]);
+  assert.deepEqual(put("NOP\nCLB\n", 0), ["NOP\nCLB\n\nscan: BBL 0\n", 4, true]);
+  assert.deepEqual(put("NOP\nCLB\n\n\n", 2), ["NOP\nCLB\n\nscan: BBL 0\n", 4, true]);
+  assert.deepEqual(put("NOP\n  CLB\n", 1), ["NOP\n\nscan: BBL 0\n\n  CLB\n", 3, false]);
+  assert.deepEqual(put("NOP\n \n\n  CLB", 2), ["NOP\n\nscan: BBL 0\n\n  CLB", 3, false]);
+  assert.deepEqual(put("NOP\n \n\n  CLB", 3), put("NOP\n \n\n  CLB", 1));
 });

@@ -2,7 +2,9 @@ import assert from "node:assert/strict";
 import { test } from "node:test";
 import { hintOfKeys, keyOfKeyboard, keysOf } from "../core/board/board_keys.js";
 import { Face } from "../core/board/face.js";
-import { DOWN_CYCLES, KeyQueue, LONGEST_RUN, UP_CYCLES, lineOfChange } from "../core/engine/key_queue.js";
+import { KeysDown, isSameKey, keyOfText, lineOfKey, matrixKey, pinKey, textOfKey } from "../core/board/key_place.js";
+import { KeyQueue, LONGEST_RUN } from "../core/engine/key_queue.js";
+import { KEY_DOWN_CYCLES, KEY_UP_CYCLES } from "../core/time/mcs4_time.js";
 
 const lines = (queue, cycles) => queue.plan(cycles).map((step) => step.line);
 
@@ -14,7 +16,7 @@ test("legends come from the comments of a board's text", () => {
 
 test("keys have places, legends and letters that are their own", () => {
   const keys = keysOf({ rows: 2, columns: 2 }, new Face("# row 0: CE _\n# row 1: C x\n"));
-  assert.deepEqual(keys.map(({ key, legend, letter, isNamed }) => [key, legend, letter, isNamed]),
+  assert.deepEqual(keys.map(({ key, legend, letter, isNamed }) => [textOfKey(key), legend, letter, isNamed]),
     [["0 0", "CE", "c", true], ["0 1", "", "", false], ["1 0", "C", "C", true], ["1 1", "x", "x", true]]);
   assert.equal(new Set(keysOf({ rows: 10, columns: 8 }, new Face("")).map(({ letter }) => letter).filter(Boolean)).size, 36);
 });
@@ -27,21 +29,35 @@ test("keys of the keyboard: own letters, named keys, then the other case", () =>
 
 test("what is at TEST is the last key, with a letter of its own", () => {
   const keys = keysOf({ rows: 1, columns: 1 }, new Face("# row 0: w\n# test: button WALK_NOW\n"));
-  const wanted = { key: "test 0", legend: "WALK NOW", words: "button WALK NOW, at TEST", isNamed: true, isSwitch: false, letter: "a" };
+  const wanted = { key: pinKey(0), legend: "WALK NOW", words: "button WALK NOW, at TEST", isNamed: true, isSwitch: false, letter: "a" };
   assert.deepEqual(keys[1], wanted);
   const [only] = keysOf({ rows: 0, columns: 0 }, new Face("# test: switch R to 1"));
-  assert.deepEqual([only.key, only.isSwitch, only.letter], ["test 1", true, "R"]);
+  assert.deepEqual([only.key, only.isSwitch, only.letter], [pinKey(1), true, "R"]);
 });
 
 test("the lines of presses: keys by their places, TEST by its level", () => {
-  const lineOf = (word, key) => lineOfChange({ word, key });
-  assert.deepEqual([lineOf("press", "0 1"), lineOf("release", "0 1")], ["press 0 1", "release 0 1"]);
-  assert.deepEqual([lineOf("press", "test 0"), lineOf("release", "test 0")], ["test 0", "test 1"]);
-  assert.deepEqual([lineOf("press", "test 1"), lineOf("release", "test 1")], ["test 1", "test 0"]);
+  const linesOf = (key) => [lineOfKey("press", key), lineOfKey("release", key)];
+  assert.deepEqual(linesOf(matrixKey(0, 1)), ["press 0 1", "release 0 1"]);
+  assert.deepEqual([pinKey(0), pinKey(1)].map(linesOf), [["test 0", "test 1"], ["test 1", "test 0"]]);
   const queue = new KeyQueue();
-  queue.press("test 0");
-  queue.release("test 0");
-  assert.deepEqual(lines(queue, 5000), ["test 0", `run ${DOWN_CYCLES}`, "test 1", "run 1000"]);
+  queue.press(pinKey(0));
+  queue.release(pinKey(0));
+  assert.deepEqual(lines(queue, 5000), ["test 0", `run ${KEY_DOWN_CYCLES}`, "test 1", "run 1000"]);
+});
+
+test("a key is a value: its text is read back, and it is compared by what it is", () => {
+  const keys = [matrixKey(0, 0), matrixKey(1, 0), matrixKey(0, 1), matrixKey(12, 7), pinKey(0), pinKey(1)];
+  assert.deepEqual(keys.map((key) => keyOfText(textOfKey(key))), keys);
+  for (const one of keys) for (const other of keys) assert.equal(isSameKey(one, { ...other }), one === other);
+  for (const text of ["", "0", "0.0", "0 0 0", " 0 0", "1234 0", "test", "test 2", "r4"]) assert.equal(keyOfText(text), null, text);
+});
+
+test("the keys that are down, by an answer and the level of TEST", () => {
+  const down = new KeysDown(["0.2", "12.7"]);
+  assert.equal(down.count, 2);
+  assert.deepEqual([matrixKey(0, 2), matrixKey(12, 7), matrixKey(2, 0), matrixKey(1, 2)].map((key) => down.has(key, "1")),
+    [true, true, false, false]);
+  assert.deepEqual([down.has(pinKey(1), "1"), down.has(pinKey(0), "1"), down.has(pinKey(0), "")], [true, false, false]);
 });
 
 test("what is told below the keys", () => {
@@ -57,29 +73,29 @@ test("without keys the cycles are runs of at most 100,000", () => {
 
 test("a press stays down and then up for its time, over several plans", () => {
   const queue = new KeyQueue();
-  queue.press("0 1");
-  queue.release("0 1");
-  queue.press("0 2");
+  queue.press(matrixKey(0, 1));
+  queue.release(matrixKey(0, 1));
+  queue.press(matrixKey(0, 2));
   const first = queue.plan(5000);
-  assert.deepEqual(first.map(({ line }) => line), ["press 0 1", `run ${DOWN_CYCLES}`, "release 0 1", "run 1000"]);
-  queue.done(first, (at) => [0, DOWN_CYCLES, 0, 1000][at]);
-  assert.deepEqual(lines(queue, 1500), [`run ${UP_CYCLES - 1000}`, "press 0 2", "run 500"]);
+  assert.deepEqual(first.map(({ line }) => line), ["press 0 1", `run ${KEY_DOWN_CYCLES}`, "release 0 1", "run 1000"]);
+  queue.done(first, (at) => [0, KEY_DOWN_CYCLES, 0, 1000][at]);
+  assert.deepEqual(lines(queue, 1500), [`run ${KEY_UP_CYCLES - 1000}`, "press 0 2", "run 500"]);
 });
 
 test("a run that stops early leaves the rest of the time to wait", () => {
   const queue = new KeyQueue();
-  queue.press("0 1");
-  queue.release("0 1");
+  queue.press(matrixKey(0, 1));
+  queue.release(matrixKey(0, 1));
   const steps = queue.plan(3000);
   queue.done(steps, () => 10);
-  assert.deepEqual(lines(queue, 4000), [`run ${DOWN_CYCLES - 10}`, "release 0 1", "run 10"]);
+  assert.deepEqual(lines(queue, 4000), [`run ${KEY_DOWN_CYCLES - 10}`, "release 0 1", "run 10"]);
 });
 
 test("changes of a key can be forgotten, and all of them", () => {
   const queue = new KeyQueue();
-  queue.press("0 1");
-  queue.press("0 2");
-  queue.forget("0 1");
+  queue.press(matrixKey(0, 1));
+  queue.press(matrixKey(0, 2));
+  queue.forget(matrixKey(0, 1));
   assert.deepEqual(lines(queue, 1), ["press 0 2", "run 1"]);
   queue.clear();
   assert.deepEqual(lines(queue, 1), ["run 1"]);

@@ -1,6 +1,7 @@
 // The module of the page itself, by the calls of the page.
 import assert from "node:assert/strict";
 import { test } from "node:test";
+import { matrixKey } from "../core/board/key_place.js";
 import { BenchCalls } from "../core/engine/bench_calls.js";
 import { Engine } from "../core/engine/engine.js";
 import { examplesOfPage, moduleOfPage } from "./page_session.js";
@@ -50,9 +51,9 @@ test("bytes that are no session are refused, and the session stays", async () =>
 
 test("keys are pressed, time passes, and the display shows it", async () => {
   const { calls } = await begin(calculator);
-  for (const place of ["2 1", "3 2"]) {
-    calls.press(place);
-    calls.release(place);
+  for (const key of [matrixKey(2, 1), matrixKey(3, 2)]) {
+    calls.press(key);
+    calls.release(key);
   }
   const frame = calls.advance(20000);
   assert.equal(frame.cycles, 20000);
@@ -61,7 +62,7 @@ test("keys are pressed, time passes, and the display shows it", async () => {
   assert.equal(frame.file.byteLength, 163856);
   const next = calls.advance(1000);
   assert.notEqual(next.file, frame.file);
-  calls.spare.push(frame.file);
+  calls.bench.spare.push(frame.file);
   assert.equal(calls.advance(1000).file, frame.file);
 });
 
@@ -70,11 +71,11 @@ test("a key goes down with the cycles that it came with, or when its time comes"
   const lampsOf = ({ look }) => / lamps (\S+)/.exec(look[0])[1];
   const linesOf = ({ ran }) => ran.map(({ line }) => line);
   const before = calls.advance(100000);
-  const frame = calls.advance(2000, "2 1");
+  const frame = calls.advance(2000, matrixKey(2, 1));
   assert.deepEqual(linesOf(frame), ["press 2 1", "run 2000"]);
   assert.notEqual(lampsOf(frame), lampsOf(before));
-  calls.release("2 1");
-  assert.deepEqual(linesOf(calls.advance(3000, "2 2")), ["run 2000", "release 2 1", "run 1000"]);
+  calls.release(matrixKey(2, 1));
+  assert.deepEqual(linesOf(calls.advance(3000, matrixKey(2, 2))), ["run 2000", "release 2 1", "run 1000"]);
   assert.deepEqual(linesOf(calls.advance(3000)), ["run 1000", "press 2 2", "run 2000"]);
 });
 

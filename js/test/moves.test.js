@@ -2,6 +2,7 @@
 import assert from "node:assert/strict";
 import { test } from "node:test";
 import { begin, counterOf } from "./page_session.js";
+import { matrixKey } from "../core/board/key_place.js";
 
 /** How a goal was reached. */
 async function goOn(calls, goal, most) {
@@ -91,9 +92,9 @@ function runOn(calls, frame) {
 test("over a delay of 24 seconds, and out of it: time that runs, by frames and at full speed", async () => {
   const { lines, cycles } = delay(5);
   const calls = await bench(`JMS wait\nend: JUN end\nwait: ${lines}BBL 0\n`);
-  const before = Buffer.from(calls.session.file);
+  const before = Buffer.from(calls.bench.session.file);
   const near = await calls.goOn({ kind: "over" });
-  assert.deepEqual([near.found.end, near.entries.length, Buffer.compare(before, calls.session.file)], ["bound", 0, 0]);
+  assert.deepEqual([near.found.end, near.entries.length, Buffer.compare(before, calls.bench.session.file)], ["bound", 0, 0]);
   const told = runOn(calls, 1543);
   assert.deepEqual([told.stop, counterOf(calls)], [{ why: "goal", id: 0, cycles: cycles + 3, returns: true }, "002"]);
   assert.ok(told.ran.every(({ line }) => /^run \d+$/.test(line)));
@@ -145,9 +146,9 @@ test("a breakpoint and a watch of the user come first; a goal that never comes d
   assert.equal(counterOf(calls), "016");
   assert.deepEqual(await goOn(calls, { kind: "change", place: "chain0.1" }), { cycles: 0, isReached: false, end: "lacks" });
   const empty = await begin("empty bench", "wire\n[[rom]]\nchip = 0\nport = \"0000\"\n.\nasm\nx: JUN x\n.\n");
-  const before = Buffer.from(empty.session.file);
+  const before = Buffer.from(empty.bench.session.file);
   const told = await empty.goOn({ kind: "change", place: "r4" }, 5000);
-  assert.deepEqual([told.found.end, told.entries.length, Buffer.compare(before, empty.session.file)], ["bound", 0, 0]);
+  assert.deepEqual([told.found.end, told.entries.length, Buffer.compare(before, empty.bench.session.file)], ["bound", 0, 0]);
 });
 
 test("a goal among presses of keys comes at the cycle at which it is reached", async () => {
@@ -155,15 +156,15 @@ test("a goal among presses of keys comes at the cycle at which it is reached", a
   calls.advance(100000);
   const before = calls.ask("lamps\n")[0];
   assert.equal((await calls.goOn({ kind: "change", place: "lamps" }, 100000)).found.end, "bound");
-  const begun = calls.session.count.total;
-  let told = calls.advance(5000, "2 1");
+  const begun = calls.bench.session.count.total;
+  let told = calls.advance(5000, matrixKey(2, 1));
   for (let frame = 0; !told.stop && frame < 100; frame++) told = calls.advance(1543);
-  assert.deepEqual([told.stop.why, told.stop.cycles], ["goal", calls.session.count.total - begun]);
+  assert.deepEqual([told.stop.why, told.stop.cycles], ["goal", calls.bench.session.count.total - begun]);
   assert.notEqual(calls.ask("lamps\n")[0], before);
   // A cycle before it they were as before.
   const again = await begin("calculator");
   again.advance(100000);
-  again.press("2 1");
+  again.press(matrixKey(2, 1));
   again.advance(told.stop.cycles - 1);
   assert.equal(again.ask("lamps\n")[0], before);
   again.advance(1);
@@ -173,8 +174,8 @@ test("a goal among presses of keys comes at the cycle at which it is reached", a
 test("a reset ends a move, and time runs on", async () => {
   const calls = await bench("end: JUN end\n");
   assert.equal((await calls.goOn({ kind: "change", place: "r4" })).found.end, "bound");
-  assert.equal(calls.debugger.isMoving, true);
+  assert.equal(calls.bench.debugger.isMoving, true);
   calls.advance(1543);
   await calls.serve("reset\n");
-  assert.equal(calls.debugger.isMoving, false);
+  assert.equal(calls.bench.debugger.isMoving, false);
 });

@@ -2,6 +2,7 @@
 
 import assert from "node:assert/strict";
 import test from "node:test";
+import { lineOfKey, matrixKey, textOfKey } from "../core/board/key_place.js";
 import { Pressing } from "../page/board/pressing.js";
 
 global.window = global;
@@ -21,19 +22,19 @@ function bench(isRunning) {
   const down = new Set();
   const done = [];
   const note = (word, key) => {
-    done.push(`${word} ${key}`);
-    if (word === "press") down.add(key);
-    else down.delete(key);
+    done.push(lineOfKey(word, key));
+    if (word === "press") down.add(textOfKey(key));
+    else down.delete(textOfKey(key));
   };
   const pressing = new Pressing({
     isRunning: () => isRunning,
-    isDown: (key) => down.has(key),
+    isDown: (key) => down.has(textOfKey(key)),
     press: (key) => note("press", key),
     release: (key) => note("release", key),
     change: note,
     meant: () => undefined,
   });
-  const buttons = ["0 0", "0 1"].map((key) => {
+  const buttons = [matrixKey(0, 0), matrixKey(0, 1)].map((key) => {
     const button = new FakeButton();
     pressing.listen(button, { key });
     return button;

@@ -71,7 +71,8 @@ test("lines, typed texts, and what is wrong with them", async () => {
     "no 44", "(a run takes 1 to 100,000 cycles, not 0)", "no 11", "(x is not a number from 0 to 4,294,967,295)",
   ]);
   assert.deepEqual(await ask("asm", "a: JMP b", "b: LDM 17", "."), [
-    "no 30 line 1", "(line 1: JMP is not an instruction; JUN?)", "(    a: JMP b)", "(line 2: LDM takes a value, 0 to 15)", "(    b: LDM 17)",
+    "no 30 line 1", "(line 1: JMP is not an instruction; JUN?)", "(    a: JMP b)", "(line 2: LDM takes a value, 0 to 15)",
+    "(    b: LDM 17)",
   ]);
   const [, why] = await ask("asm", "; \u00e9", ".");
   assert.match(why, /a byte that is neither a tab nor a printing character of ASCII/);

@@ -2,6 +2,7 @@
 import assert from "node:assert/strict";
 import { readFileSync, readdirSync } from "node:fs";
 import { test } from "node:test";
+import { matrixKey } from "../core/board/key_place.js";
 import { placeOf } from "../core/conditions/places.js";
 import { Face } from "../core/board/face.js";
 import { stepsOfStory } from "../core/help/story.js";
@@ -48,7 +49,7 @@ test("an act calls the page, and tells why it cannot", async () => {
   const note = (name) => (...words) => {
     done.push([name, ...words]);
   };
-  const key = { legend: "7", key: "0 0" };
+  const key = { legend: "7", key: matrixKey(0, 0) };
   let isDown = false;
   let isRunning = false;
   const calls = {

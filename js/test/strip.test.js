@@ -12,6 +12,7 @@ const own = (name) => readFileSync(new URL(`../../examples/printing_calculator/$
 const EXAMPLE = { name: "printing calculator", board: own("board.toml"), program: own("printing_calculator.asm"), lines: "" };
 const { printer, keys } = new Face(EXAMPLE.board);
 const PLACES = new Map([...keys].map(([place, { text }]) => [text, place]));
+const KEYS = new Map([...keys.values()].map(({ text, key }) => [text, key]));
 const DOWN = 2000;
 const UP = 14000;
 
@@ -35,9 +36,9 @@ async function press(told, names, byLines = false) {
   for (const name of names.split(" ")) {
     if (byLines) take(told, await told.calls.serve(`press ${PLACES.get(name)}\nrun ${DOWN}\nrelease ${PLACES.get(name)}\nrun ${UP}\n`));
     else {
-      told.calls.press(PLACES.get(name));
+      told.calls.press(KEYS.get(name));
       take(told, told.calls.advance(4000));
-      told.calls.release(PLACES.get(name));
+      told.calls.release(KEYS.get(name));
       take(told, told.calls.advance(UP));
     }
   }

@@ -1,8 +1,17 @@
 import assert from "node:assert/strict";
 import { test } from "node:test";
 import { Rate } from "../core/time/rate.js";
-import { MOST_AHEAD, MOST_DUE, REAL_CYCLES, RealTime } from "../core/time/real_time.js";
+import { CYCLES_PER_SECOND, CYCLE_US, EYE_CYCLES, FRAME_CYCLES, FRAME_MS, cyclesOfMs } from "../core/time/mcs4_time.js";
+import { MOST_AHEAD, MOST_DUE, RealTime } from "../core/time/real_time.js";
 import { wordsOfTime } from "../core/bench/words.js";
+
+test("cycles of the 4004: eight periods of a clock of 740,740.7 Hz", () => {
+  const cycles = (seconds) => (seconds * (5185185.185 / 7)) / 8;
+  assert.ok(Math.abs(CYCLE_US * cycles(1) - 1e6) < 0.001);
+  const rounded = [1, 0.03, 0.001, 0.02].map((time) => Math.round(cycles(time)));
+  assert.deepEqual([CYCLES_PER_SECOND, EYE_CYCLES, cyclesOfMs(1), cyclesOfMs(20)], rounded);
+  assert.equal(FRAME_CYCLES, Math.floor(cycles(FRAME_MS / 1000)));
+});
 
 test("a second of frames is 92,593 cycles, whatever their length", () => {
   for (const frame of [1000 / 60, 1000 / 144, 7, 100]) {
@@ -10,7 +19,7 @@ test("a second of frames is 92,593 cycles, whatever their length", () => {
     let sum = 0;
     let now = 0;
     for (; now < 10000; now += frame) sum += time.due(now);
-    assert.ok(Math.abs(sum - ((now - frame) / 1000) * REAL_CYCLES) < 1, `${frame}: ${sum}`);
+    assert.ok(Math.abs(sum - ((now - frame) / 1000) * CYCLES_PER_SECOND) < 1, `${frame}: ${sum}`);
   }
 });
 
@@ -49,8 +58,8 @@ function cyclesOf(frame, keys) {
     const due = time.due(now, ahead);
     assert.ok(due >= 0, `${due} at ${now}`);
     sum += due;
-    assert.ok(sum <= ((now + MOST_AHEAD) / 1000) * REAL_CYCLES, `ahead of its time at ${now}`);
-    assert.ok(Math.abs(time.reached - (sum + Math.max(0, time.owed)) * (1000 / REAL_CYCLES)) < 0.001, `reached at ${now}`);
+    assert.ok(sum <= ((now + MOST_AHEAD) / 1000) * CYCLES_PER_SECOND, `ahead of its time at ${now}`);
+    assert.ok(Math.abs(time.reached - (sum + Math.max(0, time.owed)) * (1000 / CYCLES_PER_SECOND)) < 0.001, `reached at ${now}`);
   }
   return sum;
 }
@@ -71,7 +80,7 @@ test("a key is served at once, and frames then wait until it is paid back", () =
   assert.equal(time.due(20), 0);
   assert.equal(time.due(25), 0);
   assert.equal(time.due(31.6), 0);
-  assert.equal(time.due(40), Math.floor(40 * REAL_CYCLES / 1000) - 925 - 464 - 1543);
+  assert.equal(time.due(40), Math.floor(40 * CYCLES_PER_SECOND / 1000) - 925 - 464 - 1543);
 });
 
 test("what was lent is forgotten where time stands still", () => {

@@ -63,12 +63,12 @@ test("where they are cancelled nothing was done, and nothing was counted", async
   const calls = await ready({ from: 2 });
   const before = calls.ask("seq\nstate\n");
   let asked = 0;
-  calls.goesOn = async () => {
+  calls.bench.goesOn = async () => {
     asked += 1;
     return asked < 2;
   };
   await assert.rejects(calls.serveTyped("run 4\nrun 4\nrun 4\n"), Cancelled);
   assert.deepEqual(calls.ask("seq\nstate\n"), before);
-  calls.goesOn = async () => true;
+  calls.bench.goesOn = async () => true;
   assert.deepEqual((await typed(calls, "run 1000\n")).told, ["run 5: ran 5 end"]);
 });

@@ -1,6 +1,7 @@
 // Faults that everyone makes once, on the module of the page itself.
 import assert from "node:assert/strict";
 import { before, test } from "node:test";
+import { matrixKey, pinKey } from "../core/board/key_place.js";
 import { DebugSession } from "../core/debug/debug_session.js";
 import { KINDS } from "../words/debug.js";
 import { SourceMap } from "../core/machine/source_map.js";
@@ -108,14 +109,14 @@ test("later a sample is looked at, and all again after a key", () => {
   assert.equal(debug.usual.mostOf([{ line: "run 8000000", change: null }]), 10000);
   debug.usual.left = 0;
   assert.equal(looked(), 2);
-  debug.usual.mostOf([{ line: "press 0 0", change: { key: "0 0", word: "press" } }, { line: "run 5", change: null }]);
+  debug.usual.mostOf([{ line: "press 0 0", change: { key: matrixKey(0, 0), word: "press" } }, { line: "run 5", change: null }]);
   assert.equal(looked(), 32);
 });
 
 test("where lamps wait for a key it is looked for once they are told, and told with the next frame", () => {
   const program = "JMS a\nend: JUN end\na: FIM P0, 0x10\nSRC P0\nWRR\nBBL 0\n";
   const [now, later] = [open(program), open(program)];
-  for (const each of [now, later]) each.session.queue.press("test 1");
+  for (const each of [now, later]) each.session.queue.press(pinKey(1));
   const wanted = now.advance(1543).tally.usual;
   assert.equal(wanted.length, 1);
   const hurried = later.advance(1543, true);

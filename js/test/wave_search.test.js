@@ -6,7 +6,7 @@ import { find, readSearch } from "../core/waves/wave_search.js";
 import { lineNamed } from "../core/waves/trigger.js";
 import { begin, examplesOfPage } from "./page_session.js";
 
-const line = (name, kind, rest = {}) => ({ name, title: "", group: "", kind, places: [], members: [], width: 1, ...rest });
+const line = (name, kind, rest = {}) => ({ name, title: "", group: "", kind, places: [], members: [], width: 1, columns: 0, ...rest });
 const LINES = [
   line("rom0.0", "level"), line("rom0.1", "level"), line("lamp.minus", "level", { group: "lamps" }),
   line("lamp1", "level", { group: "lamps", title: "over.flow" }), line("key.7", "key", { group: "keys" }),

@@ -42,8 +42,8 @@ test("the lines of a board have the names of the manual, and those of the board'
   assert.deepEqual(names.slice(30, 33), ["lamp0", "lamp.minus", "lamp2"]);
   assert.deepEqual(names.slice(33, 37), ["key.7", "key.CE", "key0.2", "key0.3"]);
   const ports = ["rom0[3:0]", "rom1[3:0]", "rom2[3:0]", "ram0.0[3:0]", "ram1.0[3:0]", "chain0[9:0]"];
-  assert.deepEqual(names.slice(-10), ["key9.7", "test", ...ports, "pc", "label"]);
-  assert.equal(names.length, 12 + 8 + 10 + 3 + 80 + 3 + 6);
+  assert.deepEqual(names.slice(-12), ["key9.7", "test", ...ports, "shift.chain0", "scan.keys", "pc", "label"]);
+  assert.equal(names.length, 12 + 8 + 10 + 3 + 80 + 3 + 6 + 2);
 });
 
 test("what each line is asked for by: a lamp by the line that it is at, a key by its place", () => {

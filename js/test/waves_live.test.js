@@ -1,6 +1,7 @@
 // Recordings while time runs, with the module of the page itself: what they have is what a recording once has.
 import assert from "node:assert/strict";
 import { test } from "node:test";
+import { matrixKey } from "../core/board/key_place.js";
 import { LiveWaves } from "../core/waves/live_waves.js";
 import { vcdParts } from "../core/waves/vcd.js";
 import { Waves } from "../core/waves/wave_recording.js";
@@ -27,9 +28,9 @@ test("frames, keys, lines and steps are recorded as they are recorded up to here
   texts.values = ["r5", "p2", "ram.0.0x12"];
   const { live, did } = record(calls, texts);
   for (let frame = 0; frame < 4; frame++) did(calls.advance(1543));
-  did(calls.advance(1543, "2 0"));
+  did(calls.advance(1543, matrixKey(2, 0)));
   did(calls.advance(3000));
-  calls.release("2 0");
+  calls.release(matrixKey(2, 0));
   did(calls.advance(4000));
   did(await calls.serve("step\nrun 777\npress 0 0\nrun 50\nrelease 0 0\npoke r5 3\nstep\nreset\nstep\nrun 100\n"));
   did(await calls.goOn({ kind: "over" }));
@@ -53,7 +54,7 @@ test("the session is the same with and without a recording", async () => {
     calls.advance(5000);
   }
   assert.deepEqual(plain.calls.ask("state\n"), recording.calls.ask("state\n"));
-  assert.deepEqual(plain.calls.session.file, recording.calls.session.file);
+  assert.deepEqual(plain.calls.bench.session.file, recording.calls.bench.session.file);
 });
 
 test("only the last cycles are kept, and they are what they were", async () => {
@@ -125,7 +126,7 @@ test("a key is an edge, too", async () => {
   const { calls, texts } = await beginWith("calculator", "run 30000\n");
   const { live, did } = record(calls, texts, { most: 9000, behind: 3000, trigger: "key 1 rises" });
   did(calls.advance(1543));
-  did(calls.advance(1543, "2 0"));
+  did(calls.advance(1543, matrixKey(2, 0)));
   did(calls.advance(4000));
   assert.equal(live.waves.valueAt(numberOf(live.waves, "key.1"), live.triggered), "1");
   assert.deepEqual([live.triggered, live.over], [1543, "trigger"]);

@@ -28,12 +28,12 @@ function wholeText(waves) {
 test("the stopwatch counts every 926 cycles, and its session is as it was", async () => {
   const { calls, texts } = await begin("stopwatch");
   await calls.serve("test 0\n");
-  const before = calls.session.file.slice();
+  const before = calls.bench.session.file.slice();
   const waves = new Waves(await calls.record(20000, false, texts));
   const lamp = waves.changesOf(numberOf(waves, "lamp15"));
   assert.ok(lamp.length > 15);
   assert.deepEqual(new Set([...lamp].slice(2).map((moment, at) => moment - lamp[at + 1])), new Set([926]));
-  assert.deepEqual(calls.session.file, before);
+  assert.deepEqual(calls.bench.session.file, before);
   assert.equal(waves.labelAt(0), "wait");
   assert.match(waves.instructionAt(lamp[3] - 1).source, /^WMP/);
 });
@@ -45,7 +45,7 @@ test("what was recorded up to here is what is recorded from there on", async () 
   await calls.serve("run 1500\n");
   calls.advance(2000);
   await calls.serve("break 0x00C\nrun 500\nunbreak 0x00C\nstep\n");
-  const before = calls.session.file.slice();
+  const before = calls.bench.session.file.slice();
   const whole = new Waves(await calls.record(100000, true, texts));
   const cycles = whole.cycles - 1001;
   assert.ok(cycles > 3500 && cycles < 4000);
@@ -54,7 +54,7 @@ test("what was recorded up to here is what is recorded from there on", async () 
   assert.equal(earlier.cycles, cycles);
   const short = wholeText(earlier).split("\n").slice(0, -2).join("\n");
   assert.ok(wholeText(later).startsWith(short));
-  assert.deepEqual(calls.session.file, before);
+  assert.deepEqual(calls.bench.session.file, before);
 });
 
 test("keys that were pressed stand in the past, and it ends as it is here", async () => {
@@ -142,9 +142,9 @@ test("a recording that is written piece by piece is the same file, also of a few
     for (const some of [numbers, numbers.filter((line) => line % 7 === 3), numbers.filter((line) => whole.lines[line].kind === "port")]) {
       const wanted = neededLines(whole.lines, some);
       let [text, parts] = [null, []];
-      const state = calls.session.file.slice();
+      const state = calls.bench.session.file.slice();
       const { program } = whole;
-      for await (const waves of recordPieces(calls.engine, state, { lines: wanted.lines, program, cycles: 50001 }, async () => {})) {
+      for await (const waves of recordPieces(calls.bench.engine, state, { lines: wanted.lines, program, cycles: 50001 }, async () => {})) {
         if (!text) {
           text = new VcdText(waves, wanted.chosen);
           parts.push(text.head());

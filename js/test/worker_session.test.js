@@ -1,5 +1,6 @@
 import assert from "node:assert/strict";
 import { test } from "node:test";
+import { matrixKey } from "../core/board/key_place.js";
 import { Debugger } from "../core/debug/debugger.js";
 import { WorkerSession, MOST_ENTRIES } from "../core/engine/worker_session.js";
 import { FullSpeed } from "../core/engine/full_speed.js";
@@ -14,7 +15,7 @@ function begin() {
 
 test("cycles pass in one call, which looks as well", () => {
   const { engine, session } = begin();
-  session.queue.press("0 1");
+  session.queue.press(matrixKey(0, 1));
   const frame = session.advance(5000);
   assert.equal(engine.calls, 1);
   assert.deepEqual(frame.ran.map(({ line }) => line), ["press 0 1", "run 5000"]);
@@ -34,7 +35,7 @@ test("a run that stops early: what came after it is not done", () => {
 
 test("a failed call changes nothing, and the keys wait on", () => {
   const { engine, session } = begin();
-  session.queue.press("0 1");
+  session.queue.press(matrixKey(0, 1));
   engine.memory = 0;
   assert.throws(() => session.advance(10), /no 90/);
   assert.equal(session.file[0], 0);
@@ -75,7 +76,7 @@ test("what lines may have changed is told", async () => {
   };
   assert.deepEqual(await of("step\nseq\n"), [false, false]);
   assert.deepEqual(await of("poke r5 9\n"), [true, false]);
-  session.queue.press("0 1");
+  session.queue.press(matrixKey(0, 1));
   assert.deepEqual(await of("wire\n.\n"), [true, true]);
   assert.deepEqual(session.queue.plan(1).map(({ line }) => line), ["run 1"]);
 });
@@ -107,7 +108,7 @@ test("a hidden page is told once a second, and of keys at once", () => {
   fullSpeed.start(true);
   fullSpeed.batch(machine);
   assert.equal(fullSpeed.isToBeTold(true), false);
-  session.queue.press("0 1");
+  session.queue.press(matrixKey(0, 1));
   fullSpeed.batch(machine);
   assert.equal(fullSpeed.isToBeTold(true), true);
 });

@@ -108,6 +108,15 @@ export const TIME_RUNS_ALREADY = "time runs already: pause comes first";
 /** @type {(count: number) => string} */
 export const notesBefore = (count) => `(${count} notes before these)`;
 
+// --- adapter/launched_test.js ---
+export const TEST_NEEDS_TESTS = "a test needs `tests`, the name of its text";
+/** @type {(name: string, file: string) => string} */
+export const noSuchTest = (name, file) => `${file} has no test ${name}`;
+/** @type {(name: string) => string} */
+export const testHasPassed = (name) => `The test passes: ${name}. This is its end; step back for what led there.`;
+/** @type {(file: string, line: number, words: string) => string} */
+export const testsHaveFault = (file, line, words) => `${file}, line ${line}: ${words || "it has an error"}; no test is run`;
+
 // --- adapter/dap_protocol.js ---
 /** @type {(name: string) => string} */
 export const isWhole = (name) => `${name} is a whole number`;

@@ -1,5 +1,7 @@
 // What people read of the board's face: lamps, keys, sound, and the wiring in words.
 
+import { EYE_CYCLES, EYE_MS } from "../core/time/mcs4_time.js";
+
 // --- board/board_keys.js ---
 /** @type {(legend: string, row: number, column: number) => string} */
 export const keyAt = (legend, row, column) => `key ${legend}, row ${row}, column ${column}`;
@@ -123,7 +125,7 @@ export const isRefusal = (line, answer) => `line ${line} of the answers is a ref
 /** @type {(line: number, board: string) => string} */
 export const isInstant = (line, board) => (
   `line ${line} of the answers has the lamps at an instant, and the digits of ${board} are lit by turns; `
-  + "`trace 2778 lamps` asks what is seen in 30 ms");
+  + `\`trace ${EYE_CYCLES} lamps\` asks what is seen in ${EYE_MS} ms`);
 /** @type {(line: number, count: number, board: string, needed: number) => string} */
 export const tooFewLamps = (line, count, board, needed) => (
   `line ${line} of the answers has ${count} lamps, and the display of ${board} needs ${needed}`);

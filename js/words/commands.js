@@ -1,6 +1,7 @@
 // What a person reads of the commands of mcs4: their help, from which manual pages and completions are made, too, and what is wrong with
 // arguments.
 
+import { EYE_CYCLES, EYE_MS } from "../core/time/mcs4_time.js";
 import { didYouMean } from "./text.js";
 
 /**
@@ -143,8 +144,8 @@ export const COMMAND_WORDS = {
       \`# display 3: 8 digits with points\` makes a display of lamp 3 and those behind it: five lamps for each digit, the leftmost digit
       first: those for 8, 4, 2 and 1, and the point. \`# display 0: 2 digits of 7 segments\` has seven lamps for each digit, segments a to
       g. \`# display 0: 4 digits of 7 segments scanned by 7\` has one set of segments, and from lamp 7 on a lamp for each digit: no instant
-      shows the number, but \`trace 2778 lamps\` does, which is 30 ms. \`# lamp 0: minus overflow\` names lamps: a lit \`minus\` stands
-      before the number, other names after it.
+      shows the number, but \`trace ${EYE_CYCLES} lamps\` does, which is ${EYE_MS} ms. \`# lamp 0: minus overflow\` names lamps: a lit
+      \`minus\` stands before the number, other names after it.
 
       Leading zeros are dark, and so is a point after the last digit. Lamps that are not a digit are shown as \`?\`. Nothing is printed if
       there is an error.`,
@@ -653,6 +654,18 @@ export const noNamedProver = (name) => `MCS4_PROVE names ${name}, which is not t
 /** @type {(fault: string) => string} */
 export const noProver = (fault) => (
   `the program that searches, shipped/mcs4-prove, is not started: ${fault}; tools/build mcs4_prove proves and builds it`);
+/** @type {(fault: string) => string} */
+export const noProverHere = (fault) => (
+  `the program that searches, shipped/mcs4-prove, is not started: ${fault}. mcs4 explore tries keys here, but proves nothing`);
+export const NO_PROGRAM_IN_COPY = "this copy of the bench has no native program";
+/** @type {(platform: string, machine: string) => string} */
+export const notForSystem = (platform, machine) => `it is for Linux on x86-64, and this is ${platform} on ${machine}`;
+/** @type {(fault: string) => string} */
+export const needsProgram = (fault) => (
+  `only the native program keeps a session file, and it is not started: ${fault}. Commands that keep none run here`);
+/** @type {(fault: string) => string} */
+export const runsOnModule = (fault) => (
+  `commands run on the proved module, more slowly, since the native program is not started: ${fault}. This is said once`);
 /** @type {(session: string, number: number, words: string) => string} */
 export const sessionRefused = (session, number, words) => `the session ${session} was refused: no ${number}: ${words}`;
 /** @type {(program: string, address: string, is: string, line: number, makes: string) => string} */

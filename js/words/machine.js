@@ -175,4 +175,4 @@ export const STOP_AT_THIS = " Break on this";
 export const mostWatched = (most) => `${most} is the most.`;
 /** @type {(name: string) => string} */
 export const stopWatching = (name) => `stop showing ${name}`;
-export const REMOVE = "Remove";
+export const WHEN_PAUSED = "seen when paused";

@@ -83,6 +83,8 @@ export const TAKE_FROM_ROM = "Disassemble ROM";
 // --- text_ties.js ---
 export const RUNNING_TESTS = "Running the tests.";
 export const KEY_SCAN_INSERTED = "A routine that scans the keys is at the end of the source.";
+/** @type {(line: number) => string} */
+export const keyScanAt = (line) => `A routine that scans the keys is at line ${line} of the source.`;
 export const HAS_TEST = "Tests has it already.";
 export const TEST_ADDED = "A test was added.";
 export const TEST_AT_END = "It is at the end of Tests, where Run tests runs it.";

@@ -2,6 +2,7 @@
 
 import { counted } from "../core/bench/numbers.js";
 import { wordsOfCoverage } from "../core/testing/coverage.js";
+import { CYCLE_MS } from "../core/time/mcs4_time.js";
 
 /**
  * @typedef {import("../core/testing/prepared.js").TextFault} TextFault
@@ -47,7 +48,7 @@ export function wordsOfFaults(faults, wordsOfRefusal) {
  * @param {Outcome} outcome
  */
 export function wordsOfTime({ cycles }) {
-  const time = cycles * 0.0108;
+  const time = cycles * CYCLE_MS;
   return `${counted(cycles, "cycle")}, ${time < 1000 ? `${time.toFixed(1)} ms` : `${(time / 1000).toFixed(2)} s`}`;
 }
 

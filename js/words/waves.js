@@ -45,6 +45,8 @@ export const NO_LINE_CHOSEN = "No line is chosen: choose the lines for the file.
 export const noSuchName = (name) => `nothing here is called ${name}; Rows lists the names`;
 export const LABEL_FORM = "a place of the program is written as @LABEL";
 /** @type {(name: string) => string} */
+export const decodedForm = (name) => `${name} is decoded from other lines: name one of them, as in: rom0.0 rises`;
+/** @type {(name: string) => string} */
 export const numberForm = (name) => `${name} is a number: it is written as ${name} changes, or as ${name} = 5`;
 
 // --- waves/wave_view.js ---
@@ -85,8 +87,8 @@ export const notListed = (count) => (
   + "as in: ram 0 0x12, or: st 0 1.");
 /** @type {Record<string, string>} */
 export const TITLES = {
-  lamps: "Lamps", keys: "Keys", test: "TEST pin", numbers: "Ports and chains as numbers", registers: "Registers and pairs", pc: "Counter",
-  label: "Label",
+  lamps: "Lamps", keys: "Keys", test: "TEST pin", numbers: "Ports and chains as numbers", decoders: "Decoders",
+  registers: "Registers and pairs", pc: "Counter", label: "Label",
 };
 
 // --- waves/wave_choice.js ---
@@ -98,7 +100,21 @@ export const titleOfChip = (group) => group.replace(/^rom/, "ROM ").replace(/^ra
 /** How the name of a group of characters of RAM begins. */
 export const RAM_GROUP = "RAM, ";
 
+// --- waves/decoders.js ---
+/** @type {(value: string) => string} what a shift register has at rest */
+export const atRest = (value) => `= ${value}`;
+export const NO_ROW = "-";
+/** @type {(rows: number[]) => string} */
+export const rowsDriven = (rows) => `${rows.length === 1 ? "row" : "rows"} ${rows.join("+")}`;
+/** @type {(columns: number[]) => string} */
+export const columnsAnswer = (columns) => `${columns.length === 1 ? "column" : "columns"} ${columns.join("+")}`;
+/** @type {(driven: string, answer: string) => string} */
+export const rowsAnswer = (driven, answer) => `${driven}: ${answer}`;
+
 // --- waves/wave_lines.js ---
+/** @type {(chain: number) => string} */
+export const shiftOf = (chain) => `4003 shift-in ${chain}`;
+export const KEY_SCAN = "key scan";
 /** @type {(bank: string) => string} */
 export const ramGroup = (bank) => `${RAM_GROUP}bank ${bank}`;
 export const SRC_OF_ROMS = "the SRC byte that the ROMs keep";
@@ -117,6 +133,8 @@ export const noLabel = (label) => `The program of this recording has no label ${
 /** @type {(name: string) => string} */
 export const notRecorded = (name) => `Nothing that was recorded is called ${name}: choose it, and record again.`;
 export const NO_LINE_MARKED = "No line is marked.";
+/** @type {(name: string) => string} */
+export const isDecoded = (name) => `${name} is decoded: look for its next change, or for a key of the key scan.`;
 /** @type {(name: string) => string} */
 export const isNumber = (name) => `${name} is a number: it changes, or it is = 5.`;
 /** @type {(value: string, forms: string) => string} */

@@ -113,16 +113,39 @@ is_installed() {
     [ -f "$top/installed" ] && [ ! -e "$top/crates.txt" ]
 }
 
+# Begin the words about a program for other systems, and about one for this system that it does not run.
+is_for="it is for Linux on"
+does_not_run="it does not run on this system"
+
+# Whether this system is none that a program is built for; `fault` says so then. (All that is asked of it is `uname`: it may lack all else.)
+is_other_system() {
+    case "$(uname -s) $(uname -m)" in
+    "Linux x86_64" | "Linux aarch64") return 1 ;;
+    esac
+    fault="$is_for x86-64, and this is $(uname -s) on $(uname -m)"
+}
+
+# Whether the fault of a program is its system, and none is built here that is for it: commands run on the proved module then.
+is_without_program() {
+    case $fault in
+    "$is_for"*) ;;
+    "$does_not_run"*) is_installed || ! command -v rt > /dev/null ;;
+    *) return 1 ;;
+    esac
+}
+
 # Finds a program that is installed: its file, and the name of its checksum.
 find_installed() {
-    if [ ! -x "$1" ]; then
+    if { [ ! -x "$1" ] || [ ! -e /lib64/ld-linux-x86-64.so.2 ]; } && is_other_system; then
+        return
+    elif [ ! -x "$1" ]; then
         fault="it is not there; install it again"
     elif ! command -v sha256sum > /dev/null; then
         fault="there is no sha256sum (Debian's package coreutils) to compare its checksum with"
     elif [ "$(sha256sum < "$1")" != "$(sed -n "s/^$2 //p" "$top/installed")  -" ]; then
         fault="it is damaged: its checksum is not the one in $top/installed; install it again"
     elif [ ! -e /lib64/ld-linux-x86-64.so.2 ] && ! runs_here "$1"; then
-        fault="it does not run on this system, $(uname -s) on $(uname -m); install it again"
+        fault="$does_not_run, $(uname -s) on $(uname -m); install it again"
     else
         program=$1
     fi
@@ -159,7 +182,7 @@ find_program() {
         find_installed "$shipped" program
         return
     fi
-    if recall; then return; fi
+    if recall || is_other_system; then return; fi
     . "$top/tools/lib/sums.sh"
     kept=
     if make_remembered; then
@@ -184,6 +207,7 @@ find_prover() {
         find_installed "$prover" prover
         return
     fi
+    if is_other_system; then return; fi
     . "$top/tools/lib/sums.sh"
     sources=$(sum_of_crate mcs4_prove)
     if is_built "$sources" "$built_prover"; then
@@ -194,11 +218,13 @@ find_prover() {
     fi
 }
 
-# The program that is to be started: finds it, or says why there is none and proves and builds it first. That it is the shipped one is
-# said once to each user.
-need_program() {
+# Finds the program that is to be started, or says why there is none and proves and builds it first. `program` is empty where no program is
+# for this system. That it is the shipped one is said once to each user.
+find_or_build() {
     find_program
-    if [ -n "$fault" ] && is_installed; then
+    if [ -n "$fault" ] && is_without_program; then
+        program=
+    elif [ -n "$fault" ] && is_installed; then
         echo "mcs4: $shipped is not started: $fault" >&2 || :
         exit 126
     elif [ -n "$fault" ]; then
@@ -209,4 +235,12 @@ need_program() {
         echo "mcs4: this is the program in shipped/. It was proved and built from these very sources, but not on this machine; tools/build" \
             "proves and builds it here. This is said once" >&2 || :
     fi
+}
+
+# The program that is to be started, which keeps a session file: it ends where no program is for this system.
+need_program() {
+    find_or_build
+    if [ -n "$program" ]; then return; fi
+    echo "mcs4: only the native program keeps a session file, and it is not started: $fault. Commands that keep none run here" >&2 || :
+    exit 1
 }

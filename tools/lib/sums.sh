@@ -138,14 +138,11 @@ is_built() {
     [ -x "${2:-$built}" ] && is_own_note && grep -qxF -- "$1 $(sum_of_input < "${2:-$built}")" "$built_from"
 }
 
-# Begins the words about a program that is whole and of these sources, but not for this system.
-does_not_run="it does not run on this system"
-
 # Why a shipped program is not to be started on this system over sources of this checksum; nothing where it is. Its file, its name in
 # shipped/SUMS, and the machine that it is for, as `uname -m` names it.
 fault_of_shipped() {
     if [ "$(uname -s) $(uname -m)" != "Linux $4" ]; then
-        echo "it is for Linux on $(echo "$4" | tr _ -), and this is $(uname -s) on $(uname -m)"
+        echo "$is_for $(echo "$4" | tr _ -), and this is $(uname -s) on $(uname -m)"
     elif [ ! -f "$2" ] || [ ! -f "$sums" ]; then
         echo "it is not there"
     elif [ "$(shipped_sum "$(echo "$3-sources" | sed 's/^program-//')")" != "$1" ]; then

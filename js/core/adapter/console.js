@@ -109,11 +109,10 @@ export class Console {
     return this.queue(keys);
   }
 
-  /** @param {{ name: string, press: string }[]} keys */
+  /** @param {import("../testing/test_text.js").Key[]} keys */
   queue(keys) {
     const { queue } = this.session.debugger.session;
-    for (const { press } of keys) {
-      const key = press.startsWith("press ") ? press.slice("press ".length) : press;
+    for (const { key } of keys) {
       queue.press(key);
       queue.release(key);
     }

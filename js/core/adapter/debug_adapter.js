@@ -154,6 +154,7 @@ export class DebugAdapter {
     this.open = { launched, machine, breakpoints, console: lines, answering };
     if (this.shownBoard) this.shownBoard = new ShownBoard(machine);
     this.tellBoard();
+    if (launched.note) this.output(`${launched.note}\n`, "console");
   }
 
   /** @param {Launched} launched */
@@ -183,8 +184,8 @@ export class DebugAdapter {
   }
 
   /** @param {Launched} launched */
-  given({ program, board }) {
-    return { program, board };
+  given({ program, board, test }) {
+    return test ? { test: test.name, tests: test.file } : { program, board };
   }
 
   /** Time that runs is stopped. */
@@ -405,6 +406,7 @@ export class DebugAdapter {
         return this.shownBoard.take();
       },
       changeKey: (args) => this.changeKey(args),
+      tearPaper: () => (this.shownBoard ? this.shownBoard.tear() : undefined),
     };
   }
 

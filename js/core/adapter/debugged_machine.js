@@ -2,7 +2,7 @@
 // is told once it stops.
 
 import { Cancelled } from "../bench/faults.js";
-import { CYCLE_TIME } from "../time/cycles.js";
+import { CYCLE_MS, FRAME_CYCLES } from "../time/mcs4_time.js";
 import { Shown } from "./shown.js";
 import { fail, wordsOf } from "./dap_protocol.js";
 import * as say from "../../words/adapter.js";
@@ -18,9 +18,17 @@ import { stoppedAt } from "../../words/stops.js";
  *
  * How a move ended: its reason as the protocol has it, the words, and the breakpoint that stopped it, 0 for none.
  * @typedef {{ reason: string, words: string, id: number }} Ended
- *
- * @typedef {{ stopped: (ended: Ended) => void, output: (words: string, category: "console" | "stdout" | "stderr") => void,
- *   pause: () => Promise<void>, looked: () => void }} MachineCalls `pause` lets others have their turn; what is shown may be another now
+ */
+
+/**
+ * What a moved session calls of its front end.
+ * @typedef {object} MachineCalls
+ * @property {(ended: Ended) => void} stopped Reports that a move has ended. Called once for each move, after the session stands.
+ * @property {(words: string, category: "console" | "stdout" | "stderr") => void} output Prints words, which end with a line feed, in one of
+ *   the client's categories.
+ * @property {() => Promise<void>} pause Resolves after other work had its turn; called between the pieces of a move.
+ * @property {() => void} looked Reports that time has passed, so what a view shows may be old. Called at most ten times a second while
+ *   time runs.
  */
 
 /** @type {Record<string, string>} what the protocol calls why a run stopped */
@@ -33,8 +41,6 @@ const REACHED = { stop: "pause", arrival: "arrival" };
 const MET = { break: "break", change: "watch", beginning: "beginning" };
 /** What is shown is looked at so many milliseconds after it was last. */
 const LOOK_TIME = 100;
-/** In real time so many cycles are done at once: a sixtieth of a second. */
-const REAL_PIECE = 1543;
 
 export class Machine {
   /**
@@ -45,7 +51,7 @@ export class Machine {
    */
   constructor(session, kept, calls, isRealTime = false) {
     this.isRealTime = isRealTime;
-    if (isRealTime) session.largestPiece = REAL_PIECE;
+    if (isRealTime) session.largestPiece = FRAME_CYCLES;
     /** When the move began. */
     this.begun = 0;
     this.session = session;
@@ -164,7 +170,7 @@ export class Machine {
    */
   async waitFor(cycles) {
     this.calls.looked();
-    const left = cycles * CYCLE_TIME - (performance.now() - this.begun);
+    const left = cycles * CYCLE_MS - (performance.now() - this.begun);
     if (left > 0) await new Promise((settle) => { setTimeout(settle, left); });
   }
 

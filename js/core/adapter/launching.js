@@ -5,6 +5,7 @@ import { hex } from "../bench/numbers.js";
 import { DebugSession } from "../debug/debug_session.js";
 import { PROJECT_FILE, readProjectToml } from "../project/project_toml.js";
 import { fieldOf } from "../server/framing.js";
+import { addressOf, nameOfAddress, sessionOfTest, textsOfTest } from "./launched_test.js";
 import { boardFor } from "../server/kinds.js";
 import { faultsOfLines, sentText } from "../text/text_fault.js";
 import { readProgram, differenceOf } from "../engine/program_check.js";
@@ -27,11 +28,12 @@ import { leadsOut } from "../../words/server.js";
  *   open: (name: string) => Promise<OpenFile>, make: (name: string) => Promise<OpenFile>, pause: () => Promise<void> }} Host
  *
  * What was launched: `program` is the name of its file, "" where its text was made of what stands in ROM.
- * `nameOf` gives the whole name of a file.
+ * `nameOf` gives the whole name of a file. `test` is the one that is debugged, and `note` what came of it.
  * @typedef {{ session: DebugSession, kept: KeptSession | null, program: string, board: string, stopsOnEntry: boolean, isDebugged: boolean,
- *   isRealTime: boolean, nameOf: (name: string) => string }} Launched
+ *   isRealTime: boolean, nameOf: (name: string) => string, test: TestTexts | null, note: string }} Launched
  *
- * @typedef {{ board: string, program: string, session: string, load: boolean }} Wanted whole names, "" for none
+ * @typedef {import("./launched_test.js").TestTexts} TestTexts
+ * @typedef {{ board: string, program: string, session: string, load: boolean, test: TestTexts | null }} Wanted whole names, "" for none
  */
 
 /** @param {string} name */
@@ -44,6 +46,13 @@ const lastPart = (name) => name.replace(/^.*[\\/]/, "");
  */
 export function readWanted(args, host) {
   const folder = textOrNone(args, "cwd");
+  const test = textOrNone(args, "test");
+  if (test !== "") {
+    const file = textOrNone(args, "tests");
+    if (file === "") throw new AdapterError(say.TEST_NEEDS_TESTS, true);
+    const texts = textsOfTest(test, host.nameOf(file, folder), host.read);
+    return { board: texts.board, program: texts.program, session: "", load: false, test: texts };
+  }
   const names = ["project", "board", "program", "session"].map((each) => textOrNone(args, each));
   const [project, ownBoard, ownProgram, session] = names.map((name) => (name === "" ? "" : host.nameOf(name, folder)));
   const named = project === "" ? { board: "", program: "" } : filesOf(project, host);
@@ -55,7 +64,7 @@ export function readWanted(args, host) {
   if (program !== "" && session === program) throw new AdapterError(say.ONE_FILE, true);
   const found = program === "" ? "" : boardOf(program, host);
   const board = ownBoard || named.board || (host.isThere(found) ? found : "");
-  return { board, program, session, load: flagOf(args, "load", false) };
+  return { board, program, session, load: flagOf(args, "load", false), test: null };
 }
 
 /**
@@ -83,12 +92,9 @@ function filesOf(name, host) {
  * @param {Host} host
  */
 function boardOf(program, host) {
-  const address = `file://${program.split("/").map(encodeURIComponent).join("/")}`;
-  /** @type {(uri: string) => string} */
-  const nameOf = (uri) => decodeURIComponent(uri.slice("file://".length));
-  const { uri, folder } = boardFor(address, (each) => host.read(nameOf(each)));
-  const board = nameOf(uri);
-  if (folder !== "" && !host.isInside(board, nameOf(folder))) throw new AdapterError(leadsOut(board), true);
+  const { uri, folder } = boardFor(addressOf(program), (each) => host.read(nameOfAddress(each)));
+  const board = nameOfAddress(uri);
+  if (folder !== "" && !host.isInside(board, nameOfAddress(folder))) throw new AdapterError(leadsOut(board), true);
   return board;
 }
 
@@ -136,6 +142,19 @@ function ofTexts(engine, wanted, host, words) {
 }
 
 /**
+ * The session of a test, as it is where the test has failed, or at its end.
+ * @param {Engine} engine
+ * @param {TestTexts} test
+ * @param {Host} host
+ */
+async function ofTest(engine, test, host) {
+  const sources = test.tests.map((name) => ({ name, text: host.read(name) || "" }));
+  const texts = { boardText: textIn(test.board, "#", host), programText: textIn(test.program, ";", host), sources };
+  const { session, words } = await sessionOfTest(engine, texts, test, host.pause);
+  return { session, kept: null, note: words };
+}
+
+/**
  * The session of a file, and what writes it.
  * @param {Engine} engine
  * @param {Wanted} wanted
@@ -159,7 +178,7 @@ async function ofFile(engine, wanted, host, words) {
     if (isNew || wanted.load) await serveText(session, "asm", sentText(program, ";"), wanted.program, words);
     else if (program !== "") needInRom(session, engine, wanted, words);
     await kept.write(session.debugger.session);
-    return { session, kept };
+    return { session, kept, note: "" };
   } catch (thrown) {
     await file.end();
     throw thrown;
@@ -215,13 +234,14 @@ function needInRom(session, engine, { program, session: file }, words) {
  */
 export async function launch(engine, args, host, words) {
   const wanted = readWanted(args, host);
-  const { session, kept } = wanted.session === "" ? { session: ofTexts(engine, wanted, host, words), kept: null }
-    : await ofFile(engine, wanted, host, words);
+  const { session, kept, note } = wanted.test ? await ofTest(engine, wanted.test, host)
+    : wanted.session === "" ? { session: ofTexts(engine, wanted, host, words), kept: null, note: "" }
+      : await ofFile(engine, wanted, host, words);
   if (session.boardText === "") session.boardText = session.debugger.session.ask("board\n").slice(1).join("\n");
   session.debugger.usual.map = session.map;
   return {
     session, kept, program: wanted.program, board: wanted.board, stopsOnEntry: flagOf(args, "stopOnEntry", true),
     isDebugged: fieldOf(args, "noDebug") !== true, isRealTime: flagOf(args, "realTime", false),
-    nameOf: (name) => host.nameOf(name, textOrNone(args, "cwd")),
+    nameOf: (name) => host.nameOf(name, textOrNone(args, "cwd")), test: wanted.test, note,
   };
 }

@@ -3,6 +3,7 @@
 import { readBoard, readMarks } from "../bench/answers.js";
 import { hex, upTo } from "../bench/numbers.js";
 import { keysOf } from "../board/board_keys.js";
+import { KeysDown, textOfKey } from "../board/key_place.js";
 import { Standing, wordsOfCharacter } from "../debug/standing.js";
 import { setPlace } from "./set_place.js";
 import * as say from "../../words/adapter.js";
@@ -126,10 +127,10 @@ function lamps({ session, face, board }) {
 
 /** @param {Seen} seen */
 function keys({ standing, face, board }) {
-  const down = new Set(standing.ports.keys);
+  const down = new KeysDown(standing.ports.keys);
   return keysOf(board, face).filter(({ legend }) => legend !== "").map(({ key, legend }) => {
-    const isDown = key.startsWith("test ") ? standing.registers.test === key[5] : down.has(key.replace(" ", "."));
-    return { ...variable(legend, isDown ? say.DOWN : say.UP), place: `key ${key}` };
+    const isDown = down.has(key, standing.registers.test);
+    return { ...variable(legend, isDown ? say.DOWN : say.UP), place: `key ${textOfKey(key)}` };
   });
 }
 

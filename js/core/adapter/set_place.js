@@ -5,7 +5,7 @@ import { expressionOf } from "../conditions/condition_language.js";
 import { largestOf } from "../conditions/places.js";
 import { Unreadable } from "../conditions/scanner.js";
 import { linesOfSetting, settablePlace, settingOf } from "../conditions/setting.js";
-import { lineOfChange } from "../engine/key_queue.js";
+import { keyOfText, lineOfKey, textOfKey } from "../board/key_place.js";
 import { AdapterError } from "./dap_protocol.js";
 import * as say from "../../words/adapter.js";
 import { keysOf } from "../testing/test_text.js";
@@ -37,10 +37,11 @@ export function valueOf(text, session, begin = 0) {
  * @param {number} [begin] the column of the text in what was typed
  */
 function linesFor(place, text, session, begin = 0) {
-  if (place.startsWith("key ")) {
+  const key = place.startsWith("key ") ? keyOfText(place.slice("key ".length)) : null;
+  if (key) {
     const word = text.trim().toLowerCase();
     if (word !== say.DOWN && word !== say.UP) throw new AdapterError(say.KEY_IS);
-    return `${lineOfChange({ key: place.slice(4), word: word === say.DOWN ? "press" : "release" })}\n`;
+    return `${lineOfKey(word === say.DOWN ? "press" : "release", key)}\n`;
   }
   const value = valueOf(text, session, begin);
   if (value < 0 || value > largestOf(place)) throw new AdapterError(say.holds(place, largestOf(place)));
@@ -70,8 +71,8 @@ export function linesOfSet(text, session) {
 export function placeToSet(text, face) {
   const place = settablePlace(text);
   const [, name = ""] = /^key\s+(.+)$/i.exec(text.trim()) || [];
-  const key = keysOf(face).get(name);
-  if (key) return `key ${key.press.replace(/^press /, "")}`;
+  const named = keysOf(face).get(name);
+  if (named) return `key ${textOfKey(named.key)}`;
   if (place === "") throw new AdapterError(cannotBeSet(text.trim()));
   return place;
 }

@@ -4,7 +4,9 @@
 import { readBoard } from "../bench/answers.js";
 import { LookReader } from "../bench/look.js";
 import { Face } from "../board/face.js";
-import { lineOfChange } from "../engine/key_queue.js";
+import { printerOf } from "../board/face_board.js";
+import { keyOfText, lineOfKey } from "../board/key_place.js";
+import { Printing } from "../engine/printing.js";
 import { SEEN_QUESTION } from "../engine/seen_text.js";
 import { Shining } from "../engine/shining.js";
 import { fail } from "./dap_protocol.js";
@@ -15,12 +17,11 @@ import * as say from "../../words/adapter.js";
  * @typedef {import("./debugged_machine.js").Machine} Machine
  *
  * What is new: the answers to `board` and the board's text; a mark for each lamp, `*` where it is lit; the keys that are down, as
- * `row.column`; the level of TEST; whether time runs; and while it runs, what is lit in the 30 ms that come next.
+ * `row.column`; the level of TEST; whether time runs; while it runs, what is lit in the 30 ms that come next; and what was sent to the
+ * board's printer since the board is drawn.
  * @typedef {{ board?: string[], boardText?: string, lamps?: string, keys?: string[], test?: string, isRunning?: boolean,
- *   shone?: import("../engine/shining.js").Shone }} ShownNews
+ *   shone?: import("../engine/shining.js").Shone, printed?: import("../engine/printing.js").Printed }} ShownNews
  */
-
-const KEY = /^(\d{1,3} \d{1,3}|test [01])$/;
 
 export class ShownBoard {
   /** @param {Machine} machine */
@@ -50,13 +51,25 @@ export class ShownBoard {
       this.board = board;
       this.reader.forget();
       this.face = new Face(session.boardText);
-      this.lampCount = readBoard(bench.lookQuestions.board).lamps.length;
+      const wired = readBoard(bench.lookQuestions.board);
+      this.lampCount = wired.lamps.length;
+      const printer = printerOf(wired, this.face);
+      if (!printer) bench.printing = null;
+      else if (!bench.printing || !bench.printing.isOf(printer)) bench.printing = new Printing({ ...printer, codes: [] });
       Object.assign(news, { board: bench.lookQuestions.board, boardText: session.boardText });
     }
     Object.assign(news, this.reader.take(bench.ask("state\n")));
+    const printed = bench.printing && bench.printing.takeNews(bench.count.total);
+    if (printed) news.printed = printed;
     if (isMoving !== this.isRunning) news.isRunning = isMoving;
     this.isRunning = isMoving;
     return { ...news, ...this.takeShone() };
+  }
+
+  /** What was printed is taken away. */
+  tear() {
+    const { printing } = this.machine.session.debugger.session;
+    if (printing) printing.tear();
   }
 
   /** What is new of what is lit while time runs. */
@@ -74,12 +87,12 @@ export class ShownBoard {
  * A key goes down, or up: at once where time stands, else when its turn comes.
  * @param {Machine} machine
  * @param {Console} lines
- * @param {string} key `0 2`, or `test 0`, the level of what is at TEST while it is down
+ * @param {string} text of a key: `0 2`, or `test 0`
  * @param {boolean} isDown
  */
-export async function changeKey(machine, lines, key, isDown) {
-  if (!KEY.test(key)) fail(say.KEY_PLACE);
+export async function changeKey(machine, lines, text, isDown) {
+  const key = keyOfText(text) || fail(say.KEY_PLACE);
   const word = isDown ? "press" : "release";
   if (machine.isMoving) machine.session.debugger.session.queue[word](key);
-  else await lines.served(`${lineOfChange({ word, key })}\n`);
+  else await lines.served(`${lineOfKey(word, key)}\n`);
 }

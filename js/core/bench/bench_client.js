@@ -4,17 +4,12 @@
 import { WorkerDied, unpackFault } from "./faults.js";
 
 /**
- * @typedef {import("../engine/bench_calls.js").BenchCalls} BenchCalls
+ * @typedef {import("../engine/bench_calls.js").Requests} Requests
  * @typedef {import("../engine/examples.js").Example} Example
  * @typedef {import("./protocol.js").Frame} Frame
  * @typedef {import("./protocol.js").ToPage} ToPage
  * @typedef {import("./protocol.js").ToWorker} ToWorker
- * @typedef {"load" | "settled" | "make" | "texts" | "boardFault" | "open" | "recall" | "serve" | "serveTyped" | "ask" | "source"
- *   | "record" | "advance" | "press" | "release" | "forget" | "run" | "pace" | "halt" | "checkProgram" | "leftovers"
- *   | "takeNames"
- *   | "setBreakpoints" | "goOn" | "drop" | "goBack" | "lastChange" | "heat" | "goForward" | "tryTexts" | "testFaults" | "runTests"
- *   | "propertyFaults" | "explore" | "exploreOn" | "stopAtFaults"
- *   | "recordLive" | "endRecording" | "watchLamps" | "watchRam" | "listenTo" | "printOn" | "tearPaper"} CallName
+ * @typedef {keyof Requests} CallName
  * @typedef {{ done: (result: any) => void, fail: (fault: Error) => void, progress: (done: number, total: number) => void }} Waiting
  *
  * How long work is cancelled, and told how far it is.
@@ -76,10 +71,10 @@ export class Bench {
   /**
    * @template {CallName} Name
    * @param {Name} call
-   * @param {Parameters<BenchCalls[Name]>} words
+   * @param {Parameters<Requests[Name]>} words
    * @param {Ways} [ways] a call that serves lines tells its
    *   progress, and can be cancelled by a signal: then nothing of it is done
-   * @returns {Promise<Awaited<ReturnType<BenchCalls[Name]>>>}
+   * @returns {Promise<Awaited<ReturnType<Requests[Name]>>>}
    */
   call(call, words, ways = {}) {
     const { signal, progress = () => {} } = ways;

@@ -1,9 +1,12 @@
 // What keys will be once all that was asked for them is done: changes that are on their way to the worker, and those that wait there for
 // their time. A key that is typed again before its release is told is not one that stays down.
 
+import { isSameKey } from "./key_place.js";
+
 /**
  * @typedef {import("../engine/key_queue.js").Change} Change
- * @typedef {{ key: string, word: "press" | "release" | "forget" }} Asked
+ * @typedef {import("./key_place.js").Key} Key
+ * @typedef {{ key: Key, word: "press" | "release" | "forget" }} Asked
  */
 
 export class AskedKeys {
@@ -27,13 +30,13 @@ export class AskedKeys {
 
   /**
    * Whether a key will be down.
-   * @param {string} key
+   * @param {Key} key
    * @param {boolean} isDown whether the bench tells that it is
    */
   willBeDown(key, isDown) {
     /** @type {Asked[]} */
     const all = [...this.waiting, ...this.sent];
-    const last = all.filter((each) => each.key === key).pop();
+    const last = all.filter((each) => isSameKey(each.key, key)).pop();
     return last && last.word !== "forget" ? last.word === "press" : isDown;
   }
 }

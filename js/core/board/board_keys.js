@@ -1,14 +1,16 @@
 // The keys of a board: their places, their names, and what is typed for them.
 
+import { matrixKey, pinKey, textOfKey } from "./key_place.js";
 import * as say from "../../words/board.js";
 
 /**
  * @typedef {import("../bench/answers.js").Board} Board
  * @typedef {import("./face.js").Face} Face
  *
- * A key of the board, `key` as lines have it (`0 2`), or what is at its TEST pin, `test 0`, the level while it is pressed. `letter` is the
- * character that is typed for it, "" for none.
- * @typedef {{ key: string, legend: string, words: string, isNamed: boolean, isSwitch: boolean, letter: string }} BoardKey
+ * @typedef {import("./key_place.js").Key} Key
+ *
+ * A key of the board, or what is at its TEST pin. `letter` is the character that is typed for it, "" for none.
+ * @typedef {{ key: Key, legend: string, words: string, isNamed: boolean, isSwitch: boolean, letter: string }} BoardKey
  */
 
 const LETTERS = "1234567890qwertyuiopasdfghjklzxcvbnm";
@@ -39,8 +41,8 @@ export function keysOf(board, face) {
   };
   for (let row = 0; row < board.rows; row++) {
     for (let column = 0; column < board.columns; column++) {
-      const key = `${row} ${column}`;
-      const named = face.keys.get(key);
+      const key = matrixKey(row, column);
+      const named = face.keys.get(textOfKey(key));
       const legend = named ? named.text.replace(/_/g, " ") : `${row}.${column}`;
       const words = say.keyAt(legend, row, column);
       const letter = legend === "" ? "" : take(legend, named ? named.text : "");
@@ -57,7 +59,7 @@ export function keysOf(board, face) {
 function keyOfTest({ kind, name, level }, take) {
   const legend = name.replace(/_/g, " ");
   const words = say.keyAtTest(kind, legend);
-  return { key: `test ${level}`, legend, words, isNamed: true, isSwitch: kind === "switch", letter: take(legend, name) };
+  return { key: pinKey(level), legend, words, isNamed: true, isSwitch: kind === "switch", letter: take(legend, name) };
 }
 
 /**
@@ -68,10 +70,10 @@ const NAMED_KEYS = { Enter: "=", Escape: "C", Backspace: "CE", Delete: "CE", ","
 
 /**
  * Which key of the board is meant by a key of the keyboard; undefined where none is.
- * @template {BoardKey} Key
- * @param {Key[]} keys
+ * @template {BoardKey} Shown
+ * @param {Shown[]} keys
  * @param {string} typed
- * @returns {Key | undefined}
+ * @returns {Shown | undefined}
  */
 export function keyOfKeyboard(keys, typed) {
   const letter = typed.length === 1 ? typed : "";

@@ -3,6 +3,7 @@
 
 import { fittingGroups, isScanned } from "./face_board.js";
 import { NOT_LIT, isLit } from "./digit_patterns.js";
+import { EYE_MS } from "../time/mcs4_time.js";
 
 /**
  * @typedef {import("./face.js").Face} Face
@@ -11,8 +12,6 @@ import { NOT_LIT, isLit } from "./digit_patterns.js";
  * @typedef {import("../engine/shining.js").ShownDisplay} ShownDisplay
  */
 
-/** An eye follows in so many milliseconds: by then 1 - 1/e of a change is seen. */
-export const PERSISTENCE = 30;
 /** From this part of the time on a lamp that flickers counts as lit. */
 export const SEEN_PART = 0.5;
 /** What changes again within so many milliseconds does not stand still. */
@@ -65,7 +64,7 @@ class Stillness {
       this.longest = Infinity;
     } else if (moved) {
       const before = this.rest + (moved.first * time) / cycles;
-      const longest = before < PERSISTENCE ? Math.max(this.longest, before) : 0;
+      const longest = before < EYE_MS ? Math.max(this.longest, before) : 0;
       this.longest = Math.max(longest, (moved.longest * time) / cycles);
       this.rest = (moved.rest * time) / cycles;
     } else {
@@ -74,7 +73,7 @@ class Stillness {
   }
 
   get isStill() {
-    return this.rest >= PERSISTENCE || (this.rest >= LEAST_REST && this.rest > 2 * this.longest);
+    return this.rest >= EYE_MS || (this.rest >= LEAST_REST && this.rest > 2 * this.longest);
   }
 }
 
@@ -183,7 +182,7 @@ export class Brightness {
   add(shone, time) {
     const { cycles } = shone;
     if (cycles === 0) return;
-    const kept = Math.exp(-time / PERSISTENCE);
+    const kept = Math.exp(-time / EYE_MS);
     this.fade(this.lamps, shone.lamps, cycles, kept);
     this.stillness.forEach((stillness, at) => {
       stillness.add(shone.moved[at], cycles, time);

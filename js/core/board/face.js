@@ -1,12 +1,14 @@
 // The face of a board: what the comments of its text tell of names, colours and places. Its words stand in tools/lib/face.txt.
 
 import { COLOURS, fitsHead, fitsWords, headOf, isNumber, limit, said, sizeOf, wordsOf } from "./face_words.js";
+import { matrixKey, textOfKey } from "./key_place.js";
 import * as say from "../../words/board.js";
 
 /**
  * A fault; `isRefused` where it is one of names or displays, on which tests hang.
  * @typedef {{ line: number, words: string, isRefused: boolean }} Fault
  * @typedef {import("./face_words.js").Kind} Kind
+ * @typedef {import("./key_place.js").MatrixKey} MatrixKey
  * @typedef {{ text: string, line: number }} Told a word or words, and the line that tells them
  * @typedef {{ row: number, column: number, lamp: number, line: number }} GridLamp
  * @typedef {{ kind: string, first: number, rows: number, columns: number, by: number, line: number }} Group so many rows of so many
@@ -30,7 +32,7 @@ export class Face {
   /** @param {string} text of a board */
   constructor(text) {
     this.title = "";
-    /** @type {Map<string, Told>} the names of the keys by `row column`, "" for a place without a key */
+    /** @type {Map<string, Told & { key: MatrixKey }>} the names of the keys by `row column`, "" for a place without a key */
     this.keys = new Map();
     /** @type {Map<number, Told>} */
     this.lamps = new Map();
@@ -122,8 +124,10 @@ export class Face {
   readRow(row, text, line) {
     if (!this.isFirst(`row ${row}`, line, "second row", row)) return;
     wordsOf(text).forEach((name, column) => {
-      if (name === "_") this.keys.set(`${row} ${column}`, { text: "", line });
-      else if (this.isFirst(`key ${name}`, line, "second key", name)) this.keys.set(`${row} ${column}`, { text: name, line });
+      const isNone = name === "_";
+      if (!isNone && !this.isFirst(`key ${name}`, line, "second key", name)) return;
+      const key = matrixKey(row, column);
+      this.keys.set(textOfKey(key), { text: isNone ? "" : name, line, key });
     });
   }
 

@@ -126,8 +126,7 @@ export function missingOf(face, board) {
   const add = (kind, line, words, ...about) => {
     faults.push({ line, words: said(words, ...about), isRefused: isRefused(kind) });
   };
-  for (const [key, { text, line }] of face.keys) {
-    const [row, column] = key.split(" ").map(Number);
+  for (const { text, line, key: { row, column } } of face.keys.values()) {
     if (text === "" || (row < board.rows && column < board.columns)) continue;
     add("row", line, board.rows ? "key not there" : "no keys", text, row, column, board.rows, board.columns);
   }

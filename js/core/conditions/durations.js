@@ -1,8 +1,9 @@
-// Times as tests tell them: `538`, `538 cycles`, `54 us`, `20 ms`, `1.5 s`, with or without the blank. A cycle takes 10.8 microseconds.
+// Times as tests tell them: `538`, `538 cycles`, `54 us`, `20 ms`, `1.5 s`, with or without the blank.
+
+import { cyclesOfMs } from "../time/mcs4_time.js";
 
 /** The longest time that a line may tell, three hours. */
 const MOST_CYCLES = 1000000000;
-const CYCLE_MS = 0.0108;
 /** The milliseconds of a unit. */
 const UNITS = new Map([["us", 0.001], ["ms", 1], ["s", 1000]]);
 
@@ -22,7 +23,7 @@ export function durationOf(words, from) {
   if (!/^\d+(\.\d+)?$/.test(number) || number.length > 12) return { cycles: 0, words: 0 };
   const milliseconds = UNITS.get(unit);
   if (milliseconds) {
-    const cycles = Math.floor((Number(number) * milliseconds) / CYCLE_MS + 0.5);
+    const cycles = cyclesOfMs(Number(number) * milliseconds);
     return { cycles: cycles > MOST_CYCLES ? 0 : cycles, words: joined ? 1 : 2 };
   }
   if (number.includes(".")) return { cycles: 0, words: 0 };

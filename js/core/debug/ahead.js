@@ -72,8 +72,8 @@ export async function seek(engine, file, goal, goesOn, most, codes) {
 }
 
 /**
- * How many cycles the run of a line would do, 0 for a change of a key.
- * @param {PlannedLine} planned
+ * How many cycles the run of a line would do, 0 for any other line.
+ * @param {import("../engine/asking.js").SentLine} planned
  */
 export function cyclesOfLine({ line, change }) {
   return change ? 0 : Number(line.slice("run ".length));

@@ -12,11 +12,18 @@ import * as say from "../../words/debug.js";
  * @typedef {import("./breakpoints.js").KeptBreakpoint} KeptBreakpoint
  * @typedef {import("./debugger.js").Tally} Tally
  * @typedef {import("./soft_breakpoints.js").Placed} Placed
- *
- * What it calls: the bench has these from here on, which gives what cannot be read, by ids; the list is another one, or its hits alone are;
- * a user has changed it; something is told, where the hand was; a call failed.
- * @typedef {{ set: (placed: Placed[]) => Promise<[number, string][]>, changed: () => void, counted: () => void, touched: () => void,
- *   tell: (words: string) => void, failed: (fault: unknown) => void }} KeeperCalls
+ */
+
+/**
+ * What the list of breakpoints calls.
+ * @typedef {object} KeeperCalls
+ * @property {(placed: Placed[]) => Promise<[number, string][]>} set Gives the bench these breakpoints in place of all others. Resolves to
+ *   the ids of those that cannot be read, each with the reason.
+ * @property {() => void} changed The list, or an error of one of its breakpoints, has changed.
+ * @property {() => void} counted Only the hits have changed.
+ * @property {() => void} touched The user has changed the list, so it is to be kept.
+ * @property {(words: string) => void} tell Shows a message where the user has just worked.
+ * @property {(fault: unknown) => void} failed Reports an error that `set` threw.
  */
 
 const TOO_MANY = say.tooManyOn(MOST_ON);

@@ -4,8 +4,8 @@
 //     const session = new WorkerSession(engine, file);               (debug_session.js does this, and keeps the program's lines, too)
 //     const debug = new Debugger(session);
 //     debug.setBreakpoints([{ id: 1, address: 0x14, condition: "r9 = 9", from: 1, note: "", hits: 0 }], names);
-//     const { found } = await debug.goOn({ kind: "over" }, NEAR, goesOn);
-//     while (debug.isMoving) { const { stop } = debug.advance(1543); if (stop) .. }    what was not near is time that runs, with its keys
+//     const { found } = await debug.goOn({ kind: "over" }, NEAR_CYCLES, goesOn);
+//     while (debug.isMoving) { const { stop } = debug.advance(FRAME_CYCLES); if (stop) .. }    farther goals need time, with its keys
 //     debug.values(["r4", "lamps"]); await debug.goBack({ kind: "instruction" }, goesOn); debug.goForward();
 //
 // A move has a goal (goals.js). One that comes near is reached at once; any other is `isMoving` until `advance` tells a stop or `drop` is
@@ -20,6 +20,7 @@ import { NOTHING_TOLD, aimBack } from "../engine/going_back.js";
 import { runLines } from "../engine/key_queue.js";
 import { LOOKED_CYCLES } from "../engine/pieces.js";
 import { Answers } from "../engine/tracing.js";
+import { CYCLES_PER_SECOND } from "../time/mcs4_time.js";
 import { cyclesToGoal, seek, linesUpTo } from "./ahead.js";
 import { Arrivals, MOST_NOTES, nothingSeen } from "./arrivals.js";
 import { askedOf } from "./becoming.js";
@@ -64,8 +65,8 @@ import { UsualFaults } from "./usual_faults.js";
  * @typedef {Omit<Aim, "moment" | "present"> & { isFound: boolean, cycles: number, address: number }} LastChange
  */
 
-/** A goal that comes within so many cycles is reached at once: a second of a real 4004. */
-export const NEAR = 92593;
+/** A goal that comes within a second of a real 4004 is reached at once. */
+export const NEAR_CYCLES = CYCLES_PER_SECOND;
 /** A change that needs no key, so many; of instructions that are counted, all. */
 const NEAR_CHANGE = 10000000;
 const ALL = 100000000;
@@ -93,7 +94,7 @@ export function bothTallies(one, other) {
  */
 export function nearOf({ kind }) {
   if (kind === "change" || kind === "when") return NEAR_CHANGE;
-  return kind === "count" ? ALL : NEAR;
+  return kind === "count" ? ALL : NEAR_CYCLES;
 }
 
 export class Debugger {

@@ -34,7 +34,7 @@ const LOOKED_CYCLES = 50000;
 const SAMPLE = 16;
 const SAMPLE_CYCLES = 2000;
 /** Lines of more cycles are those of full speed, of which no more are looked at: a look takes as long as some millions of them. */
-const FRAME_CYCLES = 10000;
+const CYCLES_OF_CALL = 10000;
 
 /** @type {Looked} */
 const NOTHING = { faults: [], stop: -1 };
@@ -98,9 +98,9 @@ export class UsualFaults {
     const cycles = planned.reduce((sum, each) => sum + cyclesOfLine(each), 0);
     if (planned.some(({ change }) => change !== null)) this.left = LOOKED_CYCLES;
     this.looks += 1;
-    const isAll = this.stops.size > 0 && cycles <= FRAME_CYCLES;
+    const isAll = this.stops.size > 0 && cycles <= CYCLES_OF_CALL;
     const sample = this.looks % SAMPLE === 0 ? SAMPLE_CYCLES : 0;
-    const most = isAll ? cycles : Math.min(cycles, FRAME_CYCLES, Math.max(this.left, sample));
+    const most = isAll ? cycles : Math.min(cycles, CYCLES_OF_CALL, Math.max(this.left, sample));
     this.left = Math.max(0, this.left - most);
     return most;
   }

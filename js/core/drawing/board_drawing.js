@@ -18,16 +18,22 @@ import * as say from "../../words/drawing.js";
  * @typedef {import("./acts.js").Shelved} Shelved
  * @typedef {import("./text_edits.js").TextEdit} TextEdit
  *
- * What it calls: the board's text as it is; what the bench answers to lines on the side; edits of the text, as one step that can be undone;
- * the last step is undone, or done again, and whether there was one; the words of a refusal.
- * @typedef {{ text: () => string, ask: (lines: string) => Promise<string[]>, edit: (edits: TextEdit[]) => void,
- *   undo: () => boolean, redo: () => boolean, wordsOfRefusal: (number: number) => string }} DrawingCalls
- *
  * What shows it: the board of the text with its face, whether it is the one that is wired; why nothing can be drawn, "" where it can; what
  * the shelf has, with why something of it cannot be added; what is chosen, and what can be set of it; the pin that a wire begins at, and
  * those where it can end; and what was said last.
  * @typedef {{ board: Board, face: Face, isWired: boolean, fault: string, shelf: Map<Shelved, string>, chosen: string,
  *   fields: import("./fields.js").Fields, begun: string, ends: Set<string>, said: string }} Shown
+ */
+
+/**
+ * What a drawing calls of the editor of its text and of the bench.
+ * @typedef {object} DrawingCalls
+ * @property {() => string} text Returns the board's text as it is in the editor.
+ * @property {(lines: string) => Promise<string[]>} ask Resolves to the bench's answers to lines, which change no session.
+ * @property {(edits: TextEdit[]) => void} edit Edits the text in one step that can be undone.
+ * @property {() => boolean} undo Undoes the last step; returns false if there is none.
+ * @property {() => boolean} redo Repeats the step that was undone last; returns false if there is none.
+ * @property {(number: number) => string} wordsOfRefusal Returns what the number of a refusal means.
  */
 
 

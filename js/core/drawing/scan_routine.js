@@ -174,3 +174,24 @@ export function keyScanOf({ matrix, chains }, text) {
   const head = headOf(matrix, clock, data, labels);
   return [...start.map(textOf), ...(start.length > 0 ? [""] : []), ...head, ...lines.map(textOf), ""].join("\n");
 }
+
+/**
+ * Where a routine comes into a text: behind the line of the caret, or at the end if no caret was set. Blank lines are around it.
+ * @param {string} text
+ * @param {number} line of the caret, 0 for none
+ * @param {string} code whole lines
+ * @returns {{ edit: import("./text_edits.js").TextEdit, first: number, isEnd: boolean }} `first`: the line at which the routine begins
+ */
+export function placeOfRoutine(text, line, code) {
+  const lines = text.split("\n");
+  const before = lines.slice(0, line > 0 ? line : lines.length).join("\n");
+  const head = before.trimEnd();
+  const tail = text.slice(before.length).replace(/^([ \t]*\n)+/, "");
+  const isEnd = tail.trim() === "";
+  const insert = `${head === "" ? "" : "\n\n"}${code}${isEnd ? "" : "\n"}`;
+  return {
+    edit: { from: head.length, to: isEnd ? text.length : text.length - tail.length, insert },
+    first: head === "" ? 1 : head.split("\n").length + 2,
+    isEnd,
+  };
+}

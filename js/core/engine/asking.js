@@ -4,7 +4,10 @@ import { cyclesOfLine } from "../debug/ahead.js";
 import { Answers } from "./tracing.js";
 
 /**
- * @typedef {import("./key_queue.js").PlannedLine} PlannedLine
+ * @typedef {import("./accepted.js").Accepted} Accepted
+ *
+ * A line that is sent: `change` is null for a run, and what the line changes for any other one.
+ * @typedef {{ line: string, change: object | null }} SentLine
  *
  * Who asks: so many questions before a run of so many cycles, as lines, each answered as `trace` is; `seesChanges`: and for the state after
  * each change of a key.
@@ -13,7 +16,7 @@ import { Answers } from "./tracing.js";
 
 /**
  * The lines that are planned, with the questions.
- * @param {PlannedLine[]} planned
+ * @param {SentLine[]} planned
  * @param {Asker[]} askers
  */
 export function askedLines(planned, askers) {
@@ -26,7 +29,7 @@ export function askedLines(planned, askers) {
 
 /**
  * Parts the answers: those to the lines and to all that comes after them; and of each asker, line by line, those to its questions.
- * @param {PlannedLine[]} planned
+ * @param {SentLine[]} planned
  * @param {Asker[]} askers
  * @param {string[]} all
  * @returns {{ answers: string[], told: string[][][] }}
@@ -53,4 +56,15 @@ export function partedAnswers(planned, askers, all) {
     own.push(answers.take());
   }
   return { answers: [...own, ...all.slice(answers.at)], told };
+}
+
+const OTHER_CHANGE = {};
+
+/**
+ * Returns an accepted line as it is sent again.
+ * @param {Accepted} accepted
+ * @returns {SentLine}
+ */
+export function sentAgain({ line, cycles }) {
+  return cycles > 0 ? { line: `run ${cycles}`, change: null } : { line, change: OTHER_CHANGE };
 }

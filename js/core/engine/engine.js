@@ -193,11 +193,11 @@ export class Engine {
   }
 
   /**
-   * Returns the state of a session file.
+   * Returns the state of a session file. (A slice of a Buffer of Node would share its memory.)
    * @param {Uint8Array} bytes
    */
   stateOf(bytes) {
-    return bytes.slice();
+    return new Uint8Array(bytes);
   }
 
   /**

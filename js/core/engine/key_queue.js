@@ -1,9 +1,9 @@
 // Changes of keys that wait for their time. A program reads the keys only now and then, so that a key has to stay down, and then up,
 // for some time to be seen, however short the press was.
 
-/** 43 ms down and 22 ms up, in cycles. */
-export const DOWN_CYCLES = 4000;
-export const UP_CYCLES = 2000;
+import { isSameKey, lineOfKey } from "../board/key_place.js";
+import { KEY_DOWN_CYCLES, KEY_UP_CYCLES } from "../time/mcs4_time.js";
+
 /** The longest run of one line. */
 export const LONGEST_RUN = 100000;
 
@@ -18,7 +18,8 @@ export function runLines(cycles) {
 }
 
 /**
- * @typedef {{ key: string, word: "press" | "release" }} Change
+ * @typedef {import("../board/key_place.js").Key} Key
+ * @typedef {{ key: Key, word: "press" | "release" }} Change
  * @typedef {{ line: string, change: Change | null }} PlannedLine that is to be sent: a change of a key, or a run
  */
 
@@ -27,17 +28,7 @@ export function runLines(cycles) {
  * @param {Change} change
  */
 function cyclesAfter(change) {
-  return change.word === "press" ? DOWN_CYCLES : UP_CYCLES;
-}
-
-/**
- * The line of such a change. The key of what is at TEST is `test 0`, with the level while it is pressed.
- * @param {Change} change
- */
-export function lineOfChange({ word, key }) {
-  if (!key.startsWith("test ")) return `${word} ${key}`;
-  const level = Number(key.slice(5));
-  return `test ${word === "press" ? level : 1 - level}`;
+  return change.word === "press" ? KEY_DOWN_CYCLES : KEY_UP_CYCLES;
 }
 
 export class KeyQueue {
@@ -48,22 +39,22 @@ export class KeyQueue {
     this.wait = 0;
   }
 
-  /** @param {string} key */
+  /** @param {Key} key */
   press(key) {
     this.changes.push({ key, word: "press" });
   }
 
-  /** @param {string} key */
+  /** @param {Key} key */
   release(key) {
     this.changes.push({ key, word: "release" });
   }
 
   /**
    * Forgets the changes that wait for a key.
-   * @param {string} key
+   * @param {Key} key
    */
   forget(key) {
-    this.changes = this.changes.filter((change) => change.key !== key);
+    this.changes = this.changes.filter((change) => !isSameKey(change.key, key));
   }
 
   clear() {
@@ -85,7 +76,7 @@ export class KeyQueue {
     while (left > 0) {
       const change = this.changes[next];
       if (change && wait === 0) {
-        planned.push({ line: lineOfChange(change), change });
+        planned.push({ line: lineOfKey(change.word, change.key), change });
         wait = cyclesAfter(change);
         next += 1;
       }

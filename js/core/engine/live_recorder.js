@@ -4,7 +4,7 @@
 import { readBoard, readRun } from "../bench/answers.js";
 import { ADDRESSES } from "../bench/rom_bytes.js";
 import { linesOfBoard } from "../waves/wave_lines.js";
-import { askedLines, partedAnswers } from "./asking.js";
+import { askedLines, partedAnswers, sentAgain } from "./asking.js";
 import { Answers, readTraced, valuesOf } from "./tracing.js";
 import { listedAt } from "./wave_recorder.js";
 import { WaveTaking } from "./wave_taking.js";
@@ -13,7 +13,7 @@ import { RECORDED_CYCLES, RECORDED_UNITS } from "./pieces.js";
 /**
  * @typedef {import("./accepted.js").Accepted} Accepted
  * @typedef {import("./engine_host.js").EngineHost} Engine
- * @typedef {import("./key_queue.js").PlannedLine} PlannedLine
+ * @typedef {import("./asking.js").SentLine} SentLine
  * @typedef {import("./wave_recorder.js").Recorded} Recorded
  * @typedef {import("./wave_recorder.js").RecordedPart} RecordedPart
  * @typedef {import("./wave_recorder.js").Texts} Texts
@@ -120,7 +120,7 @@ export class LiveRecorder {
 
   /**
    * Takes what lines did; gives after how many of their cycles time stops, -1 where it goes on.
-   * @param {PlannedLine[]} planned
+   * @param {SentLine[]} planned
    * @param {string[][]} traced
    * @param {string[]} answers of the lines, and behind them that to `state`
    */
@@ -230,10 +230,7 @@ export class LiveRecorder {
       const begun = at;
       const end = Math.min(accepted.length, begun + RECORDED_UNITS);
       for (let cycles = 0; at < end && cycles < RECORDED_CYCLES; at++) cycles += accepted[at].cycles;
-      const units = accepted.slice(begun, at);
-      /** @type {PlannedLine[]} */
-      const planned = units.map(({ line, cycles }) => (
-        { line: cycles > 0 ? `run ${cycles}` : line, change: cycles > 0 ? null : { key: "", word: "press" } }));
+      const planned = accepted.slice(begun, at).map(sentAgain);
       const served = engine.serve(file, `${askedLines(planned, [this])}state\n`, file);
       const { told: [traced], answers } = partedAnswers(planned, [this], served.answers);
       this.take(planned, traced, answers);

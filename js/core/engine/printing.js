@@ -1,14 +1,13 @@
 // What a program sends to the board's printer, by the answers to `trace` before each run. Each code is kept with the cycle at which it
 // came: so what is printed is a function of the run, and after going back only what had come by then is there.
 
-import { askedLines, partedAnswers } from "./asking.js";
+import { askedLines, partedAnswers, sentAgain } from "./asking.js";
 import { RECORDED_CYCLES, RECORDED_UNITS } from "./pieces.js";
 import { Answers, readTraced, valuesOf } from "./tracing.js";
 
 /**
  * @typedef {import("./accepted.js").Accepted} Accepted
  * @typedef {import("./engine_host.js").EngineHost} Engine
- * @typedef {import("./key_queue.js").PlannedLine} PlannedLine
  *
  * The lines of a printer, its strobe and the port of its code, and what was sent: each code with the cycles that were counted when it came.
  * @typedef {{ strobe: string, port: string, codes: [number, number][] }} Printed
@@ -113,18 +112,10 @@ export class Printing {
       const end = Math.min(accepted.length, begun + RECORDED_UNITS);
       let cycles = 0;
       for (; at < end && cycles < RECORDED_CYCLES; at++) cycles += accepted[at].cycles;
-      const planned = accepted.slice(begun, at).map(plannedOf);
+      const planned = accepted.slice(begun, at).map(sentAgain);
       const { told: [told] } = partedAnswers(planned, [this], engine.serve(file, askedLines(planned, [this]), file).answers);
       this.take(told, before);
       before += cycles;
     }
   }
-}
-
-/**
- * @param {Accepted} accepted
- * @returns {PlannedLine}
- */
-function plannedOf({ line, cycles }) {
-  return { line: cycles > 0 ? `run ${cycles}` : line, change: cycles > 0 ? null : { key: "", word: "press" } };
 }

@@ -4,14 +4,15 @@
 import { Brightness } from "../board/brightness.js";
 import { DisplayText } from "../board/display_text.js";
 import { isScanned } from "../board/face_board.js";
-import { CYCLES_OF_EYE, Shining } from "./shining.js";
+import { EYE_CYCLES } from "../time/mcs4_time.js";
+import { Shining } from "./shining.js";
 
 /**
  * @typedef {import("../board/face.js").Face} Face
  */
 
 /** The question, which is answered as any `trace`. */
-export const SEEN_QUESTION = `trace ${CYCLES_OF_EYE} lamps\n`;
+export const SEEN_QUESTION = `trace ${EYE_CYCLES} lamps\n`;
 
 /**
  * Whether some digits are lit by turns, so that no instant shows a number.

@@ -22,8 +22,6 @@ import { Answers, readTraced } from "./tracing.js";
  *   scanned: number[][] }} Shone
  */
 
-/** An eye needs 30 ms, which are so many cycles in real time. */
-export const CYCLES_OF_EYE = 2778;
 /** Of lines that have more cycles nobody is asked: time at full speed is looked at in another way. */
 export const MOST_SHONE = 20000;
 

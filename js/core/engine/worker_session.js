@@ -10,7 +10,8 @@ import { KeyQueue } from "./key_queue.js";
 import { lookOf, questionsOf } from "../bench/look.js";
 import { PieceSize } from "./pieces.js";
 import { romCodes } from "./rom_codes.js";
-import { CYCLES_OF_EYE, MOST_SHONE } from "./shining.js";
+import { EYE_CYCLES } from "../time/mcs4_time.js";
+import { MOST_SHONE } from "./shining.js";
 import { SEGMENT_ENTRIES, Timeline } from "./timeline.js";
 
 /**
@@ -235,8 +236,8 @@ export class WorkerSession {
   senseAhead() {
     const { shining, heating } = this;
     return {
-      shone: shining && shining.take([this.ask(shining.questions(CYCLES_OF_EYE))]),
-      warmed: heating && heating.take([this.ask(heating.questions(CYCLES_OF_EYE))]),
+      shone: shining && shining.take([this.ask(shining.questions(EYE_CYCLES))]),
+      warmed: heating && heating.take([this.ask(heating.questions(EYE_CYCLES))]),
     };
   }
 

@@ -2,6 +2,7 @@
 // lines stand before each find.
 
 import { partsOfState, portsOf } from "../bench/state_line.js";
+import { KeysDown } from "../board/key_place.js";
 import { Account, MOST_LEVELS } from "../testing/account.js";
 import { TestRun } from "../testing/test_run.js";
 import { ownLines, readTests } from "../testing/test_text.js";
@@ -98,8 +99,7 @@ function callsOf(tests, account) {
  */
 function asItIs(input, state) {
   const { test, ports } = partsOfState(state);
-  const key = input.down.replace(/^press (\d+) (\d+)$/, "$1.$2");
-  return { ...input, isDown: input.isKey ? portsOf(ports).keys.includes(key) : input.down === `test ${test}` };
+  return { ...input, isDown: new KeysDown(portsOf(ports).keys).has(input.key, test) };
 }
 
 /**

@@ -6,6 +6,7 @@ import { hasScannedDisplay } from "../engine/seen_text.js";
 import { tracedConditionOf } from "../conditions/condition_language.js";
 import { durationOf, wholeDuration } from "../conditions/durations.js";
 import { placeOf } from "../conditions/places.js";
+import { TOOL_KEY_DOWN_CYCLES, TOOL_KEY_UP_CYCLES, cyclesOfMs } from "../time/mcs4_time.js";
 import { keysOf, namesOfInputs, pinOf } from "./explored_inputs.js";
 import {
   GUARDED, afterPress, always, alwaysOn, at, every, guarded, model, never, neverFor, once, onlyAfter, reach, reachAt,
@@ -71,8 +72,8 @@ const MOST_NOTES = 16;
 /** So many keys are down together at most, where nothing is said. */
 const TOGETHER = 2;
 /** Waits where nothing is said, of 1 and 20 ms, and the pace of `keys`. */
-const WAITS = { shortest: 93, longest: 1852 };
-const PACE = { down: 4000, up: 16000 };
+const WAITS = { shortest: cyclesOfMs(1), longest: cyclesOfMs(20) };
+const PACE = { down: TOOL_KEY_DOWN_CYCLES, up: TOOL_KEY_UP_CYCLES };
 
 class Reader {
   /** @param {Subject} subject */

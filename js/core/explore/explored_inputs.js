@@ -1,11 +1,28 @@
 // What may be changed on a board while it is explored: keys and TEST, by the names of its face.
 
+import { lineOfKey, pinKey } from "../board/key_place.js";
+
 /**
+ * @typedef {import("../board/key_place.js").Key} Key
+ *
  * Something that is up or down: the lines that change it, the words of a test for them, and whether it is down at power-on.
- * @typedef {{ name: string, isKey: boolean, down: string, up: string, downWords: string, upWords: string, isDown: boolean }} Input
+ * @typedef {{ name: string, key: Key, isKey: boolean, down: string, up: string, downWords: string, upWords: string,
+ *   isDown: boolean }} Input
  *
  * @typedef {import("../board/face.js").Face} Face
  */
+
+/**
+ * Returns a key that is up.
+ * @param {string} name
+ * @param {Key} key
+ * @param {[string, string]} words of a test: down, and up
+ * @returns {Input}
+ */
+export function inputOf(name, key, [downWords, upWords]) {
+  return { name, key, isKey: key.kind === "matrix", down: lineOfKey("press", key), up: lineOfKey("release", key), downWords, upWords,
+    isDown: false };
+}
 
 /**
  * The keys that have names, in the order of the face.
@@ -13,10 +30,8 @@
  * @returns {Input[]}
  */
 export function keysOf(face) {
-  return [...face.keys].filter(([, { text }]) => text !== "").map(([key, { text }]) => ({
-    name: text, isKey: true, down: `press ${key}`, up: `release ${key}`, downWords: `press ${text}`, upWords: `release ${text}`,
-    isDown: false,
-  }));
+  return [...face.keys.values()].filter(({ text }) => text !== "").map(({ text, key }) => (
+    inputOf(text, key, [`press ${text}`, `release ${text}`])));
 }
 
 /**
@@ -27,8 +42,7 @@ export function keysOf(face) {
 export function pinOf({ test }) {
   const level = test ? test.level : 0;
   const [downWords, upWords] = test ? [`press ${test.name}`, `release ${test.name}`] : [`set test ${level}`, `set test ${1 - level}`];
-  return { name: test ? test.name : "test", isKey: false, down: `test ${level}`, up: `test ${1 - level}`, downWords, upWords,
-    isDown: level === 1 };
+  return { ...inputOf(test ? test.name : "test", pinKey(level), [downWords, upWords]), isDown: level === 1 };
 }
 
 /**

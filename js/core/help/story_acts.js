@@ -8,14 +8,25 @@ import * as say from "../../words/help.js";
  * @typedef {import("../debug/goals.js").Goal} Goal
  * @typedef {import("../engine/going_back.js").BackGoal} BackGoal
  * @typedef {import("./story.js").Act} Act
- *
- * What is called: the address of a label of the program in ROM, undefined without one; the keys of the board; time runs, or stands still;
- * it goes on to a goal, back, or forward again; a line of the program is shown; whether time runs, and a key is down; a key is clicked,
- * which lets it go where it stayed down; a text or a panel is shown.
- * @typedef {{ addressOf: (label: string) => number | undefined, keys: () => BoardKey[], run: () => void, stand: () => Promise<void>,
- *   goOn: (goal: Goal) => Promise<void>, goBack: (goal: BackGoal) => Promise<void>, goForward: () => Promise<void>,
- *   goTo: (address: number) => void, isRunning: () => boolean, isDown: (key: BoardKey) => boolean, press: (key: BoardKey) => void,
- *   showText: (name: string) => void, showPanel: (name: string) => void }} ActCalls
+ */
+
+/**
+ * What the links of a story call.
+ * @typedef {object} ActCalls
+ * @property {(label: string) => number | undefined} addressOf Returns the address of a label of the program in ROM; undefined if no label
+ *   has this name.
+ * @property {() => BoardKey[]} keys Returns the keys of the board that is shown.
+ * @property {() => void} run Lets time run; a goal that it ran to is dropped.
+ * @property {() => Promise<void>} stand Pauses time; resolves once it is paused.
+ * @property {(goal: Goal) => Promise<void>} goOn Lets time pass until a goal is reached; resolves once it is reached or time runs to it.
+ * @property {(goal: BackGoal) => Promise<void>} goBack Goes back to a goal; resolves once the session is there.
+ * @property {() => Promise<void>} goForward Returns to where the last way back began.
+ * @property {(address: number) => void} goTo Shows the line of an address in the source and in the listing.
+ * @property {() => boolean} isRunning Returns whether time runs, so that keys wait for their time.
+ * @property {(key: BoardKey) => boolean} isDown Returns whether a key will be down after all that was asked for.
+ * @property {(key: BoardKey) => void} press Clicks a key: a key that stayed down goes up.
+ * @property {(name: string) => void} showText Brings a text to the front, by the name of its tab.
+ * @property {(name: string) => void} showPanel Brings a panel to the front, by its name.
  */
 
 /**

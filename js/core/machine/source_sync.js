@@ -12,11 +12,17 @@ import * as say from "../../words/machine.js";
  * line is brought into view.
  * @typedef {{ showNext: (line: number) => void, showAddresses: (addresses: string[]) => void,
  *   reveal: (line: number) => void }} SourceEditor
- *
- * What it calls: the text that is shown; the bench looks at a text; the program that stands in ROM is another one (null for none), with
- * words for people; what a refusal means.
- * @typedef {{ text: () => string, check: (text: string) => Promise<Checked>, changed: (map: SourceMap | null, words: string) => void,
- *   wordsOfRefusal: (number: number) => string }} SyncCalls
+ */
+
+/**
+ * What the comparison of source and ROM calls.
+ * @typedef {object} SyncCalls
+ * @property {() => string} text Returns the source as it would be sent.
+ * @property {(text: string) => Promise<Checked>} check Resolves to the map of a source, or to why it is rejected, and to where it differs
+ *   from ROM.
+ * @property {(map: SourceMap | null, words: string) => void} changed The program in ROM is another one: its map, null if the source is
+ *   not what is in ROM, with a message about that.
+ * @property {(number: number) => string} wordsOfRefusal Returns what the number of a refusal means.
  */
 
 /** @type {SourceEditor} */

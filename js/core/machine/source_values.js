@@ -7,13 +7,21 @@ import { valuesAt } from "../debug/value_words.js";
 /**
  * @typedef {import("../debug/value_words.js").Program} Program
  * @typedef {import("../debug/value_words.js").Piece} Piece
- *
- * What it calls, beside what it asks of the program: the last look; whether time runs; what stands is another look, or none while time
- * runs; the program that stands in ROM; what lines have changed is shown behind them; the list of watched values shows what they are.
- * @typedef {Program & { map: () => import("./source_map.js").SourceMap | null, showLines: (lines: ReadonlyMap<number, string>) => void,
- *   showWatched: () => void,
- *   look: () => string[], isRunning: () => boolean, changed: () => void }} ValuesCalls
  */
+
+/**
+ * What the values in the source call of the page.
+ * @typedef {object} ValuesOwnCalls
+ * @property {() => import("./source_map.js").SourceMap | null} map Returns the map of the program in ROM; null if the source is not in
+ *   ROM.
+ * @property {(lines: ReadonlyMap<number, string>) => void} showLines Shows beside each line, by its number from 1, what it has changed.
+ * @property {() => void} showWatched Shows the watched values again.
+ * @property {() => string[]} look Returns the answers of the last snapshot.
+ * @property {() => boolean} isRunning Returns whether time runs; values are shown only while it is paused.
+ * @property {() => void} changed The values have changed, or are hidden since time runs.
+ */
+
+/** @typedef {Program & ValuesOwnCalls} ValuesCalls */
 
 export class SourceValues {
   /** @param {ValuesCalls} calls */

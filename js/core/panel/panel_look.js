@@ -6,6 +6,7 @@ import { linesOf, matchAnswers, readInputs } from "../bench/inputs.js";
 import { hex, upTo } from "../bench/numbers.js";
 import { itemsOf, partsOfState, registersOf, valueIn } from "../bench/state_line.js";
 import { FULL_LEVEL, levelOf } from "../board/brightness.js";
+import { KeysDown } from "../board/key_place.js";
 import { wholeText } from "../board/display_text.js";
 import { SEEN_QUESTION, SeenText, seenBrightness } from "../engine/seen_text.js";
 import { ListingReader } from "../machine/listing_reader.js";
@@ -39,8 +40,7 @@ export class PanelLook {
     this.commands = "0";
     /** @type {Registers | null} */
     this.registers = null;
-    /** @type {Set<string>} the keys that are down, as lines have them */
-    this.down = new Set();
+    this.down = new KeysDown();
     /** A `*` for each lamp that is lit at this instant. */
     this.marks = "";
     /** @type {Brightness | null} that of lamps while time runs */
@@ -65,9 +65,9 @@ export class PanelLook {
     return this.breakpoints.includes(hex(this.counter, 3));
   }
 
-  /** @param {string} key */
+  /** @param {import("../board/key_place.js").Key} key */
   isDown(key) {
-    return this.down.has(key);
+    return this.down.has(key, this.test);
   }
 
   /**
@@ -100,7 +100,7 @@ export class PanelLook {
     const { registers, keys, lamps, breaks } = partsOfState(answer);
     this.commands = valueIn(answer, "seq");
     this.registers = registersOf(registers);
-    this.down = new Set(itemsOf(keys).map((key) => key.replace(".", " ")));
+    this.down = new KeysDown(itemsOf(keys));
     this.marks = itemsOf(lamps).join("");
     this.breakpoints = itemsOf(breaks);
   }

@@ -6,9 +6,10 @@ import { linesOf } from "../bench/inputs.js";
 import { hex } from "../bench/numbers.js";
 import { keyOfKeyboard, keysOf } from "../board/board_keys.js";
 import { printerOf } from "../board/face_board.js";
+import { isSameKey, lineOfKey } from "../board/key_place.js";
 import { cyclesOfLine } from "../debug/ahead.js";
 import { askedLines, partedAnswers } from "../engine/asking.js";
-import { KeyQueue, LONGEST_RUN, lineOfChange } from "../engine/key_queue.js";
+import { KeyQueue, LONGEST_RUN } from "../engine/key_queue.js";
 import { Printing } from "../engine/printing.js";
 import { RealTime } from "../time/real_time.js";
 import { REASONS } from "../../words/stops.js";
@@ -18,6 +19,7 @@ import * as say from "../../words/panel.js";
 /**
  * @typedef {import("../bench/answers.js").Board} Board
  * @typedef {import("../board/face.js").Face} Face
+ * @typedef {import("../board/key_place.js").Key} Key
  * @typedef {import("../engine/key_queue.js").Change} Change
  * @typedef {import("../engine/key_queue.js").PlannedLine} PlannedLine
  * @typedef {import("../machine/source_map.js").SourceMap} SourceMap
@@ -52,8 +54,8 @@ export class Panel {
     const { board, face } = of;
     this.keys = keysOf(board, { keys: face.keys, test: null });
     this.queue = new KeyQueue();
-    /** @type {Set<string>} the keys that went down here, and are down */
-    this.own = new Set();
+    /** @type {Key[]} the keys that went down here, and are down */
+    this.own = [];
     this.time = new RealTime(now, now);
     this.isPaused = of.isPaused;
     /** Why time is paused, in words; "" if somebody wanted it. */
@@ -145,9 +147,10 @@ export class Panel {
    * @param {Change} change
    */
   async change(change) {
-    await this.act(lineOfChange(change));
-    if (change.word === "press") this.own.add(change.key);
-    else this.own.delete(change.key);
+    const { word, key } = change;
+    await this.act(lineOfKey(word, key));
+    this.own = this.own.filter((each) => !isSameKey(each, key));
+    if (word === "press") this.own.push(key);
   }
 
   /**
@@ -217,7 +220,7 @@ export class Panel {
     }
   }
 
-  /** @param {string} key */
+  /** @param {Key} key */
   async toggle(key) {
     this.queue.forget(key);
     await this.change({ key, word: this.seen.isDown(key) ? "release" : "press" });
@@ -232,7 +235,7 @@ export class Panel {
   /** Ends: what was typed has its time, and keys that went down here go up. */
   async end() {
     while (!this.isPaused && this.queue.changes.length > 0) await this.goOnFor(LONGEST_RUN);
-    for (const key of this.own) await this.act(lineOfChange({ key, word: "release" }));
+    for (const key of this.own) await this.act(lineOfKey("release", key));
     this.isEnded = true;
   }
 }

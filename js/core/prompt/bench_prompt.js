@@ -24,16 +24,24 @@ import * as say from "../../words/session_prompt.js";
  * An error of a text: its line, from 1, 0 for none; what is wrong.
  * @typedef {{ line: number, words: string }} TextError
  *
- * What the host does: it serves an input and prints the answer, whose first line it returns, "" if there is none; asks for answers, which
- * nobody sees; prints words of its own; reads a file; names the files that begin with a text; finds all errors of a rejected text, in a
- * program on a board; and has the words of refusals and the tables of the manual.
- * @typedef {{ serve: (input: string) => Promise<string>, ask: (line: string) => Promise<string[]>, print: (words: string) => void,
- *   complain: (words: string) => void, read: (name: string) => string, files: (begin: string) => string[],
- *   errorsOf: (word: TextWord, text: string, board: string) => Promise<TextError[]>, wordsOf: (number: number) => string,
- *   manual: () => ManualSection[] }} SessionPromptCalls
- *
  * A text that is being typed: the word that opened it, its lines, and the number of the line that opened it.
  * @typedef {{ word: TextWord, lines: string[], at: number }} OpenedText
+ */
+
+/**
+ * What the prompt of a session calls of its host. `files` and `ask` also serve completion.
+ * @typedef {object} SessionPromptCalls
+ * @property {(input: string) => Promise<string>} serve Serves an input and prints its answers. Resolves to the first line of them, "" if
+ *   there is none.
+ * @property {(line: string) => Promise<string[]>} ask Resolves to the answers to a line, which are not printed.
+ * @property {(words: string) => void} print Prints a message on standard output.
+ * @property {(words: string) => void} complain Prints a message on standard error.
+ * @property {(name: string) => string} read Returns the text of a file; throws an error that says why it cannot be read.
+ * @property {(begin: string) => string[]} files Returns the names of the files that begin with a text.
+ * @property {(word: TextWord, text: string, board: string) => Promise<TextError[]>} errorsOf Resolves to all errors of a text that the
+ *   bench has rejected. A program is read with the board of `board`.
+ * @property {(number: number) => string} wordsOf Returns what the number of a refusal means.
+ * @property {() => ManualSection[]} manual Returns the sections of the manual, with their tables.
  */
 
 const COMMENT_MARKS = /** @type {const} */ ({ wire: "#", asm: ";", map: ";" });

@@ -29,13 +29,22 @@ import { stoppedAt } from "../../words/stops.js";
 /**
  * @typedef {import("../adapter/launching.js").Launched} Launched
  *
- * What the host gives: where words go to; a turn for others; the text of the program as its file has it, null where there is none; files
- * to read and write, which throws why not, and the names of those that begin with a text; whether somebody can stop what goes on without
- * an end; and the view (view.js), null where no terminal has room for one: its calls give words of why it cannot be.
- * @typedef {{ print: (words: string) => void, complain: (words: string) => void, pause: () => Promise<void>, source: () => string | null,
- *   read: (name: string) => string, write: (name: string, text: string) => void, files: (begin: string) => string[], isByHand: boolean,
- *   view: { toggle: () => string, turn: (isOn: boolean) => string } | null }} PromptCalls
  * @typedef {(rest: string) => void | Promise<void>} Act
+ */
+
+/**
+ * What the debugger's prompt calls of its host. `complain` and `read` also serve files of lines.
+ * @typedef {object} PromptCalls
+ * @property {(words: string) => void} print Prints a message on standard output.
+ * @property {(words: string) => void} complain Prints a message on standard error.
+ * @property {() => Promise<void>} pause Resolves after other work had its turn, such as a typed Ctrl-C.
+ * @property {() => string | null} source Returns the text of the program as its file has it now; null if the program has no file.
+ * @property {(name: string) => string} read Returns the text of a file; throws an error that says why it cannot be read.
+ * @property {(name: string, text: string) => void} write Writes a text to a file; throws an error that says why it cannot be written.
+ * @property {(begin: string) => string[]} files Returns the names of the files that begin with a text.
+ * @property {boolean} isByHand Whether somebody can interrupt what would go on without an end.
+ * @property {{ toggle: () => string, turn: (isOn: boolean) => string } | null} view Shows or hides the view (view.js); null without a
+ *   terminal. Each call returns why it cannot be shown, "" if it can.
  */
 
 /** A move of a script takes so many cycles at most, 18 minutes of the board. */

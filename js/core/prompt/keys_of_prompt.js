@@ -1,14 +1,15 @@
 // Keys as they are named at a prompt: by the board's face, or as row.column.
 
 import { readBoard } from "../bench/answers.js";
-import { keysOf } from "../testing/test_text.js";
+import { matrixKey, textOfKey } from "../board/key_place.js";
+import { keysOf, namedKey } from "../testing/test_text.js";
 import { keysDown } from "./looks.js";
 import { refuse } from "./words_of_line.js";
 import * as say from "../../words/prompt.js";
 
 /**
  * @typedef {import("../debug/debug_session.js").DebugSession} DebugSession
- * @typedef {{ name: string, key: string, press: string, release: string }} NamedKey `press` and `release` are lines
+ * @typedef {import("../testing/test_text.js").Key} NamedKey
  */
 
 export class KeysOfPrompt {
@@ -24,11 +25,11 @@ export class KeysOfPrompt {
   /** The names of all keys: those that have none are told by row and column. */
   get names() {
     const { rows, columns } = readBoard(this.session.debugger.session.lookQuestions.board);
-    const taken = new Set([...this.named.values()].map(({ press }) => press));
+    const taken = new Set([...this.named.values()].map(({ key }) => textOfKey(key)));
     const others = [];
     for (let at = 0; at < rows * columns; at++) {
-      const key = [Math.floor(at / columns), at % columns];
-      if (!taken.has(`press ${key.join(" ")}`)) others.push(key.join("."));
+      const [row, column] = [Math.floor(at / columns), at % columns];
+      if (!taken.has(textOfKey(matrixKey(row, column)))) others.push(`${row}.${column}`);
     }
     return [...this.named.keys(), ...others];
   }
@@ -46,12 +47,11 @@ export class KeysOfPrompt {
    */
   find(word) {
     const named = this.named.get(word);
-    if (named) return { name: word, key: named.press.replace(/^press /, ""), press: named.press, release: named.release };
+    if (named) return named;
     const [, row, column] = /^(\d+)\.(\d+)$/.exec(word) || [];
     const { rows, columns } = readBoard(this.session.debugger.session.lookQuestions.board);
     if (row === undefined || Number(row) >= rows || Number(column) >= columns) return null;
-    const key = `${Number(row)} ${Number(column)}`;
-    return { name: word, key, press: `press ${key}`, release: `release ${key}` };
+    return namedKey(word, matrixKey(Number(row), Number(column)));
   }
 
   /**

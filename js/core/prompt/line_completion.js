@@ -6,11 +6,15 @@ import { POKED, TRACED } from "../bench/line_forms.js";
 import { upTo } from "../bench/numbers.js";
 
 /**
- * What a host and a session tell: the names of files that begin with a text, and answers to questions.
- * @typedef {{ files: (begin: string) => string[], ask: (line: string) => Promise<string[]> }} CompletionCalls
- *
  * The ways to go on, and the end of the line that they replace.
  * @typedef {[string[], string]} Completion
+ */
+
+/**
+ * What completion asks of the host and of the session.
+ * @typedef {object} CompletionCalls
+ * @property {(begin: string) => string[]} files Returns the names of the files that begin with a text.
+ * @property {(line: string) => Promise<string[]>} ask Resolves to the bench's answers to one line, without showing them.
  */
 
 /** Words of the prompt itself. */

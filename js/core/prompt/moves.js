@@ -1,16 +1,13 @@
 // Moves that a prompt has beside those of the debugger: back past a subroutine, keys that are pressed while time passes.
 
-import { DOWN_CYCLES } from "../engine/key_queue.js";
 import { isCall, isReturn } from "../engine/rom_codes.js";
+import { KEY_DOWN_CYCLES, TOOL_KEY_UP_CYCLES } from "../time/mcs4_time.js";
 import * as say from "../../words/prompt.js";
 
 /**
  * @typedef {import("../debug/debug_session.js").DebugSession} DebugSession
  * @typedef {import("../debug/debugger.js").GoesOn} GoesOn
  */
-
-/** A program has so long for a key once it is up again, as with mcs4 keys. */
-const AFTER_CYCLES = 16000;
 
 /**
  * The byte of ROM that comes next.
@@ -41,12 +38,12 @@ export async function backOver(session, goesOn) {
 /**
  * A key is down for a while, and up; time passes meanwhile, up to a stop.
  * @param {DebugSession} session
- * @param {string} key `0 2`, or `test 0`
+ * @param {import("../board/key_place.js").Key} key
  * @param {GoesOn} goesOn
  */
 export function pressed(session, key, goesOn) {
   const { queue } = session.debugger.session;
   queue.press(key);
   queue.release(key);
-  return session.pass(DOWN_CYCLES + AFTER_CYCLES, goesOn);
+  return session.pass(KEY_DOWN_CYCLES + TOOL_KEY_UP_CYCLES, goesOn);
 }

@@ -4,9 +4,10 @@ import { readCounter, readRun } from "../bench/answers.js";
 import { upTo } from "../bench/numbers.js";
 import { ADDRESSES } from "../bench/rom_bytes.js";
 import { portsOf, partsOfState } from "../bench/state_line.js";
+import { isSameKey, lineOfKey, matrixKey, pinKey } from "../board/key_place.js";
 import { MOST_ON } from "../debug/breakpoints.js";
 import { LONGEST_RUN } from "../engine/key_queue.js";
-import { keysOf, pinOf } from "../explore/explored_inputs.js";
+import { inputOf, keysOf, pinOf } from "../explore/explored_inputs.js";
 import { PAUSE } from "./question.js";
 
 /**
@@ -28,8 +29,9 @@ const looksAtTest = (code) => (code & 0xF1) === 0x11;
 export function allInputs({ names: { face, board } }) {
   const named = new Map(keysOf(face).map((input) => [input.down, input]));
   const keys = upTo(board.rows).flatMap((row) => upTo(board.columns).map((column) => {
-    const [down, up] = [`press ${row} ${column}`, `release ${row} ${column}`];
-    return named.get(down) || { name: `${row},${column}`, isKey: true, down, up, downWords: down, upWords: up, isDown: false };
+    const key = matrixKey(row, column);
+    const [down, up] = [lineOfKey("press", key), lineOfKey("release", key)];
+    return named.get(down) || inputOf(`${row},${column}`, key, [down, up]);
   }));
   return [...keys, pinOf(face)];
 }
@@ -89,7 +91,7 @@ class Way {
    */
   putTest(level) {
     const pin = this.inputs.length - 1;
-    this.put(pin, this.inputs[pin].down === `test ${level}`);
+    this.put(pin, isSameKey(this.inputs[pin].key, pinKey(level)));
   }
 
   /**

@@ -24,7 +24,7 @@ const PROPERTIES = /\.props$/i;
 const OTHERS = /\.(test|props|txt|mcsp|mcs|md|json|toml|[ch])$/i;
 const TOML = /\.toml$/i;
 /** Texts that are surely the board of none. */
-export const NO_BOARD = /\.(asm|test|props)$/i;
+export const NO_BOARD = /\.(asm|4004|test|props)$/i;
 const TABLES = ["rom", "ram", "chain", "lamp"];
 
 /** So many folders above a program are looked at for its project. */
@@ -128,7 +128,9 @@ export function besideOf(uri, textOf) {
   const project = projectFor(uri, textOf);
   if (!project) {
     const folder = folderOf(uri);
-    return { folder: "", board: within(folder, "board.toml"), program: uri.replace(/\.[^./]*$/, ".asm"), tests: [uri] };
+    const [program, other] = [".asm", ".4004"].map((ending) => uri.replace(/\.[^./]*$/, ending));
+    const isOther = textOf(program, "") === null && textOf(other, "") !== null;
+    return { folder: "", board: within(folder, "board.toml"), program: isOther ? other : program, tests: [uri] };
   }
   const { folder, board, program, tests } = project;
   const place = tests.indexOf(uri);

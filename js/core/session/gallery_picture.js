@@ -100,10 +100,8 @@ class Drawing {
   }
 
   drawKeys() {
-    const keys = [...this.face.keys].map(([key, { text }]) => {
-      const [row, column] = key.split(" ").map(Number);
-      return { row, column, legend: text };
-    }).filter(({ legend }) => legend !== "");
+    const keys = [...this.face.keys.values()].map(({ text, key: { row, column } }) => ({ row, column, legend: text }))
+      .filter(({ legend }) => legend !== "");
     if (keys.length === 0) return;
     const columns = Math.max(...keys.map(({ column }) => column)) + 1;
     const width = Math.min(30, (WIDTH - 2 * GAP) / columns);

@@ -8,9 +8,12 @@ import { textsOfBytes } from "../text/assembling.js";
 import * as say from "../../words/session.js";
 
 /**
- * What it calls: answers to questions; lines are served, which gives the first answer, or null where they failed; time is stopped.
- * @typedef {{ ask: (lines: string) => Promise<string[]>, act: (lines: string) => Promise<string | null>,
- *   stop: () => Promise<void> }} RomCalls
+ * What loading and saving ROMs calls.
+ * @typedef {object} RomCalls
+ * @property {(lines: string) => Promise<string[]>} ask Resolves to the bench's answers to questions.
+ * @property {(lines: string) => Promise<string | null>} act Serves lines that change the session. Resolves to the first answer, null if
+ *   the call failed, which is then reported.
+ * @property {() => Promise<void>} stop Pauses time; resolves once it is paused.
  */
 
 /** The board lacks a ROM, in words. */

@@ -1,6 +1,7 @@
 // Lines that press keys of a board by their names, one after the other.
 
 import { SEEN_QUESTION, hasScannedDisplay } from "../engine/seen_text.js";
+import { TOOL_KEY_DOWN_CYCLES, TOOL_KEY_UP_CYCLES } from "../time/mcs4_time.js";
 import { keysOf } from "./test_text.js";
 
 /**
@@ -13,8 +14,8 @@ import { keysOf } from "./test_text.js";
  * @typedef {{ lines: string[], unknown: string | null }} PressLines
  */
 
-/** The same as 43 ms and 173 ms: programs that poll their keys see each of them. */
-export const USUAL_PACE = { down: 4000, up: 16000 };
+/** @type {Pace} */
+export const USUAL_PACE = { down: TOOL_KEY_DOWN_CYCLES, up: TOOL_KEY_UP_CYCLES };
 
 /**
  * Returns lines for keys. A word that is no name is taken letter by letter.

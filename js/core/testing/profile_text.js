@@ -1,7 +1,7 @@
 // A profile as a table for a terminal: a row for each label, and one for each key that was pressed.
 
 import { hex, withTenths } from "../bench/numbers.js";
-import { CYCLE_TIME } from "../time/cycles.js";
+import { CYCLE_MS } from "../time/mcs4_time.js";
 import * as say from "../../words/testing.js";
 
 /**
@@ -17,7 +17,7 @@ const PLACE_WIDTH = 22;
 const right = (value, width) => String(value).padStart(width);
 
 /** @param {number} cycles */
-const milliseconds = (cycles) => say.inMilliseconds(withTenths(cycles * CYCLE_TIME));
+const milliseconds = (cycles) => say.inMilliseconds(withTenths(cycles * CYCLE_MS));
 
 /** @type {(own: number, total: number) => string} */
 const share = (own, total) => `${right(own, 10)} ${right(withTenths((100 * own) / total), 6)}`;

@@ -5,6 +5,7 @@ import { itemsOf, valueIn } from "../bench/state_line.js";
 import { LONGEST_RUN } from "../engine/key_queue.js";
 import { Answers, readTraced, valuesOf } from "../engine/tracing.js";
 import { cyclesOf } from "../engine/rom_codes.js";
+import { TOOL_KEY_DOWN_CYCLES, TOOL_KEY_UP_CYCLES } from "../time/mcs4_time.js";
 import { lastInstructions } from "./last_instructions.js";
 import { wordsOfPassed } from "./last_passed.js";
 import { Paper } from "./paper.js";
@@ -31,11 +32,8 @@ import * as say from "../../words/testing.js";
  * @typedef {{ name: string, line: number, cycles: number, failure: Failure | null }} Outcome
  */
 
-/** How long a key is down (43 ms) and up (173 ms) by `keys`, in cycles. */
-const DOWN = 4000;
 /** How often it is looked for what an eye sees. */
 const LOOK_CYCLES = 1000;
-const UP = 16000;
 
 /** @param {Step} step */
 function placeOf({ source, line, text }) {
@@ -61,10 +59,12 @@ export class TestRun {
     this.states = new Map();
     /** The number of the text whose states they are. */
     this.textNumber = 1;
-    this.down = DOWN;
-    this.up = UP;
+    this.down = TOOL_KEY_DOWN_CYCLES;
+    this.up = TOOL_KEY_UP_CYCLES;
     /** Whether a test may put other bytes into ROM, so that each one reads them again. */
     this.changesRom = true;
+    /** @type {(session: TestSession) => void} takes the session of each test at its end */
+    this.ran = () => {};
   }
 
   /**
@@ -87,10 +87,11 @@ export class TestRun {
     const session = new TestSession(this.engine, begun.file, this.account, this.breathe, paper);
     // Another test may have put other bytes into ROM.
     if (from !== "" && this.changesRom) session.readCodes();
-    this.down = DOWN;
-    this.up = UP;
+    this.down = TOOL_KEY_DOWN_CYCLES;
+    this.up = TOOL_KEY_UP_CYCLES;
     const failure = await this.runSteps(session, steps, []);
     session.end();
+    this.ran(session);
     return { name, line, cycles: session.elapsed, failure };
   }
 

@@ -24,9 +24,10 @@ import { readSources } from "./test_text.js";
  *   with their names
  *
  * What is counted (of less than an Account the coverage or the profile is empty); what takes each outcome, with its number, as its test
- * ends; and the one test that is run, by its name and its source, after those that lead to the state that it goes on from.
+ * ends; what takes the session of each test; and the one test that is run, by its name and its source, after those that lead to the state
+ * that it goes on from.
  * @typedef {{ Counting?: typeof Account, ended?: (outcome: Outcome, number: number, total: number) => void,
- *   only?: { name: string, source: string } | null }} Options
+ *   ran?: (session: import("./test_session.js").TestSession) => void, only?: { name: string, source: string } | null }} Options
  *
  * What came of tests; with faults nothing was run.
  * @typedef {{ faults: TextFault[], outcomes: Outcome[], coverage: Coverage | null, profile: Profile | null }} Report
@@ -97,7 +98,7 @@ const changesRom = (action) => action.kind === "set" && action.changesRom;
  * @returns {Promise<Report>}
  */
 export async function runTests(engine, texts, goesOn, options = {}) {
-  const { Counting = Account, ended = () => {}, only = null } = options;
+  const { Counting = Account, ended = () => {}, ran = () => {}, only = null } = options;
   const { prepared, faults, tests: all } = readTested(engine, texts);
   const { sources = [] } = texts;
   const tests = only ? leadingTo(all, ({ name, textNumber }) => name === only.name && sources[textNumber - 1].name === only.source) : all;
@@ -113,6 +114,7 @@ export async function runTests(engine, texts, goesOn, options = {}) {
   };
   const printer = tests.some(({ steps }) => someStep(steps, asksForPaper)) ? prepared.names.face.printer : null;
   const run = new TestRun(engine, prepared, account, breathe, printer);
+  run.ran = ran;
   run.changesRom = tests.some(({ steps }) => someStep(steps, changesRom));
   if (tests.length > 1) engine.keep(prepared.file);
   for (const test of tests) {

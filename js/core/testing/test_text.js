@@ -7,6 +7,7 @@ import { expressionOf, testConditionOf } from "../conditions/condition_language.
 import { placeOf } from "../conditions/places.js";
 import { readSetting } from "../conditions/setting.js";
 import { numberOf } from "../bench/numbers.js";
+import { lineOfKey, pinKey } from "../board/key_place.js";
 import { inColumn } from "../../words/conditions.js";
 import * as say from "../../words/testing.js";
 
@@ -15,7 +16,7 @@ import * as say from "../../words/testing.js";
  * @typedef {import("../conditions/condition_language.js").Names} Names
  * @typedef {{ name: string, text: string }} Source a text of tests with the name of its file, "" where it has none
  * @typedef {{ file: string, line: number, column: number, words: string }} Fault `column` counts from 0, -1 if none is known
- * @typedef {{ name: string, press: string, release: string }} Key with the commands that move it
+ * @typedef {{ name: string, key: import("../board/key_place.js").Key, press: string, release: string }} Key with the commands that move it
  *
  * A key that a value names: the word of the line, the place, its word of `trace`, and the keys for the values from 0 on; without these, the
  * key whose name is the value.
@@ -68,6 +69,16 @@ function fail(words, column = -1) {
 const romAddress = (place) => (place.startsWith("rom.") ? numberOf(place.slice("rom.".length)) : NaN);
 
 /**
+ * Returns a key with its name.
+ * @param {string} name
+ * @param {Key["key"]} key
+ * @returns {Key}
+ */
+export function namedKey(name, key) {
+  return { name, key, press: lineOfKey("press", key), release: lineOfKey("release", key) };
+}
+
+/**
  * The names of a board's keys with the commands that move them, in the order of the face; last what is at TEST.
  * @param {import("../board/face.js").Face} face
  * @returns {Map<string, Key>}
@@ -75,13 +86,8 @@ const romAddress = (place) => (place.startsWith("rom.") ? numberOf(place.slice("
 export function keysOf(face) {
   /** @type {Map<string, Key>} */
   const keys = new Map();
-  for (const [key, { text: name }] of face.keys) {
-    if (name !== "") keys.set(name, { name, press: `press ${key}`, release: `release ${key}` });
-  }
-  if (face.test && !keys.has(face.test.name)) {
-    const { name, level } = face.test;
-    keys.set(name, { name, press: `test ${level}`, release: `test ${1 - level}` });
-  }
+  for (const { text: name, key } of face.keys.values()) if (name !== "") keys.set(name, namedKey(name, key));
+  if (face.test && !keys.has(face.test.name)) keys.set(face.test.name, namedKey(face.test.name, pinKey(face.test.level)));
   return keys;
 }
 

@@ -1,12 +1,8 @@
 // Cycles for people: how many since a reset, since the last stop and between two marks, with the time that a real 4004 takes for them.
 
 import { counted } from "../bench/numbers.js";
+import { CYCLE_US } from "./mcs4_time.js";
 import * as say from "../../words/time.js";
-
-/** A 4004 takes so many microseconds for a cycle: eight periods of 1.35. */
-const MICROSECONDS = 10.8;
-/** The same in milliseconds. */
-export const CYCLE_TIME = MICROSECONDS / 1000;
 
 /**
  * What is kept beside a session: the cycles in all, those up to the last reset and up to the beginning of the last stretch of time, and
@@ -19,7 +15,7 @@ export const NONE = { total: 0, reset: 0, from: 0, marks: [] };
 
 /** @param {number} cycles */
 export function timeOfCycles(cycles) {
-  const milliseconds = (cycles * MICROSECONDS) / 1000;
+  const milliseconds = (cycles * CYCLE_US) / 1000;
   return milliseconds < 1000 ? say.inMilliseconds(milliseconds.toFixed(3)) : say.inSeconds((milliseconds / 1000).toFixed(3));
 }
 

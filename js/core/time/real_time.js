@@ -1,12 +1,12 @@
 // Real time: how many cycles are due. What a page that is hidden, held up or asleep has missed is left out. For a key cycles are lent: they
 // are done before their time, and owed less afterwards.
 
-/** The real chip does so many cycles a second. */
-export const REAL_CYCLES = 92593;
+import { CYCLES_PER_SECOND, FRAME_MS } from "./mcs4_time.js";
+
 /** A frame owes at most so many: what a slow browser has missed is left out. */
 export const MOST_DUE = 20000;
-/** So many milliseconds time may run ahead for a key: a frame of a screen that shows 60 a second, which is when lamps can follow. */
-export const MOST_AHEAD = 1000 / 60;
+/** For a key time may run ahead by this many milliseconds: a frame, which is when lamps can follow. */
+export const MOST_AHEAD = FRAME_MS;
 /** Frames that are so many milliseconds apart: time stood still between them. */
 export const LONG_GAP = 1000;
 
@@ -23,7 +23,7 @@ export class RealTime {
     /** The cycles that are owed; what was lent counts below 0. */
     this.owed = 0;
     /** How many cycles, or instructions, a second owes. */
-    this.perSecond = REAL_CYCLES;
+    this.perSecond = CYCLES_PER_SECOND;
   }
 
   /** The time up to which cycles were done, by the clock of the frames. */

@@ -1,6 +1,7 @@
 // How long the runs in some answers took: their cycles, and the time that a 4004 takes for them.
 
 import { readRun } from "../bench/answers.js";
+import { CYCLE_TENTHS_US } from "./mcs4_time.js";
 import * as say from "../../words/time.js";
 
 /**
@@ -11,15 +12,13 @@ import * as say from "../../words/time.js";
  * @typedef {{ runs: string[], sum: string, words: string }} RunTimes
  */
 
-/** A cycle takes 10.8 microseconds: so many tenths. */
-const TENTHS = 108;
 const REFUSED = /^no \d/;
 /** The answers to `regs` and `state` have the counter. */
 const COUNTER = /^(?:acc|state seq) .*?\bpc ([0-9A-F]+)/;
 
 /** @param {number} cycles */
 function timeOf(cycles) {
-  const tenths = cycles * TENTHS;
+  const tenths = cycles * CYCLE_TENTHS_US;
   return say.cyclesAndMicroseconds(cycles, `${Math.floor(tenths / 10)}.${tenths % 10}`);
 }
 

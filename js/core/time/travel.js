@@ -11,16 +11,25 @@ import * as say from "../../words/time.js";
  * @typedef {import("../bench/protocol.js").Tally} Tally
  * @typedef {import("../bench/protocol.js").ServedLines} ServedLines
  * @typedef {import("../debug/goals.js").Goal} Goal
- *
- * What it calls: time stands still; a goal is looked for, or not any more; work that changes the session is done, kept and shown, or null
- * is given; time runs up to a goal that the bench knows; breakpoints did something; why time stopped, in words; where it stands
- * still; a breakpoint; the status says something; `texts` have the names that conditions may have.
- * @typedef {{ stand: () => Promise<void>, texts: () => { board: string, program: string, watched: string[] },
- *   aim: (goal: Goal | null) => void,
- *   change: <Result extends ServedLines>(words: string, work: (ways: Ways) => Promise<Result>) => Promise<Result | null>,
- *   runTo: (goal: Goal) => void, counted: (tally: Tally) => void, reasonOf: (stop: Stop, goal: Goal) => string,
- *   where: () => string, breakpoint: (id: number) => import("../debug/breakpoints.js").Breakpoint | undefined,
- *   tell: (words: string) => void }} TravelCalls
+ */
+
+/**
+ * What moves through time call.
+ * @typedef {object} TravelCalls
+ * @property {() => Promise<void>} stand Pauses time; resolves once it is paused.
+ * @property {() => { board: string, program: string, watched: string[] }} texts Returns the texts whose names a condition may have, and
+ *   the watched values.
+ * @property {(goal: Goal | null) => void} aim Keeps the goal with the session while it is looked for; null once it is not.
+ * @property {<Result extends ServedLines>(words: string, work: (ways: Ways) => Promise<Result>) => Promise<Result | null>} change Does
+ *   work that changes the session, keeps and shows its result. `words` name the work while it can be cancelled. Resolves to null if it
+ *   was cancelled or failed, which is then reported.
+ * @property {(goal: Goal) => void} runTo Lets time run to a goal that the bench has.
+ * @property {(tally: Tally) => void} counted Reports what breakpoints did.
+ * @property {(stop: Stop, goal: Goal) => string} reasonOf Returns the message about why time stopped on its way to a goal.
+ * @property {() => string} where Returns the counter with its name and its line, as words.
+ * @property {(id: number) => import("../debug/breakpoints.js").Breakpoint | undefined} breakpoint Returns the breakpoint with an id;
+ *   undefined if there is none.
+ * @property {(words: string) => void} tell Shows a message in the status line.
  */
 
 export class Travel {

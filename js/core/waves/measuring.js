@@ -1,6 +1,7 @@
 // What is measured of a line at a moment: for how long it has its value, and of a bit the time from an edge to the next one of its kind.
 
 import { wordsOfCycles } from "../time/cycles.js";
+import { CYCLE_US } from "../time/mcs4_time.js";
 import { isText } from "./wave_lines.js";
 import * as say from "../../words/waves.js";
 
@@ -12,8 +13,6 @@ import * as say from "../../words/waves.js";
  * @typedef {{ from: number, to: number, isWhole: boolean, period: number }} Measure
  */
 
-/** Cycles of 10.8 microseconds in a second. */
-const RATE = 1e6 / 10.8;
 const DIGITS = 4;
 
 /**
@@ -33,7 +32,7 @@ export function measureAt(waves, line, moment) {
 
 /** @param {number} period in cycles */
 export function frequencyText(period) {
-  const hertz = RATE / period;
+  const hertz = (1e6 / CYCLE_US) / period;
   return hertz < 1000 ? say.inHertz(hertz.toPrecision(DIGITS)) : say.inKilohertz((hertz / 1000).toPrecision(DIGITS));
 }
 

@@ -2,6 +2,7 @@
 // which it waits to become true (`r9 = 9`, `lamp 3 on`, `display 42`, `@LABEL`: conditions/condition_language.js). Without a document.
 
 import { tracedConditionOf } from "../conditions/condition_language.js";
+import { isDecoder } from "./decoders.js";
 import { inColumn } from "../../words/conditions.js";
 import * as say from "../../words/waves.js";
 
@@ -81,6 +82,7 @@ function readEdge(name, edge, lines) {
   if (line < 0) return { trigger: null, fault: say.noSuchName(name) };
   const { kind, members, width } = lines[line];
   if (kind === "pc" || kind === "label") return { trigger: null, fault: say.LABEL_FORM };
+  if (isDecoder(lines[line])) return { trigger: null, fault: say.decodedForm(lines[line].name) };
   if (edge !== "changes" && width > 1) {
     return { trigger: null, fault: say.numberForm(name) };
   }

@@ -1,9 +1,12 @@
 // A recording as a VCD file (IEEE 1364): the page and `mcs4 wave` write the same bytes for the same lines of the same session.
 
+import { CYCLE_TENTHS_US, CYCLE_US } from "../time/mcs4_time.js";
+import { isDecoder } from "./decoders.js";
+
 /** @typedef {import("./wave_recording.js").Waves} Waves */
 
-/** Units of time in a cycle of 10.8 microseconds: a unit is 100 ns. */
-const UNITS = 108;
+/** Units of time in a cycle: a unit is 100 ns. */
+const UNITS = CYCLE_TENTHS_US;
 /** More lines than a recording can have: a change is one number, of its moment and its line. */
 const LINES = 8192;
 /** So many lines of the file are one part of it: a text has not room for all that a long recording has. */
@@ -27,7 +30,7 @@ function codeOf(number) {
  * @param {number} line
  */
 function kindOf({ lines }, line) {
-  return lines[line].kind === "label" ? "string 1" : `wire ${lines[line].width}`;
+  return lines[line].kind === "label" || isDecoder(lines[line]) ? "string 1" : `wire ${lines[line].width}`;
 }
 
 /** Writes a recording as a VCD file. One that is recorded piece by piece is written so, too. */
@@ -50,11 +53,15 @@ export class VcdText {
    * Returns the text of a value of a line.
    * @param {number} index of the line among the chosen ones
    * @param {number} value
+   * @param {number} moment
    */
-  changeText(index, value) {
-    const { program, lines } = this.waves;
-    const { kind, width } = lines[this.chosen[index]];
+  changeText(index, value, moment) {
+    const { waves } = this;
+    const { program, lines } = waves;
+    const line = this.chosen[index];
+    const { kind, width } = lines[line];
     if (kind === "label") return `s${program && value > 0 ? program.labels[value - 1].name : "-"} ${this.codes[index]}`;
+    if (isDecoder(lines[line])) return `s${waves.valueAt(line, moment).replace(/ /g, "_")} ${this.codes[index]}`;
     if (width === 1) return value + this.codes[index];
     return `b${value.toString(2).padStart(width, "0")} ${this.codes[index]}`;
   }
@@ -64,7 +71,7 @@ export class VcdText {
     const { waves, chosen, codes } = this;
     return `${[
       "$version Fethsaim $end",
-      "$comment 108 units of time are a cycle of the 4004, 10.8 microseconds $end",
+      `$comment ${UNITS} units of time are a cycle of the 4004, ${CYCLE_US} microseconds $end`,
       "$timescale 100 ns $end",
       "$scope module board $end",
       ...chosen.map((line, at) => `$var ${kindOf(waves, line)} ${codes[at]} ${waves.lines[line].name} $end`),
@@ -72,7 +79,7 @@ export class VcdText {
       "$enddefinitions $end",
       "#0",
       "$dumpvars",
-      ...chosen.map((line, at) => this.changeText(at, waves.numberAt(line, waves.from))),
+      ...chosen.map((line, at) => this.changeText(at, waves.numberAt(line, waves.from), waves.from)),
       "$end",
     ].join("\n")}\n`;
   }
@@ -89,7 +96,7 @@ export class VcdText {
       counts[index] += 1;
       if (moment !== this.written) lines.push(`#${(moment - this.begun) * UNITS}`);
       this.written = moment;
-      lines.push(this.changeText(index, tracks[index].valueBehind(counts[index])));
+      lines.push(this.changeText(index, tracks[index].valueBehind(counts[index]), moment));
       if (lines.length < LINES_OF_PART) continue;
       yield `${lines.join("\n")}\n`;
       lines = [];

@@ -1,7 +1,7 @@
 // The sound of a line as a WAV file: 16 bits, one channel, a sample for each cycle.
 
-/** Samples in a second: a cycle is 10.8 microseconds. */
-const RATE = 92593;
+import { CYCLES_PER_SECOND } from "../time/mcs4_time.js";
+
 const SAMPLE_BYTES = 2;
 const HEAD_BYTES = 44;
 const FORMAT_BYTES = 16;
@@ -40,8 +40,8 @@ export function wavOf(level, edges, cycles) {
   view.setUint32(16, FORMAT_BYTES, true);
   view.setUint16(20, PCM, true);
   view.setUint16(22, CHANNELS, true);
-  view.setUint32(24, RATE, true);
-  view.setUint32(28, RATE * SAMPLE_BYTES, true);
+  view.setUint32(24, CYCLES_PER_SECOND, true);
+  view.setUint32(28, CYCLES_PER_SECOND * SAMPLE_BYTES, true);
   view.setUint16(32, SAMPLE_BYTES, true);
   view.setUint16(34, 8 * SAMPLE_BYTES, true);
   putLetters(bytes, LETTERS.data, "data");

@@ -1,5 +1,6 @@
 // What a recording can have, and what of it is shown.
 
+import { isDecoder } from "./decoders.js";
 import { plain } from "./trigger.js";
 import { REGISTER_NAMES, characterNames, isText, linesOfBoard } from "./wave_lines.js";
 import * as say from "../../words/waves.js";
@@ -25,7 +26,8 @@ export function catalogOf(board, text) {
 }
 
 /**
- * The lines that are shown at first: those bits that change, in their order, then the counter and the label; where none changes, the first.
+ * The lines that are shown at first: those bits that change, in their order, then the decoders that do, the counter and the label; where no
+ * bit changes, the first ones.
  * @param {Waves} waves
  */
 export function firstChoice(waves) {
@@ -33,7 +35,8 @@ export function firstChoice(waves) {
   const bits = all.filter((line) => !isText(waves.lines[line]) && waves.lines[line].kind !== "value");
   const changing = bits.filter((line) => waves.changesOf(line).length > 0);
   const names = all.filter((line) => waves.lines[line].kind === "pc" || waves.lines[line].kind === "label");
-  return [...(changing.length > 0 ? changing : bits).slice(0, MOST_AT_FIRST), ...names];
+  const decoders = all.filter((line) => isDecoder(waves.lines[line]) && waves.changesOf(line).length > 0);
+  return [...(changing.length > 0 ? changing : bits).slice(0, MOST_AT_FIRST), ...decoders, ...names];
 }
 
 /**

@@ -11,13 +11,15 @@ import * as say from "../../words/waves.js";
 /**
  * @typedef {import("../bench/answers.js").Board} Board
  * @typedef {import("../board/face.js").Told} Told
- * @typedef {"level" | "key" | "test" | "value" | "port" | "pc" | "label"} WaveKind
+ * @typedef {"level" | "key" | "test" | "value" | "port" | "shift" | "scan" | "pc" | "label"} WaveKind
  *
  * A line, or a number. `title` is what the board's text calls it, "" for nothing else than its name; `group` is the part of the board that
  * it belongs to. `places`: of a level the line of the board (of a lamp the one that it is at), of a key its row and column, of a value the
- * places of `trace` that tell its digits, the highest first; `members`: of a port the levels that it has, the lowest first, by their
- * numbers among the lines. `width`: how many bits it has.
- * @typedef {{ name: string, title: string, group: string, kind: WaveKind, places: string[], members: number[], width: number }} WaveLine
+ * places of `trace` that tell its digits, the highest first, of a key scan the names of its keys, row by row; `members`: the levels that
+ * it is made of, by their numbers among the lines: of a port its own, the lowest first, of a shift register its clock, its data and its
+ * bits, of a key scan its columns and its rows. `width`: how many bits it has. `columns`: how many of them are columns of a key scan.
+ * @typedef {{ name: string, title: string, group: string, kind: WaveKind, places: string[], members: number[], width: number,
+ *   columns: number }} WaveLine
  */
 
 /** A name of the board's text that can stand in a VCD file as it is. */
@@ -33,7 +35,7 @@ const MOST_BITS = 50;
  * @returns {WaveLine}
  */
 function made(name, group, kind, rest = {}) {
-  return { name, title: "", group, kind, places: [], members: [], width: 1, ...rest };
+  return { name, title: "", group, kind, places: [], members: [], width: 1, columns: 0, ...rest };
 }
 
 /**
@@ -110,6 +112,32 @@ function portsOf(lines, face) {
   });
 }
 
+/**
+ * The decoders of a board: one for each chain of shift registers, and one for the key matrix.
+ * @param {Board} board
+ * @param {WaveLine[]} lines of the board
+ * @param {Face} face
+ */
+function decodersOf({ chains, matrix }, lines, face) {
+  const numbers = (/** @type {string[]} */ places) => places.map((place) => lines.findIndex(({ name }) => name === place));
+  const bitsOf = (/** @type {number} */ chain, /** @type {number} */ first, /** @type {number} */ count) => (
+    upTo(count).map((bit) => `chain${chain}.${first + bit}`));
+  const decoders = chains.map(({ clock, data, chips }, at) => {
+    const bits = bitsOf(at, 0, BITS * chips);
+    const members = numbers([clock, data, ...bits]);
+    return made(`shift.chain${at}`, "decoders", "shift", { title: say.shiftOf(at), members, width: bits.length });
+  });
+  if (!matrix) return decoders;
+  const { chain, first, rows, columns } = matrix;
+  const places = upTo(rows).flatMap((row) => columns.map((_, column) => {
+    const told = face.keys.get(`${row} ${column}`);
+    return told ? told.text : `${row}.${column}`;
+  }));
+  const members = numbers([...columns, ...bitsOf(chain, first, rows)]);
+  return [...decoders, made("scan.keys", "decoders", "scan",
+    { title: say.KEY_SCAN, places, members, width: members.length, columns: columns.length })];
+}
+
 /** The places that hold one value. */
 const VALUE = /^(acc|cy|dcl|src|r\d+|p\d|(ram|st)\..*)$/;
 const DIGIT_WIDTH = 4;
@@ -151,7 +179,7 @@ export function characterNames({ banks }) {
 
 /**
  * The lines of a board, in their order: those of the ROMs, the RAM chips, the chains, the lamps, the keys, TEST, the ports as numbers, the
- * values that are asked for, the counter, and, where the program's labels are known, the label.
+ * decoders, the values that are asked for, the counter, and, where the program's labels are known, the label.
  * @param {Board} board
  * @param {string} text of the board, which has names
  * @param {boolean} hasLabels
@@ -163,7 +191,8 @@ export function linesOfBoard(board, text, hasLabels, values = []) {
   const bits = [...linesOfChips(board, face), ...linesOfFront(board, face), made("test", "test", "test")];
   const others = values.flatMap((name) => valueLine(name, board) || []);
   const counter = made("pc", "pc", "pc", { width: 12 });
-  return [...bits, ...portsOf(bits, face), ...others, counter, ...(hasLabels ? [made("label", "label", "label", { width: 16 })] : [])];
+  const labels = hasLabels ? [made("label", "label", "label", { width: 16 })] : [];
+  return [...bits, ...portsOf(bits, face), ...decodersOf(board, bits, face), ...others, counter, ...labels];
 }
 
 /**

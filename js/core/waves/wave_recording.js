@@ -2,6 +2,7 @@
 // made while time runs becomes longer at its end, and forgets its beginning.
 
 import { ADDRESSES } from "../bench/rom_bytes.js";
+import { deriveShift, lastRise, scanText, shiftText } from "./decoders.js";
 import { Growing, countUpTo } from "./growing.js";
 import { Track, emptyTrack } from "./track.js";
 import { valueText } from "./wave_words.js";
@@ -15,6 +16,9 @@ import { valueText } from "./wave_words.js";
  *   done at a moment: its address, its line of the listing, and its line of the source with its number (0 for none); whether it is the
  *   second cycle of an instruction; whether it comes next, at the end of the recording
  */
+
+/** The kinds of lines that are made of other lines, or of the instructions. */
+const DERIVED = new Set(["pc", "label", "port", "shift", "scan"]);
 
 /**
  * The label at each address or nearest below it, by their numbers; -1 for none.
@@ -48,6 +52,8 @@ export class Waves {
     this.below = labelsBelow(program ? program.labels : []);
     /** @type {Map<number, Track>} the tracks of lines that are made of others, as far as they were asked for */
     this.derived = new Map();
+    /** @type {Map<number, number>} the last rise of the clock of a shift register, if the recording begins after it */
+    this.rises = new Map();
     /** @type {Base} how numbers are written */
     this.base = "hex";
   }
@@ -92,6 +98,7 @@ export class Waves {
     if (moment <= this.from) return;
     this.from = moment;
     this.isOwed = false;
+    for (const line of this.derived.keys()) if (this.lines[line].kind === "shift") this.rises.set(line, this.riseBefore(line, moment));
     for (const track of [...this.tracks, ...this.derived.values()]) track.beginAt(moment);
     const count = Math.max(0, countUpTo(this.moments.all, moment) - 1);
     this.moments.drop(count);
@@ -117,7 +124,7 @@ export class Waves {
    */
   trackOf(line) {
     const { kind } = this.lines[line];
-    if (kind !== "pc" && kind !== "label" && kind !== "port") return this.tracks[line];
+    if (!DERIVED.has(kind)) return this.tracks[line];
     let track = this.derived.get(line);
     if (!track) {
       track = new Track({ ...emptyTrack(this.lines[line].width), first: this.derivedAt(line, this.from) });
@@ -128,13 +135,17 @@ export class Waves {
   }
 
   /**
-   * The value of a line that is made of others: of a port by its lines, of the counter and the label by the instructions.
+   * The value of a line that is made of others: of a port by its lines, of the counter and the label by the instructions. A shift register
+   * is at rest at the beginning.
    * @param {number} line
    * @param {number} moment
    */
   derivedAt(line, moment) {
     const { kind, members } = this.lines[line];
-    if (kind === "port") return members.reduce((sum, member, bit) => sum + this.tracks[member].valueAt(moment) * 2 ** bit, 0);
+    if (kind === "shift") return 0;
+    if (kind !== "pc" && kind !== "label") {
+      return members.reduce((sum, member, bit) => sum + this.tracks[member].valueAt(moment) * 2 ** bit, 0);
+    }
     const counter = this.counterAt(moment);
     return kind === "pc" ? counter : this.below[counter] + 1;
   }
@@ -147,14 +158,27 @@ export class Waves {
    */
   derive(line, track, after) {
     const { kind, members } = this.lines[line];
-    if (kind === "port") {
-      this.derivePort(members.map((member) => this.tracks[member]), track, after);
-      return;
+    const tracks = members.map((member) => this.tracks[member]);
+    if (kind === "shift") {
+      const [clock, data] = tracks;
+      deriveShift({ clock, data, rise: this.riseBefore(line, after) }, track, after, this.cycles);
     }
+    if (kind === "port" || kind === "scan") this.derivePort(tracks, track, after);
+    if (kind !== "pc" && kind !== "label") return;
     const [moments, counters] = [this.moments.all, this.counters.all];
     for (let at = countUpTo(moments, after); at < moments.length; at++) {
       track.set(kind === "pc" ? counters[at] : this.below[counters[at]] + 1, moments[at]);
     }
+  }
+
+  /**
+   * The last rise of the clock of a shift register up to a moment; -1 for none.
+   * @param {number} line
+   * @param {number} moment
+   */
+  riseBefore(line, moment) {
+    const rise = lastRise(this.tracks[this.lines[line].members[0]], moment);
+    return rise < 0 ? this.rises.get(line) ?? -1 : rise;
   }
 
   /**
@@ -222,8 +246,12 @@ export class Waves {
    * @param {number} moment
    */
   valueAt(line, moment) {
-    const { kind, width } = this.lines[line];
+    const { kind, width, members } = this.lines[line];
     if (kind === "label") return this.labelAt(moment) || "-";
+    if (kind === "scan") return scanText(this.lines[line], this.numberAt(line, moment));
+    if (kind === "shift") {
+      return shiftText(this.numberAt(line, moment), members.slice(2).map((member) => this.tracks[member].valueAt(moment)), this.base);
+    }
     return valueText(this.numberAt(line, moment), width, kind === "pc" ? "hex" : this.base);
   }
 

@@ -2,6 +2,7 @@
 // document.
 
 import { numberOf } from "../bench/numbers.js";
+import { isDecoder, scannedBy } from "./decoders.js";
 import { countUpTo } from "./growing.js";
 import { lineNamed } from "./trigger.js";
 import * as say from "../../words/waves.js";
@@ -83,6 +84,7 @@ function readEdge(name, edge, waves, marked) {
   const { line, fault } = lineOf(name || "", waves, marked);
   if (fault) return no(fault);
   const { width } = waves.lines[line];
+  if (edge !== "changes" && isDecoder(waves.lines[line])) return no(say.isDecoded(waves.lines[line].name));
   if (edge !== "changes" && width > 1) return no(say.isNumber(waves.lines[line].name));
   return { search: { line, fits: EDGES[edge], each: true }, fault: "" };
 }
@@ -98,6 +100,7 @@ function readValue(name, sign, value, waves, marked) {
   const { line, fault } = lineOf(name, waves, marked);
   if (fault) return no(fault);
   const { kind, width, name: called } = waves.lines[line];
+  if (isDecoder(waves.lines[line])) return readDecoded(waves.lines[line], line, sign, value);
   const label = kind === "label" || kind === "pc" ? labelOf(waves, value.replace(/^@/, "")) : null;
   const binary = /^0b([01]+)$/i.exec(value);
   const number = label ? (kind === "pc" ? label.address : label.number) : binary ? parseInt(binary[1], 2) : numberOf(value);
@@ -106,6 +109,19 @@ function readValue(name, sign, value, waves, marked) {
   const most = 2 ** width - 1;
   if (kind !== "label" && number > most) return no(say.hasBits(called, width, most));
   return { search: { line, fits: (/** @type {number} */ is) => COMPARISONS[sign](is, number), each: false }, fault: "" };
+}
+
+/**
+ * A key that answers a key scan.
+ * @param {import("./wave_lines.js").WaveLine} decoder
+ * @param {number} line its number
+ * @param {string} sign
+ * @param {string} key
+ * @returns {{ search: Search | null, fault: string }}
+ */
+function readDecoded(decoder, line, sign, key) {
+  if (sign !== "=" || !decoder.places.includes(key)) return no(say.isDecoded(decoder.name));
+  return { search: { line, fits: (value) => scannedBy(decoder, value).keys.includes(key), each: false }, fault: "" };
 }
 
 /**

@@ -1,6 +1,7 @@
 // What is told of recordings, in words.
 
 import { countOf, counted } from "../bench/numbers.js";
+import { CYCLE_TENTHS_US } from "../time/mcs4_time.js";
 import * as say from "../../words/waves.js";
 
 /**
@@ -30,11 +31,11 @@ export function grouped(number) {
 }
 
 /**
- * The time of cycles of 10.8 microseconds, exact.
+ * Returns the time of cycles in microseconds, exact.
  * @param {number} cycles
  */
 export function microseconds(cycles) {
-  const tenths = cycles * 108;
+  const tenths = cycles * CYCLE_TENTHS_US;
   return `${grouped(Math.floor(tenths / 10))}.${tenths % 10}`;
 }
 

@@ -5,7 +5,7 @@ import { closeSync, constants, fsyncSync, openSync, writeSync } from "node:fs";
 import * as say from "../../words/commands.js";
 import { needCount, needWords } from "../arguments.mjs";
 import { GivenTexts } from "../given_texts.mjs";
-import { openSession, startEngine } from "../native_program.mjs";
+import { openSession, programPath, startEngine } from "../native_program.mjs";
 import { CommandError, print } from "../output.mjs";
 import { needWritableFile } from "../user_files.mjs";
 
@@ -70,7 +70,7 @@ function endLog(session, place) {
  * @param {number} count of the commands, 0 to say how far
  */
 async function goBack(session, count) {
-  const engine = startEngine();
+  const engine = await startEngine();
   const texts = new GivenTexts();
   const state = await openSession(engine, texts, session);
   const bytes = engine.bytesOf(state);
@@ -93,6 +93,7 @@ export async function run(_, positionals) {
   const [session, word] = positionals;
   const count = word === undefined ? 0 : needCount("N", word, MOST_COMMANDS);
   needWritableFile(session);
+  programPath();
   const unlock = await lock(session);
   try {
     print(`${await goBack(session, count)}\n`);

@@ -30,7 +30,7 @@ export async function run({ source }, positionals) {
   const { first, last } = linesThatCount(words);
   const texts = new GivenTexts();
   const answers = texts.answers("cycles");
-  const placeOf = source === undefined ? null : await placesOf(texts, startEngine(), source, session);
+  const placeOf = source === undefined ? null : await placesOf(texts, await startEngine(), source, session);
   const byCounter = placeOf && ((counter) => placeOf(parseInt(counter, 16)));
   const { runs, sum, words: wrong } = runTimes(answers, first, last, byCounter);
   if (wrong !== "") throw new CommandError(wrong);

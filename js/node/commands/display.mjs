@@ -17,7 +17,7 @@ export async function run({ folder }, positionals) {
   const given = texts.text(name, "wire");
   // While it waits for standard input a signal ends it at once: nothing is started yet.
   const answers = texts.answers("display");
-  const { board, face } = await boardAndFace(startEngine(), given);
+  const { board, face } = await boardAndFace(await startEngine(), given);
   const { lines, words: wrong } = shownAnswers(face, board, name, answers);
   if (wrong !== "") throw new CommandError(wrong);
   print(linesOf(lines));

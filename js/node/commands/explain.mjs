@@ -15,7 +15,7 @@ export async function run({ source }, positionals) {
   const texts = new GivenTexts();
   const script = texts.script(positionals[positionals.length - 1]);
   const answers = texts.answers("explain");
-  const engine = startEngine();
+  const engine = await startEngine();
   const placeOf = source === undefined ? null : await placesOf(texts, engine, source, positionals[0]);
   const { inputs, words } = answeredScript(script, answers);
   if (words !== "") throw new CommandError(otherAnswers(words));

@@ -17,7 +17,7 @@ const MARK = /^\u00ef\u00bb\u00bf/;
  * @param {string} text
  */
 async function tryOnBench(name, source, text) {
-  const engine = startEngine();
+  const engine = await startEngine();
   const unsent = faultsOfText("program", text);
   const { refusal } = unsent.length > 0 ? { refusal: null } : readProgram(engine, sentText(text, ";"));
   const faults = refusal ? [{ text: /** @type {const} */ ("program"), ...refusal, words: "" }] : unsent;

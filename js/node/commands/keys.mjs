@@ -6,7 +6,7 @@ import { benchRejected } from "../../words/commands.js";
 import { needCount, needWords, projectFor } from "../arguments.mjs";
 import { boardAndFace, keyLines } from "../board_texts.mjs";
 import { GivenTexts, MOST_GIVEN } from "../given_texts.mjs";
-import { startEngine } from "../native_program.mjs";
+import { programPath, startEngine } from "../native_program.mjs";
 import { CommandError, print, printFile } from "../output.mjs";
 
 const MOST_CYCLES = 100000;
@@ -45,8 +45,11 @@ export async function run({ folder, down, up, "until-stop": session }, positiona
   const [boardName, keys] = words;
   const texts = new GivenTexts();
   const given = texts.text(boardName, "wire");
-  if (session !== undefined) texts.read(session, MOST_GIVEN);
-  const engine = startEngine();
+  if (session !== undefined) {
+    texts.read(session, MOST_GIVEN);
+    programPath();
+  }
+  const engine = await startEngine();
   const { face } = await boardAndFace(engine, given);
   const lines = keyLines(face, boardName, keys, pace);
   if (session !== undefined) return pressOn(session, lines);

@@ -14,7 +14,7 @@ export async function run({ folder, names, labels }, positionals) {
   const words = project ? [project.program, ...positionals] : positionals;
   needWords(words, ["PROGRAM"], 1, true);
   const program = new GivenTexts().text(words[0], "asm");
-  const { map, bytes } = await mappedProgram(startEngine(), program);
+  const { map, bytes } = await mappedProgram(await startEngine(), program);
   const lines = names || labels ? namesOfProgram(map, Boolean(labels)).map(({ name, value }) => `${name} ${value}`)
     : programListing(program.text, map, bytes);
   printFile(linesOf(lines), program.encoding);

@@ -13,7 +13,7 @@ export async function run({ folder }, positionals) {
   needWords(words, ["PROGRAM"], 1, true);
   const texts = new GivenTexts();
   const { text, encoding } = texts.lines();
-  const { map } = await mappedProgram(startEngine(), texts.text(words[0], "asm"));
+  const { map } = await mappedProgram(await startEngine(), texts.text(words[0], "asm"));
   const { lines, line, words: wrong } = putNames(text, map);
   if (wrong !== "") throw new CommandError(inLine(line, wrong));
   printFile(lines === "" || lines.endsWith("\n") ? lines : `${lines}\n`, encoding);

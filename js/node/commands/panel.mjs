@@ -12,7 +12,7 @@ import { noteOfBoard } from "../../words/panel.js";
 import { needWords, projectFor } from "../arguments.mjs";
 import { boardAndFace } from "../board_texts.mjs";
 import { GivenTexts, MOST_GIVEN } from "../given_texts.mjs";
-import { endEngine, endOnSignals, programOf, startEngine } from "../native_program.mjs";
+import { endEngine, endOnSignals, programOf, programPath, startEngine } from "../native_program.mjs";
 import { CommandError } from "../output.mjs";
 import { PanelTerminal } from "../panel_terminal.mjs";
 import { wordsOfRefusal } from "../refused_texts.mjs";
@@ -61,7 +61,7 @@ async function answersOf(session, lines) {
  * @param {{ board: GivenText, program: GivenText | null }} texts
  */
 async function knowTexts(session, name, texts) {
-  const engine = startEngine();
+  const engine = await startEngine();
   const { board, face, answers } = await boardAndFace(engine, texts.board);
   const differing = differences(await answersOf(session, "board\n"), answers);
   if (differing.length > 0) throw new CommandError([`${otherBoard(texts.board.name)} (< ${name}, > ${texts.board.name})`, ...differing].join("\n"));
@@ -134,6 +134,8 @@ export async function run(values, words) {
   const board = texts.text(names.board, "wire");
   const program = names.program === undefined ? null : texts.text(names.program, "asm");
   texts.read(names.session, MOST_GIVEN);
+  // Where there is none, the terminal stays as it is.
+  programPath();
   const terminal = new PanelTerminal();
   const session = await openProgram("open", names.session);
   try {

@@ -99,7 +99,7 @@ async function sessionOf(folder, names, texts) {
     if (bytes.length === SESSION_BYTES && bytes.toString("latin1").startsWith(SESSION_BEGINS)) return bytes;
     throw new CommandError(say.noSessionFile(name));
   }
-  const engine = startEngine();
+  const engine = await startEngine();
   const { file, faults } = newSession(engine, texts);
   if (faults.length === 0) return engine.bytesOf(file);
   const given = (/** @type {string} */ each, /** @type {string} */ text) => ({ name: each, text, before: 0 });

@@ -69,7 +69,9 @@ export async function run(_, positionals) {
   const texts = new GivenTexts();
   const bytes = texts.read(scriptName, MOST_SCRIPT);
   const before = texts.read(session, MOST_GIVEN);
-  const engine = startEngine();
+  // Where there is none, that is said before all else.
+  programPath();
+  const engine = await startEngine();
   const { lines, words, differing } = await begunScript(
     engine, await openSession(engine, texts, session), bytes.toString("latin1"), breathe,
   );

@@ -3,14 +3,12 @@ import { LONGEST_LINE, linesOf } from "../../core/bench/inputs.js";
 import { USUAL_PACE } from "../../core/testing/press_lines.js";
 import { prepare } from "../../core/testing/prepared.js";
 import { LONGEST_TEXT, alignedText, sentText } from "../../core/text/text_fault.js";
+import { BEFORE_KEYS_CYCLES } from "../../core/time/mcs4_time.js";
 import { needWords, projectFor } from "../arguments.mjs";
 import { keyLines } from "../board_texts.mjs";
 import { GivenTexts } from "../given_texts.mjs";
 import { errorOfTexts, startEngine } from "../native_program.mjs";
 import { printFile } from "../output.mjs";
-
-/** The cycles before the first key: 22 ms. */
-const BEGIN = 2000;
 
 /**
  * Returns a text with its comments, or without them if the bench takes it only so.
@@ -32,10 +30,11 @@ export async function run({ folder }, positionals) {
   const texts = new GivenTexts();
   const board = texts.text(boardName, "wire");
   const program = texts.text(programName, "asm");
-  const engine = startEngine();
+  const engine = await startEngine();
   const { prepared, faults } = prepare(engine, { boardText: board.text, programText: program.text });
   if (!prepared) throw await errorOfTexts(engine, { board, program }, faults);
   const pressed = keyLines(prepared.names.face, boardName, keys, USUAL_PACE);
-  printFile(`wire\n${wholeText(board.text, "#")}.\nasm\n${wholeText(program.text, ";")}.\n${linesOf([`run ${BEGIN}`, ...pressed])}`, "utf8");
+  const lines = linesOf([`run ${BEFORE_KEYS_CYCLES}`, ...pressed]);
+  printFile(`wire\n${wholeText(board.text, "#")}.\nasm\n${wholeText(program.text, ";")}.\n${lines}`, "utf8");
   return 0;
 }

@@ -29,7 +29,7 @@ export async function run(values, words) {
   const programName = await programFor(values);
   const texts = new GivenTexts();
   const program = programName === undefined ? null : texts.text(programName, "asm");
-  const engine = startEngine();
+  const engine = await startEngine();
   const trace = new SessionTrace(engine, await openSession(engine, texts, session), breathe);
   const map = program && await programOf(engine, trace.codes, program);
   const source = program && values.names === undefined ? { lines: program.text.split("\n"), before: program.before } : null;

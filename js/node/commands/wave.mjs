@@ -22,7 +22,7 @@ import { needOwnFile, writeUserFile } from "../user_files.mjs";
  * @typedef {import("./table.mjs").Values} Values
  *
  * The session without stops, its board, the texts of board and program if they are given, and the program for its labels.
- * @typedef {{ engine: import("../native_engine.mjs").NativeEngine, state: Uint8Array, board: import("../../core/bench/answers.js").Board,
+ * @typedef {{ engine: import("../../core/engine/engine_host.js").EngineHost, state: Uint8Array, board: import("../../core/bench/answers.js").Board,
  *   boardText: GivenText | null, face: Face, program: import("../../core/engine/wave_recorder.js").RecordedProgram | null }} Wired
  */
 
@@ -61,7 +61,7 @@ async function needBoard(engine, given, wanted) {
  */
 async function wired(session, { board: boardName, program: programName }) {
   const texts = new GivenTexts();
-  const engine = startEngine();
+  const engine = await startEngine();
   const opened = await openSession(engine, texts, session);
   const boardText = boardName === undefined ? null : texts.text(boardName, "wire");
   const program = programName === undefined ? null : texts.text(programName, "asm");

@@ -1,11 +1,13 @@
 // The front of a board: its title, its displays and lamps, and its keys, with what is at its TEST pin.
 
 import { hintOfKeys, keysOf } from "../../core/board/board_keys.js";
-import { Brightness, PERSISTENCE } from "../../core/board/brightness.js";
+import { Brightness } from "../../core/board/brightness.js";
+import { EYE_MS } from "../../core/time/mcs4_time.js";
 import { DisplayView } from "./display_view.js";
 import { Cell, block, button, element, oneStop, pressedSwitch, setStop } from "../ui/dom.js";
 import { Face, moreThan, sorted } from "../../core/board/face.js";
 import { missingOf } from "../../core/board/face_board.js";
+import { KeysDown } from "../../core/board/key_place.js";
 import { LampsView } from "./lamps_view.js";
 import * as say from "../../words/board.js";
 
@@ -27,7 +29,7 @@ function isBare({ roms, banks, chains, lamps }) {
   return [roms, banks, chains, lamps].every((parts) => parts.length === 0);
 }
 
-const AS_SEEN = say.asSeen(PERSISTENCE);
+const AS_SEEN = say.asSeen(EYE_MS);
 
 /** Longer legends are written smaller. */
 const SHORT_LEGEND = 4;
@@ -42,8 +44,7 @@ export class FrontView {
     this.watch = watch;
     /** @type {ShownKey[]} with what is at TEST, if the face tells that */
     this.keys = [];
-    /** @type {Set<string>} the keys that the bench tells to be down, as `row.column` */
-    this.down = new Set();
+    this.down = new KeysDown();
     /** The level of the TEST pin. */
     this.level = "";
     /** What `lamps` told last. */
@@ -135,7 +136,7 @@ export class FrontView {
     button("test").hidden = face.test !== null;
     setStop(this.block);
     block("keys-hint").textContent = isBare(board) ? "" : hintOfKeys(this.keys);
-    this.showKeys([...this.down]);
+    this.showDown();
   }
 
   /**
@@ -148,7 +149,7 @@ export class FrontView {
     node.classList.toggle("unnamed", !boardKey.isNamed);
     node.classList.toggle("long", boardKey.legend.length > SHORT_LEGEND);
     node.title = boardKey.legend.length > SHORT_LEGEND ? boardKey.legend : "";
-    node.classList.toggle("at-test", boardKey.key.startsWith("test"));
+    node.classList.toggle("at-test", boardKey.key.kind === "pin");
     node.classList.toggle("switch", boardKey.isSwitch);
     if (boardKey.letter && boardKey.letter !== boardKey.legend) node.append(element("kbd", {}, boardKey.letter));
     node.setAttribute("aria-label", boardKey.words);
@@ -186,7 +187,11 @@ export class FrontView {
    * @param {string[]} down
    */
   showKeys(down) {
-    this.down = new Set(down);
+    this.down = new KeysDown(down);
+    this.showDown();
+  }
+
+  showDown() {
     for (const shown of this.keys) shown.down.set(this.isDown(shown.key));
   }
 
@@ -194,12 +199,11 @@ export class FrontView {
   showTest(level) {
     if (this.level === level) return;
     this.level = level;
-    for (const shown of this.keys) shown.down.set(this.isDown(shown.key));
+    this.showDown();
   }
 
-  /** @param {string} key */
+  /** @param {import("../../core/board/key_place.js").Key} key */
   isDown(key) {
-    if (key.startsWith("test ")) return key === `test ${this.level}`;
-    return this.down.has(key.replace(" ", "."));
+    return this.down.has(key, this.level);
   }
 }

@@ -1,18 +1,27 @@
 // Fingers on keys: pointers, the keyboard, and what they mean while time runs and while it stands still.
 
+import { textOfKey } from "../../core/board/key_place.js";
+
 /**
  * @typedef {import("../../core/board/board_keys.js").BoardKey} BoardKey
- *
- * What it calls: whether time runs; whether the bench tells a key to be down; changes of keys that wait for their time; and a change at
- * once, while time stands still.
- * @typedef {{ isRunning: () => boolean, isDown: (key: string) => boolean, press: (key: string) => void,
- *   release: (key: string) => void, change: (word: "press" | "release", key: string) => void,
- *   meant: (event: KeyboardEvent) => BoardKey | undefined }} PressingCalls
+ * @typedef {import("../../core/board/key_place.js").Key} Key
+ */
+
+/**
+ * What fingers and the keyboard call.
+ * @typedef {object} PressingCalls
+ * @property {() => boolean} isRunning Returns whether time runs, so that keys wait for their time.
+ * @property {(key: Key) => boolean} isDown Returns whether a key will be down after all that was asked for.
+ * @property {(key: Key) => void} press A key goes down when its time comes, while time runs.
+ * @property {(key: Key) => void} release A key goes up when its time comes, while time runs.
+ * @property {(word: "press" | "release", key: Key) => void} change Presses or releases a key at once, while time is paused.
+ * @property {(event: KeyboardEvent) => BoardKey | undefined} meant Returns the key of the board that a key of the keyboard stands for;
+ *   undefined if none, or if something else wants it.
  */
 
 /**
  * What a finger has done to a key: whether the key is to stay so when the finger goes, and what takes it back.
- * @typedef {{ stays: boolean, takeBack: () => void }} Held
+ * @typedef {{ key: Key, stays: boolean, takeBack: () => void }} Held
  */
 
 /** A finger on the glass presses after so many milliseconds, or when it goes: one that swipes over the page has been told by then. */
@@ -24,7 +33,7 @@ export class Pressing {
   /** @param {PressingCalls} calls */
   constructor(calls) {
     this.calls = calls;
-    /** @type {Map<string, Held>} the keys that a finger holds */
+    /** @type {Map<string, Held>} the keys that a finger holds, by their texts */
     this.held = new Map();
     /** @type {Map<number, number>} the timers of fingers that may be swiping, by pointer */
     this.resting = new Map();
@@ -111,50 +120,53 @@ export class Pressing {
    * @param {boolean} hasShift
    */
   down({ key, isSwitch }, hasShift) {
-    if (this.held.has(key)) return;
+    const name = textOfKey(key);
+    if (this.held.has(name)) return;
     const isDown = this.calls.isDown(key);
     const { change, press, release } = this.calls;
     if (!this.calls.isRunning()) {
       change(isDown ? "release" : "press", key);
-      this.held.set(key, { stays: true, takeBack: () => change(isDown ? "press" : "release", key) });
+      this.held.set(name, { key, stays: true, takeBack: () => change(isDown ? "press" : "release", key) });
     } else if (isDown) {
       // It stayed down; this press lets it go.
       release(key);
-      this.held.set(key, { stays: true, takeBack: () => press(key) });
+      this.held.set(name, { key, stays: true, takeBack: () => press(key) });
     } else {
       press(key);
-      this.held.set(key, { stays: hasShift || isSwitch, takeBack: () => release(key) });
+      this.held.set(name, { key, stays: hasShift || isSwitch, takeBack: () => release(key) });
     }
   }
 
   /**
    * The finger was swiping: the key is as it was before.
-   * @param {string} key
+   * @param {Key} key
    */
   takeBack(key) {
-    const held = this.held.get(key);
-    this.held.delete(key);
+    const name = textOfKey(key);
+    const held = this.held.get(name);
+    this.held.delete(name);
     if (held) held.takeBack();
   }
 
   /**
    * The finger goes. Where time stands still meanwhile, the key goes up when it runs on.
-   * @param {string} key
+   * @param {Key} key
    */
   up(key) {
-    const held = this.held.get(key);
+    const name = textOfKey(key);
+    const held = this.held.get(name);
     if (held === undefined) return;
-    this.held.delete(key);
+    this.held.delete(name);
     if (!held.stays) this.calls.release(key);
   }
 
   allUp() {
-    for (const key of [...this.held.keys()]) this.up(key);
+    for (const { key } of [...this.held.values()]) this.up(key);
   }
 
   /** The keys of the keyboard press the keys of the board, where nothing else on the page wants them. */
   listenToKeyboard() {
-    /** @type {Map<string, string>} */
+    /** @type {Map<string, Key>} */
     const typedAt = new Map();
     addEventListener("keydown", (event) => {
       const boardKey = this.calls.meant(event);

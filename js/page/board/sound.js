@@ -1,15 +1,19 @@
 // The buzzer of a board: what its line does in real time is heard, by Web Audio, once that is asked for.
 
-import { REAL_CYCLES } from "../../core/time/real_time.js";
+import { CYCLES_PER_SECOND } from "../../core/time/mcs4_time.js";
 import { Cell, block, button, onClick, pressedSwitch } from "../ui/dom.js";
 import { SoundPieces } from "../../core/board/sound_samples.js";
 import * as say from "../../words/board.js";
 
 /**
  * @typedef {import("../../core/engine/sounding.js").Heard} Heard
- *
- * What it calls: the bench tells the edges of this line from here on, "" for none; whether time is at the speed of the real chip.
- * @typedef {{ listen: (line: string) => void, isReal: () => boolean }} SoundCalls
+ */
+
+/**
+ * What the buzzer calls.
+ * @typedef {object} SoundCalls
+ * @property {(line: string) => void} listen Asks the bench to report the edges of a line from here on; "" for none.
+ * @property {() => boolean} isReal Returns whether time runs at the speed of the real chip; else nothing is heard.
  */
 
 /** What is played at once, in cycles: 45 ms. */
@@ -41,12 +45,12 @@ class Player {
     if (!samples || this.end > now + MOST_AHEAD) return;
     // Before it runs, a context's time stands at 0.
     if (this.end <= now) this.end = now + AHEAD;
-    const buffer = this.context.createBuffer(1, samples.length, REAL_CYCLES);
+    const buffer = this.context.createBuffer(1, samples.length, CYCLES_PER_SECOND);
     buffer.copyToChannel(samples, 0);
     const source = new AudioBufferSourceNode(this.context, { buffer });
     source.connect(this.into);
     source.start(this.end);
-    this.end += samples.length / REAL_CYCLES;
+    this.end += samples.length / CYCLES_PER_SECOND;
   }
 }
 

@@ -9,9 +9,14 @@ import { linesOf } from "../../core/board/strip.js";
  * @typedef {import("../../core/engine/printing.js").Printed} Printed
  * @typedef {import("../../core/board/face.js").Face} Face
  * @typedef {import("../../core/board/face.js").Printer} Printer
- *
- * What it calls: what is sent to a printer is told from here on, null where there is none; what was printed is torn off.
- * @typedef {{ printOn: (printer: { strobe: string, port: string } | null) => void, tear: () => void }} StripCalls
+ */
+
+/**
+ * What the printer's tape calls.
+ * @typedef {object} StripCalls
+ * @property {(printer: { strobe: string, port: string } | null) => void} printOn Asks the bench to report what is sent to a printer from
+ *   here on; null for none.
+ * @property {() => void} tear Forgets what was printed.
  */
 
 /** So many lines are shown, the last ones. */

@@ -23,6 +23,9 @@ const REACH = 9;
 /** How long the leg of a chip is, and how wide half its notch. */
 const LEG = 7;
 const NOTCH = 6;
+/** A small board has room around it, for parts that are dropped there. */
+const LEAST_WIDTH = 560;
+const LEAST_HEIGHT = 240;
 
 export class WiringView {
   /** @param {() => boolean} isShown whether the picture is in front */
@@ -88,7 +91,8 @@ export class WiringView {
    *   board is the one that is wired, so that its lines have levels
    */
   draw(board, look, { moved, isWired }) {
-    const { parts, wires, width, height } = drawBoard(board, look, moved);
+    const { parts, wires, ...size } = drawBoard(board, look, moved);
+    const [width, height] = [Math.max(LEAST_WIDTH, size.width), Math.max(LEAST_HEIGHT, size.height)];
     const focused = document.activeElement instanceof Element ? this.nameAt(document.activeElement) : "";
     this.items.clear();
     this.levels.clear();

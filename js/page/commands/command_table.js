@@ -18,25 +18,56 @@ import * as say from "../../words/page_commands.js";
  *   wordsNow?: (calls: CommandCalls) => string,
  *   act: (calls: CommandCalls) => void, whyNot: (calls: CommandCalls) => string }} Command
  *
- * What commands call. `press` does what a button of the page does, after its text or panel has come to the front; `isOffered`: that
- * button is there and can be used; `enter` puts the caret into a field; `send` sends a text, as its first button does; `inText` does
- * something in the text in front; `toggle` ticks a box.
- * @typedef {{ isRunning: () => boolean, runOrStop: () => void, step: () => void,
- *   goOn: (goal: import("../../core/debug/goals.js").Goal) => void,
- *   goBack: (goal: import("../../core/engine/going_back.js").BackGoal) => void, goForward: () => void, canGoForward: () => boolean,
- *   runToCursor: () => void, serve: (line: string) => void, test: () => void, setSpeed: (id: string) => void,
- *   setTheme: (theme: Theme) => void, print: () => void, show: (name: string) => void,
- *   press: (button: string, shown: string) => void, isOffered: (button: string) => boolean, enter: (field: string, shown: string) => void,
- *   send: (text: TextName) => void, toggle: (box: string) => void, hasText: (isSource: boolean) => boolean,
- *   inText: (what: TextAct) => void,
- *   breakpoint: (what?: import("../machine/breakpoint_row.js").BreakpointField) => void, open: () => void, save: () => void,
- *   saveSession: () => void, exportFiles: () => void, projects: () => void, share: () => void, notices: () => void,
- *   hasNotices: () => boolean, scanKeys: () => void, hasKeys: () => boolean, togglePanel: (id: string) => void,
- *   fullPanel: (id: string) => void, resetLayout: () => void, toggleHelp: () => void, examples: () => void, welcome: () => void,
- *   help: (wanted?: string) => void, palette: (begin: string) => void }} CommandCalls
- *
  * @typedef {"find" | "replace" | "line" | "comment" | "complete" | "define" | "uses" | "rename" | "fold" | "unfold" | "foldAll" |
  *   "unfoldAll" | "undo" | "redo"} TextAct what is done in a text
+ */
+
+/**
+ * What commands call of the page. A call that opens or sends something reports itself if it fails.
+ * @typedef {object} CommandCalls
+ * @property {() => boolean} isRunning Returns whether time runs.
+ * @property {() => void} runOrStop Lets time run, or pauses it.
+ * @property {() => void} step Serves a step of one instruction.
+ * @property {(goal: import("../../core/debug/goals.js").Goal) => void} goOn Lets time pass until a goal is reached.
+ * @property {(goal: import("../../core/engine/going_back.js").BackGoal) => void} goBack Goes back to a goal.
+ * @property {() => void} goForward Returns to where the last way back began.
+ * @property {() => boolean} canGoForward Returns whether there is a way forward.
+ * @property {() => void} runToCursor Lets time run to the line of the caret in the source.
+ * @property {(line: string) => void} serve Serves one line of the bench and logs its answer.
+ * @property {() => void} test Changes the level of the TEST pin.
+ * @property {(id: string) => void} setSpeed Sets the speed of time, by the id of speeds.js.
+ * @property {(theme: Theme) => void} setTheme Sets the colours of the page.
+ * @property {() => void} print Prints the page.
+ * @property {(name: string) => void} show Brings a text or a panel to the front, by its name.
+ * @property {(button: string, shown: string) => void} press Clicks a button by its id, after the text or panel `shown` has come to the
+ *   front.
+ * @property {(button: string) => boolean} isOffered Returns whether a button, by its id, is there and can be used.
+ * @property {(field: string, shown: string) => void} enter Puts the caret into a field by its id, after the text or panel `shown` has
+ *   come to the front.
+ * @property {(text: TextName) => void} send Sends a text, as its first button does.
+ * @property {(box: string) => void} toggle Ticks a box by its id, or clears it.
+ * @property {(isSource: boolean) => boolean} hasText Returns whether a text is in front; with `isSource`, whether it is the source.
+ * @property {(what: TextAct) => void} inText Does something in the text that is in front.
+ * @property {(what?: import("../machine/breakpoint_row.js").BreakpointField) => void} breakpoint Sets or removes the breakpoint of the
+ *   caret's line; with a field, opens its words there.
+ * @property {() => void} open Asks for a file to open.
+ * @property {() => void} save Saves the project to a file.
+ * @property {() => void} saveSession Saves the session file alone.
+ * @property {() => void} exportFiles Opens the dialog that exports texts and ROM images.
+ * @property {() => void} projects Opens the list of projects.
+ * @property {() => void} share Opens the dialog that makes a link.
+ * @property {() => void} notices Puts the keyboard on the first notice.
+ * @property {() => boolean} hasNotices Returns whether a notice is shown.
+ * @property {() => void} scanKeys Inserts a routine that scans the keys into the source.
+ * @property {() => boolean} hasKeys Returns whether the board has a key matrix.
+ * @property {(id: string) => void} togglePanel Shows or hides a panel by its id.
+ * @property {(id: string) => void} fullPanel Makes a panel as large as the page, or as small as before.
+ * @property {() => void} resetLayout Puts all panels where they are at first.
+ * @property {() => void} toggleHelp Opens the help at the word at the caret, or closes it.
+ * @property {() => void} examples Opens the list of examples.
+ * @property {() => void} welcome Opens the cards of the first visit.
+ * @property {(wanted?: string) => void} help Opens the help, at an entry if it is given.
+ * @property {(begin: string) => void} palette Opens the palette with a text already typed.
  */
 
 /**

@@ -7,12 +7,19 @@ import * as say from "../../words/page_commands.js";
 /**
  * @typedef {import("./palette_search.js").Entry} Entry
  * @typedef {import("../../core/machine/source_map.js").SourceMap} SourceMap
- *
- * What it calls: the program in ROM, the names of examples, the projects; a text is shown, a line of the source, an address; an example
- * or a project is opened.
- * @typedef {{ map: () => SourceMap | null, examples: () => string[], projects: () => { id: string, name: string }[],
- *   show: (name: string) => void, line: (line: number) => void, address: (address: number) => void,
- *   example: (name: string) => void, project: (id: string) => void }} PlaceCalls
+ */
+
+/**
+ * What the places of the palette call.
+ * @typedef {object} PlaceCalls
+ * @property {() => SourceMap | null} map Returns the map of the program in ROM; null if the source is not in ROM.
+ * @property {() => string[]} examples Returns the names of the examples.
+ * @property {() => { id: string, name: string }[]} projects Returns the ids and names of the projects that are kept.
+ * @property {(name: string) => void} show Brings a text to the front, by the name of its tab.
+ * @property {(line: number) => void} line Shows a line of the source, from 1.
+ * @property {(address: number) => void} address Shows the line of an address in source and listing.
+ * @property {(name: string) => void} example Makes a new session of the example with a name.
+ * @property {(id: string) => void} project Shows the project with an id.
  */
 
 const LINE = /^:\s*(\d+)$/;

@@ -2,6 +2,7 @@
 
 import { wantsKey } from "../board/pressing.js";
 import { button, isDialogOpen, onClick } from "../ui/dom.js";
+import { HEAD } from "../../core/board/wiring.js";
 import { Drawing } from "../../core/drawing/board_drawing.js";
 import { DrawingView } from "./drawing_view.js";
 import { PictureInput } from "./picture_input.js";
@@ -12,15 +13,24 @@ import { PictureZoom } from "./picture_zoom.js";
  * @typedef {import("../session/kept_session.js").KeptSession} KeptSession
  * @typedef {import("../../core/drawing/board_drawing.js").DrawingCalls} DrawingCalls
  * @typedef {import("../../core/drawing/board_drawing.js").Shown} Shown
- *
- * What it calls, beside what the drawing does: whether the picture is in front, and it is put there; the text is wired, which gives what
- * is told of that; a routine that scans its keys comes into the source; the lines of a part are shown in the text; the session that is
- * shown, in which something was done; a call failed.
  * @typedef {import("../../core/bench/answers.js").Board} Board
- * @typedef {DrawingCalls & { isInFront: () => boolean, putInFront: () => void, wire: () => Promise<string>,
- *   scanKeys: (board: Board) => void, find: (part: string) => void,
- *   session: () => KeptSession | null, touched: () => void, failed: (fault: unknown) => void }} PictureCalls
  */
+
+/**
+ * What the picture calls of the page.
+ * @typedef {object} PictureOwnCalls
+ * @property {() => boolean} isInFront Returns whether the picture is in front; behind, it is drawn later.
+ * @property {() => void} putInFront Brings the picture to the front.
+ * @property {() => Promise<string>} wire Sends the text as the board. Resolves to the message about that.
+ * @property {(board: Board) => void} scanKeys Inserts a routine that scans the keys of a board into the source.
+ * @property {(part: string) => void} find Shows the lines of a part in the text; the part is named as in the picture: `rom 1`.
+ * @property {() => KeptSession | null} session Returns the session that is shown, whose record has the moved parts; null if there is
+ *   none.
+ * @property {() => void} touched The user has moved parts, so the session is to be kept.
+ * @property {(fault: unknown) => void} failed Reports an error that a call threw.
+ */
+
+/** @typedef {DrawingCalls & PictureOwnCalls} PictureCalls */
 
 /** So many milliseconds after the last edit the picture follows the text. */
 const PAUSE = 300;
@@ -50,6 +60,7 @@ export class DrawingController {
       wire: () => this.tried(this.wire()),
       find: this.calls.find,
       tidy: () => this.tidy(),
+      drop: (act, point) => this.tried(this.drop(act, point)),
       scanKeys: () => {
         if (this.view.shown) this.calls.scanKeys(this.view.shown.board);
       },
@@ -122,6 +133,27 @@ export class DrawingController {
   wired(answers) {
     this.drawing.takeWired(answers);
     this.look();
+  }
+
+  /**
+   * A part comes from the shelf to a point of the sheet: with its head there. One that comes into a part that is there already, as a lamp
+   * does beside others, stays there.
+   * @param {import("../../core/drawing/acts.js").Act} act
+   * @param {import("../../core/board/wiring.js").Point | null} point
+   */
+  async drop(act, point) {
+    const { drawing, picture } = this;
+    const before = new Set(picture.parts.keys());
+    const text = this.calls.text();
+    await drawing.act(act);
+    const { chosen } = drawing;
+    if (this.calls.text() === text || chosen === "") return;
+    const part = [...picture.parts.values()].find(({ id, pins }) => id === chosen || pins.some((pin) => pin.id === chosen));
+    if (part && point && !before.has(part.id)) {
+      this.move(part.id, { x: point.x - part.width / 2, y: point.y - HEAD / 2 });
+      this.keep();
+    }
+    picture.focus(chosen);
   }
 
   async wire() {

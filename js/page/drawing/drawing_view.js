@@ -3,6 +3,7 @@
 import { Cell, block, button, element, field, onClick } from "../ui/dom.js";
 import { buzzerOf, lampColours } from "../../core/board/face_board.js";
 import { lampLabels } from "../../core/drawing/lamp_labels.js";
+import { ShelfDrag } from "./shelf_drag.js";
 import * as say from "../../words/drawing.js";
 
 /**
@@ -11,11 +12,25 @@ import * as say from "../../words/drawing.js";
  * @typedef {import("../../core/drawing/board_drawing.js").Shown} Shown
  * @typedef {import("../../core/drawing/fields.js").Field} Field
  * @typedef {import("../board/wiring_view.js").WiringView} WiringView
- * @typedef {{ act: (act: Act) => void, undoOrRedo: (which: "undo" | "redo") => void, wire: () => void, find: (part: string) => void,
- *   tidy: () => void, scanKeys: () => void }} ViewCalls
+ * @typedef {import("../../core/board/wiring.js").Point} Point
+ */
+
+/**
+ * What the shelf, the buttons and the fields of the drawing call.
+ * @typedef {object} ViewCalls
+ * @property {(act: Act) => void} act Does an act on the board's text, if the bench accepts it.
+ * @property {(which: "undo" | "redo") => void} undoOrRedo Undoes the last step, or repeats it.
+ * @property {() => void} wire Sends the text as the board, which becomes a new one.
+ * @property {(part: string) => void} find Shows the lines of a part in the text; the part is named as in the picture: `rom 1`.
+ * @property {() => void} tidy Forgets how parts were moved, so each is where the picture puts it.
+ * @property {() => void} scanKeys Inserts a routine that scans the keys into the source.
+ * @property {(act: Act, point: Point | null) => void} drop Adds a part at a point of the sheet, or at its usual place for null, and gives it
+ *   the keyboard there.
  */
 
 const WITH_DIGITS = new Set(["digit", "segments", "scanned"]);
+/** Parts that come to a line that they are dropped on. */
+const AT_LINES = new Set(["lamp", "buzzer"]);
 
 export class DrawingView {
   /**
@@ -49,8 +64,20 @@ export class DrawingView {
   }
 
   makeShelf() {
+    const { root } = this.picture;
+    const drag = new ShelfDrag({
+      isSheet: (place) => root.contains(elementAt(place)),
+      dropped: (part, place) => {
+        const name = this.picture.nameAt(elementAt(place));
+        const line = AT_LINES.has(part) && !name.includes(" ") ? name : "";
+        this.calls.drop(this.actOf(part, line), this.picture.pointOf(place));
+      },
+      goTo: (part) => this.calls.drop(this.actOf(part), null),
+      over: (isOver) => root.classList.toggle("drop-here", isOver),
+    });
     for (const [part, [word, title]] of /** @type {[Shelved, [string, string]][]} */ (Object.entries(say.SHELF))) {
       const node = element("button", { type: "button", id: `shelf-${part}`, title }, word);
+      drag.listen(node, part);
       onClick(node, () => this.add(part));
       this.shelf.set(part, node);
     }
@@ -66,8 +93,17 @@ export class DrawingView {
   add(part) {
     const { shown } = this;
     const line = shown && shown.fields.buttons.find(({ act }) => act.kind === "add" && act.part === part);
-    if (line) this.calls.act(line.act);
-    else this.calls.act({ kind: "add", part, ...(WITH_DIGITS.has(part) ? { digits: Number(field("shelf-digits").value) } : {}) });
+    this.calls.act(line ? line.act : this.actOf(part));
+  }
+
+  /**
+   * @param {Shelved} part
+   * @param {string} [line] that it comes to, "" for the next one that is free
+   * @returns {Act}
+   */
+  actOf(part, line = "") {
+    if (WITH_DIGITS.has(part)) return { kind: "add", part, digits: Number(field("shelf-digits").value) };
+    return { kind: "add", part, ...(line ? { line } : {}) };
   }
 
   /** @param {Shown} shown */
@@ -148,7 +184,7 @@ export class DrawingView {
     const ends = buttons.map(({ word, act }) => this.buttonNode(word, () => this.calls.act(act), disabled));
     if (part === "keys") ends.push(this.buttonNode(say.INSERT_SCAN, () => this.calls.scanKeys(), disabled));
     if (part) ends.push(this.buttonNode(say.SHOW_IN_BOARD, () => this.calls.find(part), false));
-    root.replaceChildren(head, ...rows, ...ends);
+    root.replaceChildren(head, ...ends, element("hr"), ...rows);
     const nodes = [...root.querySelectorAll("input, select, button")];
     const again = focused && nodes.find((each) => each.getAttribute("aria-label") === focused);
     if (again instanceof HTMLElement) again.focus();
@@ -181,4 +217,9 @@ export class DrawingView {
     });
     return node;
   }
+}
+
+/** @param {{ clientX: number, clientY: number }} place */
+function elementAt({ clientX, clientY }) {
+  return document.elementFromPoint(clientX, clientY);
 }

@@ -4,15 +4,21 @@
 /**
  * @typedef {import("../board/wiring_view.js").WiringView} WiringView
  *
- * What it calls: a part or a pin was pressed; a wire was dragged from one pin to another; a part is dragged to a point, and stays there; a
- * part goes; what was begun is left; a step is undone, or done again.
- * @typedef {{ pressed: (name: string) => void, wired: (from: string, to: string) => void, moved: (part: string,
- *   point: Point) => void, dropped: () => void, deleted: (name: string) => void, left: () => void,
- *   undoOrRedo: (which: "undo" | "redo") => void }} InputCalls
- *
  * What the pointer holds: a part or a pin, where it went down, and where the part stood.
  * @typedef {import("../../core/board/wiring.js").Point} Point
  * @typedef {{ name: string, isPart: boolean, at: Point, stood: Point, isDragged: boolean }} Held
+ */
+
+/**
+ * What mouse, fingers and keys on the picture call. Parts and pins are named as in the picture.
+ * @typedef {object} InputCalls
+ * @property {(name: string) => void} pressed A part or a pin was pressed.
+ * @property {(from: string, to: string) => void} wired A wire was dragged from one pin to another.
+ * @property {(part: string, point: Point) => void} moved A part is dragged to a point of the picture, in its units.
+ * @property {() => void} dropped The part that was dragged stays where it is.
+ * @property {(name: string) => void} deleted The part or the wire is to be removed.
+ * @property {() => void} left What was begun is given up: a wire, a choice.
+ * @property {(which: "undo" | "redo") => void} undoOrRedo Undoes the last step, or repeats it.
  */
 
 /** So far the pointer moves until something is dragged. */

@@ -19,16 +19,25 @@ import * as say from "../../words/explore.js";
  *
  * What was found in a session: the texts, how far it came, and the session of each find, by its property.
  * @typedef {{ texts: ExploredTexts, report: Report | null, files: Map<number, Uint8Array>, isStopped: boolean }} Explored
- *
- * What it calls: the texts of board, program and tests; the labels of the program; the faults of texts; what breaks properties is looked
- * for; what a refusal means; a line of the source is shown; the session of a find is opened; a test is added to those of the program,
- * which gives words of that; a few words stand on the tab; the text was edited; a call failed.
- * @typedef {{ texts: () => Omit<ExploredTexts, "propertiesText">, labels: () => string[],
- *   faults: (texts: ExploredTexts) => Promise<TextFault[]>,
- *   explore: (texts: ExploredTexts, asked: Asked, signal: AbortSignal, tell: (progress: Progress) => void) => Promise<Ended>,
- *   wordsOfRefusal: (number: number) => string, goToSource: (line: number) => void,
- *   open: (name: string, file: Uint8Array, texts: ExploredTexts) => void, addTest: (test: string) => string,
- *   mark: (words: string) => void, edited: () => void, failed: (fault: unknown) => void }} ExploreCalls
+ */
+
+/**
+ * What the tab of the search calls of the page. `labels`, `texts`, `edited` and `failed` also serve its text.
+ * @typedef {object} ExploreCalls
+ * @property {() => Omit<ExploredTexts, "propertiesText">} texts Returns the texts of board, source and tests as they are.
+ * @property {() => string[]} labels Returns the labels of the program in ROM.
+ * @property {(texts: ExploredTexts) => Promise<TextFault[]>} faults Resolves to the errors of all texts.
+ * @property {(texts: ExploredTexts, asked: Asked, signal: AbortSignal, tell: (progress: Progress) => void) => Promise<Ended>} explore
+ *   Searches until the time is over, all is found, or `signal` is aborted; `tell` reports how far it is. Resolves to the report, or to
+ *   errors of texts.
+ * @property {(number: number) => string} wordsOfRefusal Returns what the number of a refusal means.
+ * @property {(line: number) => void} goToSource Shows a line of the source, from 1.
+ * @property {(name: string, file: Uint8Array, texts: ExploredTexts) => void} open Opens a session by its file as a new one, with the
+ *   texts of the search.
+ * @property {(test: string) => string} addTest Adds a test to those of the program. Returns the message about that.
+ * @property {(words: string) => void} mark Shows a few words on the tab; "" for none.
+ * @property {() => void} edited The text of properties was edited.
+ * @property {(fault: unknown) => void} failed Reports an error that a call threw.
  */
 
 const NUMBERS = [

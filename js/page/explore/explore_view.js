@@ -9,11 +9,15 @@ import { wordsOfLine } from "../../words/stops.js";
 /**
  * @typedef {import("../../core/explore/report.js").Report} Report
  * @typedef {import("../../core/explore/report.js").Told} Told
- *
- * What it calls: a line of the text of properties is to be seen, one of the source; the session of a find is to be opened, and its test
- * added to those of the program.
- * @typedef {{ goTo: (line: number) => void, goToSource: (line: number) => void, open: (property: number) => void,
- *   add: (property: number) => void }} FindCalls
+ */
+
+/**
+ * What the results of a search call. A property is named by its number from 0.
+ * @typedef {object} FindCalls
+ * @property {(line: number) => void} goTo Shows a line of the text of properties, from 1.
+ * @property {(line: number) => void} goToSource Shows a line of the source, from 1.
+ * @property {(property: number) => void} open Opens the session of a counterexample as a new one.
+ * @property {(property: number) => void} add Adds the test of a counterexample to those of the program.
  */
 
 /** So many lines that were never run are shown. */

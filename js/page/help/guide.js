@@ -15,15 +15,24 @@ import * as say from "../../words/help.js";
  * @typedef {import("../lines/lines_view.js").LinesCalls} LinesCalls
  * @typedef {import("../../core/engine/examples.js").Example} Example
  * @typedef {import("../../core/help/manual.js").ManualSection} ManualSection
- *
- * What it calls, beside what the box for lines does: a session of an example begins, and whether it did; the source is shown; its text,
- * which is edited, or replaced with words about that; what a step points at comes into view; what the places of a story call; the first
- * program, or a story, was left; a story is not there.
- * @typedef {Omit<LinesCalls, "help"> & { begin: (example: Example) => Promise<boolean>, showSource: () => void,
- *   program: () => string, edit: (program: string) => void, reveal: (target: import("../../core/help/tour.js").Target) => void,
- *   replace: (program: string, words: string) => void, acts: import("../../core/help/story_acts.js").ActCalls, left: () => void,
- *   refuse: (words: string) => void }} GuideCalls
  */
+
+/**
+ * What the guide calls of the page.
+ * @typedef {object} GuideOwnCalls
+ * @property {(example: Example) => Promise<boolean>} begin Makes a new session of an example. Resolves to whether it was made.
+ * @property {() => void} showSource Brings the source to the front.
+ * @property {() => string} program Returns the text of the source.
+ * @property {(program: string) => void} edit Puts a program into the source, as one edit.
+ * @property {(target: import("../../core/help/tour.js").Target) => void} reveal Scrolls what a step points at into view.
+ * @property {(program: string, words: string) => void} replace Puts a program in the place of the source, with a message by which that
+ *   can be undone.
+ * @property {import("../../core/help/story_acts.js").ActCalls} acts What the links of stories call.
+ * @property {() => void} left The first program or a story was closed.
+ * @property {(words: string) => void} refuse Shows why a story cannot be told.
+ */
+
+/** @typedef {Omit<LinesCalls, "help"> & GuideOwnCalls} GuideCalls */
 
 export class Guide {
   /**

@@ -10,13 +10,18 @@ import * as say from "../../words/help.js";
  * @typedef {import("../../core/help/tour.js").Part} Part
  * @typedef {import("../../core/help/tour.js").Target} Target
  * @typedef {import("../../core/help/tour.js").TourStep} TourStep
- *
- * What it calls: a new session with the tour's board, which gives whether it was made; a program is put into the source; a place of a story
- * does what it says, which gives why it did not; whether a program is in the source; what a step points at comes into view; the panel was
- * left.
- * @typedef {{ begin: (example: Example) => Promise<boolean>, put: (program: string) => void,
- *   act: (act: import("../../core/help/story.js").Act) => Promise<string>, isPut: (program: string) => boolean,
- *   reveal: (target: Target) => void, left: () => void }} TourCalls
+ */
+
+/**
+ * What the panel of the first program and of stories calls.
+ * @typedef {object} TourCalls
+ * @property {(example: Example) => Promise<boolean>} begin Makes a new session of an example. Resolves to whether it was made.
+ * @property {(program: string) => void} put Puts a program into the source.
+ * @property {(act: import("../../core/help/story.js").Act) => Promise<string>} act Does what a link of a story says. Resolves to why it
+ *   could not, "" if it did.
+ * @property {(program: string) => boolean} isPut Returns whether the source is this program.
+ * @property {(target: Target) => void} reveal Scrolls what a step points at into view.
+ * @property {() => void} left The panel was closed.
  */
 
 /**

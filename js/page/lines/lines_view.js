@@ -5,9 +5,12 @@ import { fittingLines } from "../../core/help/manual.js";
 import * as say from "../../words/page.js";
 
 /**
- * What it calls: lines are sent, which gives the first answer, or null where they failed; that answer in words; the help is wanted.
- * @typedef {{ send: (lines: string) => Promise<string | null>, wordsOf: (answer: string) => string, help: (wanted: string) => void }}
- *   LinesCalls
+ * What the box for lines calls.
+ * @typedef {object} LinesCalls
+ * @property {(lines: string) => Promise<string | null>} send Serves lines. Resolves to the first answer, null if the call failed, which
+ *   is then reported.
+ * @property {(answer: string) => string} wordsOf Returns an answer with what it means, as words.
+ * @property {(wanted: string) => void} help Opens the help at an entry.
  */
 
 /** So many of the lines that were sent can be brought back. */

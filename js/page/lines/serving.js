@@ -17,16 +17,26 @@ import { stoppedAt } from "../../words/stops.js";
  * @typedef {import("../../core/bench/bench_client.js").Bench} Bench
  * @typedef {import("../../core/bench/protocol.js").ServedLines} ServedLines
  * @typedef {import("../../core/bench/bench_client.js").Ways} Ways
- *
- * What it calls: the program that stands in ROM; long work tells how far it is, and can be cancelled; the counter that is shown; what the
- * session is now is shown; whether the source is what stands in ROM; the session is kept, which gives its fault; answers are logged;
- * breakpoints did something; whether time runs, and to no goal any more; why it stopped, in words; the status says something; a call
- * failed.
- * @typedef {{ map: () => SourceMap | null,
- *   work: <Result>(words: string, work: (ways: Ways) => Promise<Result>) => Promise<Result>, counter: () => string,
- *   show: (told: ServedLines) => void, checkSource: () => void, keep: () => Promise<string>,
- *   log: (entries: Answered[], fault: string) => void, counted: (tally: Tally) => void, isRunning: () => boolean, forgetGoal: () => void,
- *   reasonOf: (stop: Stop) => string, tell: (words: string) => void, failed: (fault: unknown) => void }} ServingCalls
+ */
+
+/**
+ * What serving lines calls of the page.
+ * @typedef {object} ServingCalls
+ * @property {() => SourceMap | null} map Returns the map of the program in ROM, whose names `@NAME` may have; null if the source is not
+ *   in ROM.
+ * @property {<Result>(words: string, work: (ways: Ways) => Promise<Result>) => Promise<Result>} work Does work of some length, named by
+ *   `words`, and shows how far it is. Rejects with `Cancelled` if the user cancels it.
+ * @property {() => string} counter Returns the counter that is shown, as three hexadecimal digits.
+ * @property {(told: ServedLines) => void} show Shows the session as it is after the lines.
+ * @property {() => void} checkSource Compares the source with ROM again.
+ * @property {() => Promise<string>} keep Keeps the session. Resolves to why it could not be kept, "" if it was.
+ * @property {(entries: Answered[], fault: string) => void} log Logs lines with their answers, and why the session could not be kept.
+ * @property {(tally: Tally) => void} counted Reports what breakpoints did.
+ * @property {() => boolean} isRunning Returns whether time runs.
+ * @property {() => void} forgetGoal Drops the goal that time runs to, because the bench was reset.
+ * @property {(stop: Stop) => string} reasonOf Returns the message about why a run stopped.
+ * @property {(words: string) => void} tell Shows a message in the status line.
+ * @property {(fault: unknown) => void} failed Reports an error that a call threw.
  */
 
 export class Serving {

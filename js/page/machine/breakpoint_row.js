@@ -10,13 +10,19 @@ import * as say from "../../words/machine.js";
  * @typedef {import("../../core/debug/breakpoints.js").KeptBreakpoint} KeptBreakpoint
  * @typedef {"condition" | "from" | "note"} BreakpointField
  * @typedef {Pick<KeptBreakpoint, BreakpointField>} BreakpointWords
- *
- * What it calls: a breakpoint gets other words; words of it are typed and not applied yet; all that was applied is done; the row is placed
- * at the line of its breakpoint, which may come later, and goes; the keyboard is that line's again.
- * @typedef {{ change: (id: number, some: BreakpointWords) => void, type: (id: number, some: BreakpointWords) => void,
- *   settled: () => Promise<void>, place: (breakpoint: Breakpoint, node: HTMLElement) => void,
- *   whenPlaced: (act: () => void) => void, leave: (node: HTMLElement) => void,
- *   left: (breakpoint: Breakpoint) => void }} RowCalls
+ */
+
+/**
+ * What the row that edits a breakpoint calls.
+ * @typedef {object} RowCalls
+ * @property {(id: number, some: BreakpointWords) => void} change Gives the breakpoint with an id other words, which the bench gets.
+ * @property {(id: number, some: BreakpointWords) => void} type Shows words that are typed, without giving them to the bench.
+ * @property {() => Promise<void>} settled Resolves once the bench has all that was changed.
+ * @property {(breakpoint: Breakpoint, node: HTMLElement) => void} place Puts the row below the line of its breakpoint, or into the list
+ *   if it has none.
+ * @property {(act: () => void) => void} whenPlaced Calls `act` once the row is placed and can take the caret.
+ * @property {(node: HTMLElement) => void} leave Takes the row away.
+ * @property {(breakpoint: Breakpoint) => void} left Gives the keyboard back to where the breakpoint is.
  */
 
 const MOST_HITS = 999999999;

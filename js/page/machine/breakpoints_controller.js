@@ -21,19 +21,30 @@ import * as say from "../../words/machine.js";
  *
  * @typedef {import("../../core/debug/breakpoints.js").Breakpoint} Breakpoint
  * @typedef {import("./breakpoint_row.js").BreakpointField} BreakpointField
- *
- * What it calls: the session that is shown, in which something was done; the texts as they stand; lines were served, or there were none to
- * serve; marks are shown at lines and at addresses; an address, or a line of the source, is shown; the program that stands in ROM is looked
- * for where the text is another one, or anew in any case; an element is shown below a line of the source, null for none; the source is
- * measured again; it comes to the front; the keyboard is the source's; time runs to a line; something is told where the hand was; a call
- * failed.
- * @typedef {{ session: () => KeptSession | null, touched: () => void, texts: () => { board: string, program: string },
- *   served: (told: ServedLines) => Promise<void>, stands: (told: ServedLines) => void,
- *   showMarks: (lines: Map<number, BreakpointMark>, addresses: Map<number, BreakpointMark>) => void,
- *   goTo: (address: number) => void, reveal: (line: number) => void, showBelow: (line: number, node: HTMLElement | null) => void,
- *   whenMeasured: (act: () => void) => void, showSource: () => void, focusSource: () => void, runTo: (line: number) => void,
- *   freshSource: () => Promise<void>, checkSource: () => Promise<void>,
- *   tell: (words: string) => void, failed: (fault: unknown) => void }} BreakpointsCalls
+ */
+
+/**
+ * What breakpoints call of the page. Lines of the source count from 1.
+ * @typedef {object} BreakpointsCalls
+ * @property {() => KeptSession | null} session Returns the session that is shown, whose record has the breakpoints; null if there is
+ *   none.
+ * @property {() => void} touched The user has changed breakpoints, so the session is to be kept.
+ * @property {() => { board: string, program: string }} texts Returns the texts of board and source as they are.
+ * @property {(told: ServedLines) => Promise<void>} served Keeps, shows and logs the lines that set breakpoints of the bench.
+ * @property {(told: ServedLines) => void} stands Shows the session after breakpoints were set without lines.
+ * @property {(lines: Map<number, BreakpointMark>, addresses: Map<number, BreakpointMark>) => void} showMarks Shows marks at lines of the
+ *   source and at addresses of the listing.
+ * @property {(address: number) => void} goTo Shows the line of an address in source and listing.
+ * @property {(line: number) => void} reveal Scrolls the source to a line.
+ * @property {(line: number, node: HTMLElement | null) => void} showBelow Shows an element below a line of the source; null removes it.
+ * @property {(act: () => void) => void} whenMeasured Calls `act` once the source is laid out again.
+ * @property {() => void} showSource Brings the source to the front.
+ * @property {() => void} focusSource Gives the keyboard to the source.
+ * @property {(line: number) => void} runTo Lets time run to a line of the source.
+ * @property {() => Promise<void>} freshSource Compares the source with ROM if it was edited since; resolves once that is known.
+ * @property {() => Promise<void>} checkSource Compares the source with ROM in any case; resolves once that is known.
+ * @property {(words: string) => void} tell Shows a message where the user has just worked.
+ * @property {(fault: unknown) => void} failed Reports an error that a call threw.
  */
 
 export class BreakpointsController {

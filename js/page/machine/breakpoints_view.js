@@ -16,12 +16,19 @@ import * as say from "../../words/machine.js";
  * @typedef {Pick<BreakpointKeeper, "list" | "faults" | "map">} Keeper
  * @typedef {{ root: HTMLLIElement, isOn: HTMLInputElement, mark: Cell, where: Cell, edit: HTMLButtonElement, hits: Cell, words: Cell,
  *   fault: Cell }} Row
- *
- * What it calls: a breakpoint is switched; its words are to be edited; it is taken away; all are switched, or taken away; hits are counted
- * anew; the page goes to the place of one.
- * @typedef {{ change: (id: number, some: Partial<KeptBreakpoint>) => void, edit: (breakpoint: Breakpoint) => void,
- *   remove: (id: number) => void, switchAll: (isOn: boolean) => void, removeAll: () => void, forgetHits: () => void,
- *   goTo: (breakpoint: Breakpoint) => void }} BreakpointCalls
+ */
+
+/**
+ * What the list of breakpoints calls.
+ * @typedef {object} BreakpointCalls
+ * @property {(id: number, some: Partial<KeptBreakpoint>) => void} change Gives the breakpoint with an id other properties, such as
+ *   whether it is on.
+ * @property {(breakpoint: Breakpoint) => void} edit Opens the words of a breakpoint.
+ * @property {(id: number) => void} remove Removes the breakpoint with an id.
+ * @property {(isOn: boolean) => void} switchAll Switches all breakpoints on or off.
+ * @property {() => void} removeAll Removes all breakpoints.
+ * @property {() => void} forgetHits Counts all hits from 0 again.
+ * @property {(breakpoint: Breakpoint) => void} goTo Shows the line of a breakpoint, or its address if it has none.
  */
 
 /** So many notes are shown, the last ones. */

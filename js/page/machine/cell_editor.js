@@ -7,9 +7,14 @@ import * as say from "../../words/machine.js";
 /**
  * A cell that can be poked: the place of `poke`, how it is called, and how many digits it has.
  * @typedef {{ place: string, name: string, digits: number }} Poked
- *
- * What it calls: a value is poked, which gives "" or the words of its refusal; words are told at a cell that cannot be poked.
- * @typedef {{ poke: (place: string, value: string) => Promise<string>, tell: (words: string, at: HTMLElement) => void }} EditorCalls
+ */
+
+/**
+ * What the editor of cells calls.
+ * @typedef {object} EditorCalls
+ * @property {(place: string, value: string) => Promise<string>} poke Gives a place of the machine a value, both as `poke` has them.
+ *   Resolves to "" or to why it was refused.
+ * @property {(words: string, at: HTMLElement) => void} tell Shows a message at a cell that cannot be edited now.
  */
 
 

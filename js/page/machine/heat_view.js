@@ -12,13 +12,18 @@ import * as say from "../../words/machine.js";
  * @typedef {import("../../core/machine/warmth.js").HeatKind} HeatKind
  * @typedef {import("../../core/machine/source_map.js").SourceMap} SourceMap
  * @typedef {{ warmth: number, words: string }} Warm
- *
- * What it calls: whether time runs; the changes in so many cycles are counted, null where that was cancelled or failed, which is told;
- * changes are told while time runs, or not any more; the cells are shown as warm as they are, by their places; what a place is called; the
- * program that stands in ROM.
- * @typedef {{ isRunning: () => boolean, count: (cycles: number, signal: AbortSignal) => Promise<Heat | null>,
- *   watch: (isOn: boolean) => void, show: (warm: Map<string, Warm>) => void, nameOf: (place: string) => string,
- *   map: () => SourceMap | null }} HeatCalls
+ */
+
+/**
+ * What the heat map of RAM calls.
+ * @typedef {object} HeatCalls
+ * @property {() => boolean} isRunning Returns whether time runs.
+ * @property {(cycles: number, signal: AbortSignal) => Promise<Heat | null>} count Counts the changes in the last `cycles` cycles.
+ *   Resolves to null if `signal` cancelled it or it failed, which is then reported.
+ * @property {(isOn: boolean) => void} watch Asks the bench to report changes of RAM while time runs, or not.
+ * @property {(warm: Map<string, Warm>) => void} show Shows how warm each cell is, by its place; others are cold.
+ * @property {(place: string) => string} nameOf Returns what a place is called by the names of the program.
+ * @property {() => SourceMap | null} map Returns the map of the program in ROM; null if the source is not in ROM.
  */
 
 /** Time has to stand still for so many milliseconds, and no hand to move, before it is counted. */

@@ -6,11 +6,15 @@ import { putBelow } from "../ui/told_at.js";
 
 /**
  * @typedef {import("./cell_editor.js").Poked} Poked
- *
- * What it calls: whether time runs; the words on the last change of a place, which can be cancelled; the value that is poked at a cell,
- * undefined where none is.
- * @typedef {{ isRunning: () => boolean, wordsOf: (poked: Poked, signal: AbortSignal) => Promise<string>,
- *   pokedAt: (cell: HTMLElement) => Poked | undefined }} LastChangeCalls
+ */
+
+/**
+ * What the message about a cell's last change calls.
+ * @typedef {object} LastChangeCalls
+ * @property {() => boolean} isRunning Returns whether time runs; then there is no message.
+ * @property {(poked: Poked, signal: AbortSignal) => Promise<string>} wordsOf Resolves to words about the last change of a place. Rejects
+ *   if `signal` is aborted.
+ * @property {(cell: HTMLElement) => Poked | undefined} pokedAt Returns the place whose value a cell shows; undefined if it shows none.
  */
 
 /** A pointer that rests so many milliseconds on a cell asks. */

@@ -5,9 +5,12 @@ import { ADDRESSES } from "../../core/bench/rom_bytes.js";
 import { element } from "../ui/dom.js";
 
 /**
- * What it calls: so many rows have room; a user has scrolled to an address; a key wants to go so many rows on, or to an end.
- * @typedef {{ resized: (rows: number) => void, scrolled: (address: number) => void, went: (rows: number) => void,
- *   wentTo: (end: "first" | "last") => void }} ScrollCalls
+ * What the scroll bar of the listing calls.
+ * @typedef {object} ScrollCalls
+ * @property {(rows: number) => void} resized There is room for this many rows.
+ * @property {(address: number) => void} scrolled The user has scrolled to an address, which becomes the first one.
+ * @property {(rows: number) => void} went A key moves the listing by rows, back if they are negative.
+ * @property {(end: "first" | "last") => void} wentTo A key moves the listing to its first or last row.
  */
 
 /** The height of a row where none has been laid out, in pixels. */

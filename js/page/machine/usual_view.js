@@ -8,12 +8,17 @@ import * as say from "../../words/machine.js";
 /**
  * @typedef {import("../../core/debug/usual_faults.js").Kind} Kind
  * @typedef {import("../../core/debug/usual_faults.js").UsualFault} UsualFault
- *
- * What it calls: an address with its name and its line; it is shown; time stops at these from here on, which is kept; how many
- * are listed; how it was chosen.
- * @typedef {{ wordsOf: (address: number) => string, goTo: (address: number) => void, stopAt: (kinds: Kind[]) => void,
- *   counted: (count: number) => void,
- *   chosen: () => string, choose: (kinds: string) => void }} UsualCalls
+ */
+
+/**
+ * What the list of common mistakes calls.
+ * @typedef {object} UsualCalls
+ * @property {(address: number) => string} wordsOf Returns an address with its name and its line, as words.
+ * @property {(address: number) => void} goTo Shows the line of an address in source and listing.
+ * @property {(kinds: Kind[]) => void} stopAt Lets time stop at these kinds of mistakes from here on.
+ * @property {(count: number) => void} counted Reports how many mistakes are listed.
+ * @property {() => string} chosen Returns the kinds that were chosen before, as `choose` kept them; "" if nothing was.
+ * @property {(kinds: string) => void} choose Keeps the kinds that are chosen, in one text.
  */
 
 export class UsualView {

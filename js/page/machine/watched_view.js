@@ -9,11 +9,16 @@ import * as say from "../../words/machine.js";
  * @typedef {import("../../core/debug/watched.js").Watched} Watched
  * @typedef {import("../../core/conditions/condition_language.js").Names} Names
  * @typedef {{ root: HTMLLIElement, value: HTMLElement, shape: string, cells: Cell[] }} Row
- *
- * What it calls: a cell that shows a value can be edited; what stands in the machine, null while time runs; the list is another one; its
- * texts are kept.
- * @typedef {{ offer: import("../text/meaning_view.js").Offer, standing: () => Standing | null, names: () => Names,
- *   listed: () => void, keep: (texts: string[]) => void }} WatchedCalls
+ */
+
+/**
+ * What the watched values call.
+ * @typedef {object} WatchedCalls
+ * @property {import("../text/meaning_view.js").Offer} offer Makes a cell that shows a value editable.
+ * @property {() => Standing | null} standing Returns the values of the machine; null while time runs.
+ * @property {() => Names} names Returns the names that a watched value may have.
+ * @property {() => void} listed The list has changed.
+ * @property {(texts: string[]) => void} keep Keeps the texts of the list.
  */
 
 export class WatchedView {
@@ -69,8 +74,9 @@ export class WatchedView {
    * @returns {Row}
    */
   rowOf(watched) {
-    const value = element("span", { className: "values" });
-    const remove = element("button", { "type": "button", "className": "small", "aria-label": say.stopWatching(watched.name) }, say.REMOVE);
+    const value = element("span", { className: "values" }, element("small", {}, say.WHEN_PAUSED));
+    const remove = element("button", { "type": "button", "className": "remove", "title": say.stopWatching(watched.name) }, "\u00D7");
+    remove.setAttribute("aria-label", say.stopWatching(watched.name));
     onClick(remove, () => {
       this.take(this.all.filter((each) => each !== watched));
       this.keep();

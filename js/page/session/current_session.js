@@ -16,14 +16,24 @@ import * as say from "../../words/session.js";
  * @typedef {import("../../core/bench/protocol.js").Shown} Shown
  * @typedef {import("./store.js").SessionRecord} SessionRecord
  * @typedef {import("./store.js").SessionStore} SessionStore
- *
- * What it calls: another session is shown from here on; what it is now is shown; whether the source is what stands in ROM; time runs, or
- * stands still, and words tell why; no more of it passes; where it stands still; something was done in the session; what time
- * has done since that was logged last, and it is logged; why the session is not kept, "" where it is; whether it is saved.
- * @typedef {{ begin: (record: SessionRecord) => void, show: (shown: Shown) => void, checkSource: () => Promise<void>, run: () => void,
- *   halted: (words: string) => void, standStill: () => Promise<void>, where: () => string, touched: () => void, ran: () => RanEntry[],
- *   showRan: (ran: RanEntry[], fault: string) => void, notKept: (words: string) => void,
- *   saved: (state: "example" | "saved" | "failed") => void }} CurrentCalls
+ */
+
+/**
+ * What the current session calls of the page.
+ * @typedef {object} CurrentCalls
+ * @property {(record: SessionRecord) => void} begin Another session is shown from here on; its texts and choices are in the record.
+ * @property {(shown: Shown) => void} show Shows the session as it is now.
+ * @property {() => Promise<void>} checkSource Compares the source with ROM; resolves once the names of the program are shown.
+ * @property {() => void} run Lets time run, as it did when the session was left.
+ * @property {(words: string) => void} halted Shows that time is paused, and why.
+ * @property {() => Promise<void>} standStill Lets no more time pass; resolves once the worker has stopped.
+ * @property {() => string} where Returns the counter with its name and its line, as words.
+ * @property {() => void} touched The user has done something in the session for the first time.
+ * @property {() => RanEntry[]} ran Returns what time has done since the last call, and forgets it.
+ * @property {(ran: RanEntry[], fault: string) => void} showRan Logs what time has done, and why the session could not be kept, "" if it
+ *   was.
+ * @property {(words: string) => void} notKept Shows why the session is not kept; "" hides that message.
+ * @property {(state: "example" | "saved" | "failed") => void} saved Shows in the status line whether the session is saved.
  */
 
 /** What is hidden until there is a session to show. */

@@ -5,12 +5,19 @@ import { download } from "./download.js";
 import * as say from "../../words/session.js";
 
 /**
- * What it calls: the session's name; its texts; what stands in ROM, in Intel HEX and byte by byte; a call failed.
- * @typedef {{ name: () => string, board: () => string, program: () => string, hex: () => Promise<string>, image: () => Promise<Uint8Array>,
- *   failed: (fault: unknown) => void }} ExportCalls
- *
  * A file: its ending, what is in it, and whether there is anything to put into it now.
  * @typedef {{ ending: string, what: string, make: () => string | Uint8Array | Promise<string | Uint8Array> }} ExportedFile
+ */
+
+/**
+ * What the export of files calls.
+ * @typedef {object} ExportCalls
+ * @property {() => string} name Returns the name of the session, after which files are named.
+ * @property {() => string} board Returns the board's text.
+ * @property {() => string} program Returns the source.
+ * @property {() => Promise<string>} hex Resolves to the bytes of all ROMs in Intel HEX.
+ * @property {() => Promise<Uint8Array>} image Resolves to the bytes of all ROMs, one after the other.
+ * @property {(fault: unknown) => void} failed Reports an error that a call threw.
  */
 
 export class ExportView {

@@ -6,12 +6,20 @@ import * as say from "../../words/session.js";
 
 /**
  * @typedef {import("./store.js").SessionRecord} SessionRecord
- *
- * What it calls; `choose` does something that closes the dialog unless it is refused.
- * @typedef {{ isShown: (id: string) => boolean, open: (id: string) => Promise<boolean>, copy: (id: string) => Promise<boolean>,
- *   remove: (records: SessionRecord[]) => Promise<void>, deleted: () => SessionRecord[],
- *   bringBack: (records: SessionRecord[]) => Promise<void>, choose: (act: () => Promise<boolean>) => void,
- *   button: (word: string, label: string, act: () => void) => HTMLButtonElement }} ListCalls
+ */
+
+/**
+ * What the list of projects calls. A session is named by its id.
+ * @typedef {object} ListCalls
+ * @property {(id: string) => boolean} isShown Returns whether a session is the one that is shown.
+ * @property {(id: string) => Promise<boolean>} open Shows a session. Resolves to false if that was refused, which is then reported.
+ * @property {(id: string) => Promise<boolean>} copy Makes a copy of a session and shows it. Resolves to false if that was refused.
+ * @property {(records: SessionRecord[]) => Promise<void>} remove Moves sessions to the deleted ones.
+ * @property {() => SessionRecord[]} deleted Returns the sessions that can be brought back.
+ * @property {(records: SessionRecord[]) => Promise<void>} bringBack Brings deleted sessions back.
+ * @property {(act: () => Promise<boolean>) => void} choose Does `act`, and closes the dialog unless that resolves to false.
+ * @property {(word: string, label: string, act: () => void) => HTMLButtonElement} button Returns a button with a word, a label for those
+ *   who do not see it, and what it does.
  */
 
 export class KeptList {

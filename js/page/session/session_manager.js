@@ -19,16 +19,22 @@ import * as say from "../../words/session.js";
  * @typedef {import("./store.js").SessionRecord} SessionRecord
  * @typedef {import("./store.js").SessionStore} SessionStore
  * @typedef {import("../../core/bench/words.js").Words} Words
- *
- * What it calls: the session that is shown; it is kept; another one is shown in its place; one was left for a new one; something was
- * refused; texts of a file come into the editors, and an image into ROM; time runs at another speed.
- * @typedef {{ session: () => KeptSession | null, keep: () => Promise<string>,
- *   refuse: (words: string, ...actions: NoticeAction[]) => void, speed: (id: string) => void,
- *   left: (record: SessionRecord) => void,
- *   texts: (name: string, texts: import("../../core/session/opened_file.js").FileTexts) => Promise<void>,
- *   image: (name: string, bytes: Int16Array) => Promise<void>,
- *   use: (record: SessionRecord, release: Release, example: string) => Promise<void> }} ManagerCalls where nothing was done yet in a
- *   session of an example, `example` is its name
+ */
+
+/**
+ * What the manager of sessions calls of the page.
+ * @typedef {object} ManagerCalls
+ * @property {() => KeptSession | null} session Returns the session that is shown; null if there is none.
+ * @property {() => Promise<string>} keep Keeps the session. Resolves to why it could not be kept, "" if it was.
+ * @property {(words: string, ...actions: NoticeAction[]) => void} refuse Shows why something was not done, with buttons.
+ * @property {(id: string) => void} speed Sets the speed of time that a project names, by its id.
+ * @property {(record: SessionRecord) => void} left A session was left for a new one, which is reported so that it can be found.
+ * @property {(name: string, texts: import("../../core/session/opened_file.js").FileTexts) => Promise<void>} texts Puts texts of a file
+ *   with a name into the editors.
+ * @property {(name: string, bytes: Int16Array) => Promise<void>} image Puts bytes of a file with a name into ROM; -1 leaves a byte as it
+ *   is.
+ * @property {(record: SessionRecord, release: Release, example: string) => Promise<void>} use Shows another session, whose lock `release`
+ *   frees. `example` is the name of its example if nothing was done in it yet, else "".
  */
 
 

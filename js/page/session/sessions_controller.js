@@ -19,21 +19,28 @@ import * as say from "../../words/session.js";
  * @typedef {{ bench: import("../../core/bench/bench_client.js").Bench, store: import("./store.js").SessionStore,
  *   locks: import("./locks.js").Locks, words: import("../../core/bench/words.js").Words,
  *   notice: import("../ui/notice.js").Notice, examples: Example[] }} Parts
- *
- * What it calls: the session that is shown; it is kept; another one is shown in its place; it gets another name; a link is opened; texts of
- * a file come into the editors, and an image into ROM; time runs at another speed.
- * @typedef {{ session: () => KeptSession | null, keep: () => Promise<string>, rename: (name: string) => void,
- *   speed: (id: string) => void,
- *   texts: (name: string, texts: import("../../core/session/opened_file.js").FileTexts) => Promise<void>,
- *   image: (name: string, bytes: Int16Array) => Promise<void>,
- *   use: (record: SessionRecord, release: Release, example: string) => Promise<void>, link: (text: string) => Promise<void> }} Calls
  */
 
+/**
+ * What the list of projects and the opening of sessions call of the page.
+ * @typedef {object} ControllerCalls
+ * @property {() => KeptSession | null} session Returns the session that is shown; null if there is none.
+ * @property {() => Promise<string>} keep Keeps the session. Resolves to why it could not be kept, "" if it was.
+ * @property {(name: string) => void} rename Gives the session that is shown another name.
+ * @property {(id: string) => void} speed Sets the speed of time that a project names, by its id.
+ * @property {(name: string, texts: import("../../core/session/opened_file.js").FileTexts) => Promise<void>} texts Puts texts of a file
+ *   with a name into the editors.
+ * @property {(name: string, bytes: Int16Array) => Promise<void>} image Puts bytes of a file with a name into ROM; -1 leaves a byte as it
+ *   is.
+ * @property {(record: SessionRecord, release: Release, example: string) => Promise<void>} use Shows another session, whose lock `release`
+ *   frees. `example` is the name of its example if nothing was done in it yet, else "".
+ * @property {(text: string) => Promise<void>} link Opens the session of a link by the text behind its `#`.
+ */
 
 export class SessionsController {
   /**
    * @param {Parts} parts
-   * @param {Calls} calls
+   * @param {ControllerCalls} calls
    */
   constructor({ bench, store, locks, words, notice, examples }, calls) {
     this.calls = calls;

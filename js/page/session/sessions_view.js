@@ -11,15 +11,25 @@ import * as say from "../../words/session.js";
  * @typedef {import("../../core/engine/examples.js").Example} Example
  * @typedef {import("../ui/notice.js").Notice} Notice
  * @typedef {import("./store.js").SessionRecord} SessionRecord
- *
- * What it calls. A call that opens something gives false where that was refused.
- * @typedef {{ kept: () => Promise<SessionRecord[]>, isShown: (id: string) => boolean, open: (id: string) => Promise<boolean>,
- *   copy: (id: string) => Promise<boolean>, remove: (records: SessionRecord[]) => Promise<void>, deleted: () => SessionRecord[],
- *   bringBack: (records: SessionRecord[]) => Promise<void>, begin: (example: Example) => Promise<boolean>,
- *   beginStory: (example: Example) => Promise<boolean>, openFile: (file: File) => Promise<boolean>,
- *   openFolder: (read: () => Promise<import("./folder_files.js").Folder>) => Promise<boolean>,
- *   rename: (name: string) => void,
- *   keptWhere: () => string }} SessionsCalls
+ */
+
+/**
+ * What the dialog of projects calls. A call that opens something resolves to false if that was refused.
+ * @typedef {object} SessionsCalls
+ * @property {() => Promise<SessionRecord[]>} kept Resolves to the sessions that are kept.
+ * @property {(id: string) => boolean} isShown Returns whether a session is the one that is shown, by its id.
+ * @property {(id: string) => Promise<boolean>} open Shows a session, by its id.
+ * @property {(id: string) => Promise<boolean>} copy Makes a copy of a session, by its id, and shows it.
+ * @property {(records: SessionRecord[]) => Promise<void>} remove Moves sessions to the deleted ones.
+ * @property {() => SessionRecord[]} deleted Returns the sessions that can be brought back.
+ * @property {(records: SessionRecord[]) => Promise<void>} bringBack Brings deleted sessions back.
+ * @property {(example: Example) => Promise<boolean>} begin Makes a new session of an example and shows it.
+ * @property {(example: Example) => Promise<boolean>} beginStory Makes a new session of an example and tells its story.
+ * @property {(file: File) => Promise<boolean>} openFile Opens a file: a project, a session or a text.
+ * @property {(read: () => Promise<import("./folder_files.js").Folder>) => Promise<boolean>} openFolder Opens a project in a folder, which
+ *   `read` reads.
+ * @property {(name: string) => void} rename Gives the session that is shown another name.
+ * @property {() => string} keptWhere Returns where the browser keeps sessions, as words.
  */
 
 /**

@@ -16,11 +16,16 @@ import * as say from "../../words/session.js";
  * @typedef {import("../ui/notice.js").Notice} Notice
  * @typedef {import("./share_link.js").Texts} Texts
  * @typedef {import("../../core/bench/words.js").Words} Words
- *
- * What it calls: the session that is shown, by its name and texts; its own address is the one of the page again; a new session is made
- * of texts and of the file that has them; a project is saved.
- * @typedef {{ shown: () => Texts | null, address: () => void, begin: (texts: Texts, file: Uint8Array, runs: boolean) => Promise<boolean>,
- *   save: () => void }} SharingCalls
+ */
+
+/**
+ * What links to sessions call.
+ * @typedef {object} SharingCalls
+ * @property {() => Texts | null} shown Returns the name and the texts of the session that is shown; null if there is none.
+ * @property {() => void} address Puts the session's own address into the address bar.
+ * @property {(texts: Texts, file: Uint8Array, runs: boolean) => Promise<boolean>} begin Makes a new session of texts and their file; time
+ *   runs in it if `runs`. Resolves to whether it was made.
+ * @property {() => void} save Saves the project to a file, if it is too long for a link.
  */
 
 /**

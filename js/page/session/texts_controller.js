@@ -9,13 +9,21 @@ import * as say from "../../words/session.js";
  * @typedef {import("../ui/notice.js").Notice} Notice
  * @typedef {{ text: string, open: (session: string, text: string) => void, replaceText: (text: string) => void,
  *   undoOrRedo: (which: "undo" | "redo") => boolean }} TextEditor
- *
- * What it calls: the session that is shown; something is done in it; it is kept; names in the board's text may be others; a source
- * text of what is in ROM; whether each line of a program has an error; texts of a file were taken, of which one is to be seen, with lines
- * for the bench; a call failed.
- * @typedef {{ session: () => KeptSession | null, touch: () => void, keep: () => Promise<string>, named: (boardText: string) => void,
- *   source: () => Promise<string>, isNoProgram: (text: string) => Promise<boolean>, took: (seen: TextName, lines: string) => void,
- *   failed: (fault: unknown) => void }} TextsCalls
+ */
+
+/**
+ * What the texts of a session call.
+ * @typedef {object} TextsCalls
+ * @property {() => KeptSession | null} session Returns the session that is shown; null if there is none.
+ * @property {() => void} touch The user has done something in the session.
+ * @property {() => Promise<string>} keep Keeps the session. Resolves to why it could not be kept, "" if it was.
+ * @property {(boardText: string) => void} named The names in the board's text may have changed.
+ * @property {() => Promise<string>} source Resolves to a source text of the bytes in ROM. Rejects if the bench fails.
+ * @property {(text: string) => Promise<boolean>} isNoProgram Resolves to whether each line of a text has an error, so that it is no
+ *   program.
+ * @property {(seen: TextName, lines: string) => void} took Texts of a file came into the editors; `seen` is to be shown, and `lines` are
+ *   to be put into the box for lines.
+ * @property {(fault: unknown) => void} failed Reports an error that a call threw.
  */
 
 /**

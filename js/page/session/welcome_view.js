@@ -8,9 +8,15 @@ import * as say from "../../words/example_notes.js";
 
 /**
  * @typedef {import("../../core/engine/examples.js").Example} Example
- *
- * What it calls: the first program begins; an example does; the drawing is shown; the cards were seen.
- * @typedef {{ beginTour: () => void, begin: (name: string) => Promise<boolean>, draw: () => void, seen: () => void }} WelcomeCalls
+ */
+
+/**
+ * What the cards of the first visit call.
+ * @typedef {object} WelcomeCalls
+ * @property {() => void} beginTour Begins the first program.
+ * @property {(name: string) => Promise<boolean>} begin Makes a new session of the example with a name. Resolves to whether it was made.
+ * @property {() => void} draw Brings the picture of the wiring to the front.
+ * @property {() => void} seen Remembers that the cards were closed.
  */
 
 export class WelcomeView {

@@ -14,15 +14,25 @@ import * as say from "../../words/testing.js";
  * @typedef {import("../../core/testing/test_suite.js").Report} Report
  * @typedef {import("../../core/testing/test_suite.js").TestedTexts} TestedTexts
  * @typedef {import("../../core/testing/test_run.js").Outcome} Outcome
- *
- * What it calls: the texts of board and program; the labels of the program; the faults of texts; tests are run (null where that failed,
- * which is told); what a refusal means; the counts of lines are shown, or none; an address is shown; the session of a failure is opened;
- * a few words stand on the tab; the text was edited; a call failed.
- * @typedef {{ texts: () => { boardText: string, programText: string }, labels: () => string[],
- *   faults: (texts: TestedTexts) => Promise<TextFault[]>, run: (texts: TestedTexts) => Promise<Report>,
- *   wordsOfRefusal: (number: number) => string, showCounts: (report: Report | null, programText: string) => void,
- *   goTo: (address: number) => void, open: (name: string, file: Uint8Array, texts: TestedTexts) => void, mark: (words: string) => void,
- *   edited: () => void, failed: (fault: unknown) => void }} TestsCalls
+ */
+
+/**
+ * What the tab of tests calls of the page. `labels`, `edited` and `failed` also serve its text.
+ * @typedef {object} TestsCalls
+ * @property {() => { boardText: string, programText: string }} texts Returns the texts of board and source as they are.
+ * @property {() => string[]} labels Returns the labels of the program in ROM.
+ * @property {(texts: TestedTexts) => Promise<TextFault[]>} faults Resolves to the errors of all texts.
+ * @property {(texts: TestedTexts) => Promise<Report>} run Runs the tests. Resolves to their results; rejects with `Cancelled` if the user
+ *   cancels them.
+ * @property {(number: number) => string} wordsOfRefusal Returns what the number of a refusal means.
+ * @property {(report: Report | null, programText: string) => void} showCounts Shows beside the lines of a program how often each was run;
+ *   null shows no counts.
+ * @property {(address: number) => void} goTo Shows the line of an address in source and listing.
+ * @property {(name: string, file: Uint8Array, texts: TestedTexts) => void} open Opens a session by its file as a new one, with the texts
+ *   of the tests.
+ * @property {(words: string) => void} mark Shows a few words on the tab; "" for none.
+ * @property {() => void} edited The text of tests was edited.
+ * @property {(fault: unknown) => void} failed Reports an error that a call threw.
  */
 
 export class TestsTab {

@@ -2,6 +2,7 @@
 
 import { Cell, below, block, buttonOf, element } from "../ui/dom.js";
 import { hex } from "../../core/bench/numbers.js";
+import { CYCLE_MS } from "../../core/time/mcs4_time.js";
 import { wordsOfCounts, wordsOfTime } from "../../words/results.js";
 import { wordsOfLine } from "../../words/stops.js";
 import * as say from "../../words/testing.js";
@@ -11,14 +12,19 @@ import * as say from "../../words/testing.js";
  * @typedef {import("../../core/testing/test_suite.js").Report} Report
  * @typedef {import("../../core/testing/test_run.js").Failure} Failure
  * @typedef {import("../../core/testing/test_run.js").Outcome} Outcome
- *
- * What it calls: a line of the text of tests is to be seen; an address of the program; the session of a failure is to be opened.
- * @typedef {{ goTo: (line: number) => void, goToAddress: (address: number) => void, open: (outcome: Outcome) => void }} ResultCalls
+ */
+
+/**
+ * What the results of tests call.
+ * @typedef {object} ResultCalls
+ * @property {(line: number) => void} goTo Shows a line of the text of tests, from 1.
+ * @property {(address: number) => void} goToAddress Shows the line of an address in source and listing.
+ * @property {(outcome: Outcome) => void} open Opens the session of a failure as a new one.
  */
 
 /** @param {number} cycles */
 function milliseconds(cycles) {
-  return say.cyclesAndTime(cycles.toLocaleString("en"), (cycles * 0.0108).toFixed(1));
+  return say.cyclesAndTime(cycles.toLocaleString("en"), (cycles * CYCLE_MS).toFixed(1));
 }
 
 export class TestsView {

@@ -12,12 +12,23 @@ import { COLOURS } from "../../core/text/test_colours.js";
  * @typedef {import("../../core/testing/prepared.js").TextFault} TextFault
  * @typedef {import("../../core/text/completion.js").Completion} Completion
  * @typedef {{ keys: string[], lamps: string[], labels: string[] }} Names of the board and of the program
- *
- * What it calls as each such text does: the texts that it stands beside; the labels of the program; it was edited; a call failed.
- * @typedef {{ texts: () => { boardText: string }, labels: () => string[], edited: () => void, failed: (fault: unknown) => void }} TextCalls
- *
- * What it calls of its own: the faults of all texts; how many of them are of this one; it is sent.
- * @typedef {{ faults: () => Promise<TextFault[]>, counted: (count: number) => void, send: () => void }} OwnCalls
+ */
+
+/**
+ * What a text beside board and source calls of its own tab.
+ * @typedef {object} OwnCalls
+ * @property {() => Promise<TextFault[]>} faults Resolves to the errors of all texts.
+ * @property {(count: number) => void} counted Shows how many errors this text has.
+ * @property {() => void} send Does what the first button of the tab does.
+ */
+
+/**
+ * What each text beside board and source calls.
+ * @typedef {object} TextCalls
+ * @property {() => { boardText: string }} texts Returns the texts that it is for.
+ * @property {() => string[]} labels Returns the labels of the program in ROM.
+ * @property {() => void} edited The text was edited.
+ * @property {(fault: unknown) => void} failed Reports an error that a call threw.
  */
 
 /**

@@ -27,20 +27,31 @@ import * as say from "../../words/text.js";
  * @typedef {import("../../core/text/text_fault.js").Fault} Fault
  * @typedef {import("../../core/bench/words.js").Words} Words
  * @typedef {import("../machine/breakpoint_row.js").BreakpointField} BreakpointField
- *
- * What they call: a text was edited, the program by these edits; its bytes came into ROM, where `isBegun` with a reset; lines are sent,
- * which gives the first answer, or null where they failed; time is stopped, and runs; the counter, as it is written; a breakpoint is
- * wanted at a line of the program, or is not wanted any more, or its words are to be edited; the menu of a line's margin is wanted; what
- * a name of the program means, and a word at a place of a line stands for now; a cell that shows such a value can be edited; a text has so
- * many faults; a board's text is put in the place of the one that is there, with words about it; a call failed.
- * @typedef {{ edited: (edits: Edit[]) => void, assembled: (isBegun: boolean) => Promise<void>,
- *   act: (lines: string) => Promise<string | null>, stop: () => Promise<void>, run: () => void,
- *   counter: () => string, toggleBreakpoint: (line: number) => void, editBreakpoint: (line: number, what: BreakpointField) => void,
- *   askedMargin: (line: number, point: { left: number, bottom: number }) => void,
- *   meaningOf: (name: string) => string,
- *   valuesAt: (text: string, at: number) => import("../../core/debug/value_words.js").Piece[], offer: import("./meaning_view.js").Offer,
- *   hasFaults: (name: "program" | "board", count: number) => void, replaceBoard: (text: string, words: string) => void,
- *   failed: (fault: unknown) => void }} EditorsCalls
+ */
+
+/**
+ * What the editors of board and source call. Lines count from 1.
+ * @typedef {object} EditorsCalls
+ * @property {(edits: Edit[]) => void} edited A text was edited; of the source with its edits, of the board with none.
+ * @property {(isBegun: boolean) => Promise<void>} assembled The source came into ROM, with a reset if `isBegun`. Resolves once
+ *   breakpoints are at their lines.
+ * @property {(lines: string) => Promise<string | null>} act Serves lines. Resolves to the first answer, null if the call failed, which is
+ *   then reported.
+ * @property {() => Promise<void>} stop Pauses time; resolves once it is paused.
+ * @property {() => void} run Lets time run.
+ * @property {() => string} counter Returns the counter that is shown, as three hexadecimal digits.
+ * @property {(line: number) => void} toggleBreakpoint Sets or removes the breakpoint of a line of the source.
+ * @property {(line: number, what: BreakpointField) => void} editBreakpoint Opens the words of a line's breakpoint, from a field on.
+ * @property {(line: number, point: { left: number, bottom: number }) => void} askedMargin Opens the menu of a line's margin at a point of
+ *   the page, in pixels.
+ * @property {(name: string) => string} meaningOf Returns what a name of the program means, as words; "" if it is none.
+ * @property {(text: string, at: number) => import("../../core/debug/value_words.js").Piece[]} valuesAt Returns the values that the word
+ *   at a place of a line has now; none while time runs.
+ * @property {import("./meaning_view.js").Offer} offer Makes a cell that shows a value editable.
+ * @property {(name: "program" | "board", count: number) => void} hasFaults Shows on the tab of a text how many errors it has.
+ * @property {(text: string, words: string) => void} replaceBoard Puts a text in the place of the board's text, with a message by which
+ *   that can be undone.
+ * @property {(fault: unknown) => void} failed Reports an error that a call threw.
  */
 
 export class Editors {

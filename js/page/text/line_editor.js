@@ -20,17 +20,22 @@ import { below } from "../ui/dom.js";
  * @typedef {import("./line_layers.js").Layer} Layer
  * @typedef {Record<string, (editor: LineEditor) => void>} KeyMap by names of keys, as `Shift-Ctrl-[`
  *
- * What it calls: the text was edited; the caret was moved; a gutter was clicked at a line (from 0), or by the second button; a text of so
- * many characters is pasted or dropped, and it is said whether it is taken; what the word at a place can become.
- * @typedef {{ edited: (edits: Edit[]) => void, moved: () => void, clickedGutter: (line: number) => void,
- *   askedGutter: (line: number, event: Event) => void, takes: (size: number) => boolean,
- *   complete: (position: Position) => Completion }} EditorCalls
- *
  * What an editor is made of: what holds it, its name for those who do not see it, and what they are told beside it; the colours of its
  * lines; its gutters, "numbers" for those of its lines; the blanks that a new line begins with, where it is not those of the line before;
  * its own keys, and more of CodeMirror's parts.
  * @typedef {{ container: HTMLElement, label: string, description: string, colours: import("./line_colours.js").Colours, gutters: string[],
  *   indent?: string, keys: KeyMap, more: Extension[], calls: EditorCalls }} EditorParts
+ */
+
+/**
+ * What an editor of lines calls.
+ * @typedef {object} EditorCalls
+ * @property {(edits: Edit[]) => void} edited The text was edited, by these edits in their order.
+ * @property {() => void} moved The caret was moved.
+ * @property {(line: number) => void} clickedGutter A gutter was clicked at a line, from 0.
+ * @property {(line: number, event: Event) => void} askedGutter A gutter was clicked by the second button at a line, from 0.
+ * @property {(size: number) => boolean} takes Returns whether a text of `size` characters may be pasted or dropped.
+ * @property {(position: Position) => Completion} complete Returns what the word at a position can become.
  */
 
 const INDENT = 8;

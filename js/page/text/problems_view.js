@@ -5,9 +5,13 @@ import * as say from "../../words/text.js";
 
 /**
  * @typedef {import("../../core/text/text_fault.js").Fault} Fault
- *
- * What it calls: a user wants to go to an error of a text; how many problems there are.
- * @typedef {{ goTo: (name: string, fault: Fault) => void, counted: (count: number) => void }} ProblemCalls
+ */
+
+/**
+ * What the list of problems calls.
+ * @typedef {object} ProblemCalls
+ * @property {(name: string, fault: Fault) => void} goTo Shows an error in the text with a name.
+ * @property {(count: number) => void} counted Shows how many problems all texts have.
  */
 
 export class ProblemsView {

@@ -13,12 +13,6 @@ import * as say from "../../words/text.js";
  * @typedef {import("./line_editor.js").Position} Position
  * @typedef {import("../../core/debug/breakpoints.js").Edit} Edit
  *
- * What it calls: the text was edited; the caret was moved; a gutter was clicked at a line, or by the second button; a place was clicked
- * with Control, and the caret is there; a text was not taken, since it is too long; what the word at a place can become.
- * @typedef {{ edited: (edits: Edit[]) => void, moved: () => void, clickedGutter: (line: number) => void,
- *   askedGutter: (line: number, event: Event) => void, clickedName: () => void,
- *   refused: (size: number) => void, complete: (position: Position) => import("../../core/text/completion.js").Completion }} TextCalls
- *
  * What an editor is made of: what holds it, its name for those who do not see it, the colours of its lines, the gutters beside the faults,
  * the blanks that a new line begins with, what folds in it, and its own keys.
  * @typedef {{ container: HTMLElement, label: string, colours: import("./line_colours.js").Colours, gutters: string[], indent?: string,
@@ -26,6 +20,19 @@ import * as say from "../../words/text.js";
  *
  * A text that is not shown, and how far it was scrolled.
  * @typedef {{ state: import("@codemirror/state").EditorState, top: number }} KeptText
+ */
+
+/**
+ * What an editor of a text calls.
+ * @typedef {object} TextCalls
+ * @property {(edits: Edit[]) => void} edited The text was edited, by these edits in their order.
+ * @property {() => void} moved The caret was moved.
+ * @property {(line: number) => void} clickedGutter A gutter was clicked at a line, from 0.
+ * @property {(line: number, event: Event) => void} askedGutter A gutter was clicked by the second button at a line, from 0.
+ * @property {() => void} clickedName A place was clicked with Control, and the caret is there.
+ * @property {(size: number) => void} refused A text of `size` characters was not accepted, because it is too long.
+ * @property {(position: Position) => import("../../core/text/completion.js").Completion} complete Returns what the word at a position can
+ *   become.
  */
 
 /** How many texts are kept. */
@@ -46,6 +53,8 @@ export class TextEditor {
     this.awaited = 0;
     /** Whether Tab leaves the editor: after Escape, and where Tab has come to it. */
     this.tabLeaves = true;
+    /** Whether the caret is where somebody has put it: the editor had the focus since its text came. */
+    this.hasCaret = false;
     /** @type {Map<string, KeptText>} by the names that they were opened by */
     this.kept = new Map();
     this.name = "";
@@ -89,6 +98,9 @@ export class TextEditor {
     return EditorView.domEventHandlers({
       blur: () => {
         this.tabLeaves = true;
+      },
+      focus: () => {
+        this.hasCaret = true;
       },
       mousedown: ({ ctrlKey, metaKey, button }) => {
         this.tabLeaves = false;
@@ -160,6 +172,7 @@ export class TextEditor {
     const state = editor.swap(isSame ? old.state : editor.stateOf(text));
     if (before) kept.set(before, { state, top });
     this.awaited = 0;
+    this.hasCaret = false;
     this.scrollSoon(isSame ? old.top : 0);
     this.name = name;
     this.value = null;
@@ -185,6 +198,12 @@ export class TextEditor {
    */
   replaceText(text) {
     this.editor.setValue(text);
+    this.hasCaret = false;
+  }
+
+  /** The line of the caret, from 1; 0 if nobody has put it there. */
+  get caretLine() {
+    return this.hasCaret ? this.editor.getCursor().line + 1 : 0;
   }
 
   /**

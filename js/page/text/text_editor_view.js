@@ -25,12 +25,6 @@ import * as say from "../../words/text.js";
  *
  * @typedef {import("../machine/breakpoint_row.js").BreakpointField} BreakpointField
  *
- * What an editor calls: its text was edited; it is sent; a breakpoint is wanted at a line, or is not wanted any more; its words are to be
- * edited; the menu of a line's margin is wanted.
- * @typedef {{ edited: (edits: Edit[]) => void, send: () => void, toggleBreakpoint: (line: number) => void,
- *   editBreakpoint?: (line: number, what: BreakpointField) => void,
- *   askedMargin?: (line: number, point: { left: number, bottom: number }) => void }} EditorCalls
- *
  * What kind of text it is: what its comments begin with, its colours, its gutters, the blanks that a new line begins with, where it is not
  * those of the line before, what folds in it; whether a word (in upper case) is an
  * instruction, where the text has names; whether it is never sent, and so measured as it stands; what is said of a word, by its line
@@ -42,6 +36,18 @@ import * as say from "../../words/text.js";
  *   wordsAt: (lines: string[], line: number, at: number) => string,
  *   valuesAt?: (text: string, at: number) => Piece[], offer?: import("./meaning_view.js").Offer,
  *   complete: (lines: string[], line: number, at: number) => Completion }} Language
+ */
+
+/**
+ * What an editor with its errors calls. Lines count from 1.
+ * @typedef {object} EditorCalls
+ * @property {(edits: Edit[]) => void} edited The text was edited, by these edits in their order.
+ * @property {() => void} send The text is to be sent to the bench.
+ * @property {(line: number) => void} toggleBreakpoint The breakpoint of a line is to be set or removed.
+ * @property {(line: number, what: BreakpointField) => void} [editBreakpoint] The words of a line's breakpoint are to be edited, from a
+ *   field on. Missing in texts that have no breakpoints.
+ * @property {(line: number, point: { left: number, bottom: number }) => void} [askedMargin] The menu of a line's margin is wanted at a
+ *   point of the page, in pixels. Missing in texts that have none.
  */
 
 /** The pointer or the caret rests so many milliseconds before words are shown. */

@@ -2,16 +2,25 @@
 // But for full speed, a page that is hidden stands still, and so it does while the browser or the machine does not run the page at all.
 // In real time a key does not wait for the next frame: cycles are lent for it.
 
-import { LONG_GAP, MOST_AHEAD, REAL_CYCLES, RealTime } from "../../core/time/real_time.js";
+import { CYCLES_PER_SECOND } from "../../core/time/mcs4_time.js";
+import { LONG_GAP, MOST_AHEAD, RealTime } from "../../core/time/real_time.js";
 import { REAL, isFollowed, keepsKeys } from "../../core/time/speeds.js";
 
 /**
+ * @typedef {import("../../core/board/key_place.js").Key} Key
  * @typedef {import("../../core/time/speeds.js").Speed} Speed
- *
- * What the clock calls: so many cycles are due, perhaps with a key that goes down; an instruction is due; full speed begins; time stood
- * still for so many milliseconds; a call failed.
- * @typedef {{ advance: (cycles: number, key: string) => Promise<void>, instruct: () => Promise<void>, runFull: () => Promise<void>,
- *   stoodStill: (time: number, wasHidden: boolean) => void, failed: (fault: unknown) => void }} ClockCalls
+ */
+
+/**
+ * What the clock calls as time becomes due.
+ * @typedef {object} ClockCalls
+ * @property {(cycles: number, key: Key | null) => Promise<void>} advance Lets cycles pass, with a key that goes down before them if it is
+ *   not null. Resolves once they are done.
+ * @property {() => Promise<void>} instruct Lets one instruction pass, at the speed of one a second.
+ * @property {() => Promise<void>} runFull Begins full speed, at which the worker goes on by itself.
+ * @property {(time: number, wasHidden: boolean) => void} stoodStill Time stood still for this many milliseconds, which are left out;
+ *   `wasHidden` if the page was hidden.
+ * @property {(fault: unknown) => void} failed Reports an error that a call threw.
  */
 
 export class Clock {
@@ -72,7 +81,7 @@ export class Clock {
    */
   setSpeed(speed) {
     this.speed = speed;
-    this.time.perSecond = speed.byInstruction ? 1 : REAL_CYCLES / speed.part;
+    this.time.perSecond = speed.byInstruction ? 1 : CYCLES_PER_SECOND / speed.part;
     if (this.isRunning) this.goOn();
   }
 
@@ -102,7 +111,7 @@ export class Clock {
   /**
    * A key goes down: it does not wait for the next frame. Gives whether it went along with the cycles; else it is yet to be told, and
    * where a call is under way, cycles follow at its end.
-   * @param {string} key
+   * @param {Key} key
    */
   pressNow(key) {
     if (!this.isRunning || this.isFull || this.speed.byInstruction) return false;
@@ -119,9 +128,9 @@ export class Clock {
    * Lets the cycles pass that are due; gives whether there are any.
    * @param {number} now
    * @param {number} [ahead] so many milliseconds are lent
-   * @param {string} [key] goes down before them
+   * @param {Key | null} [key] goes down before them
    */
-  frame(now, ahead = 0, key = "") {
+  frame(now, ahead = 0, key = null) {
     // Some browsers call a hidden page now and then. What is due while a call is under way is due at the next frame.
     if (document.hidden || this.isBusy) return false;
     const skipped = this.time.skipGap(now, Date.now());
@@ -133,7 +142,7 @@ export class Clock {
 
   /**
    * @param {number} due
-   * @param {string} key
+   * @param {Key | null} key
    */
   async pass(due, key) {
     this.isBusy = true;

@@ -9,10 +9,16 @@ import * as say from "../../words/time.js";
  * @typedef {import("../../core/bench/answers.js").Board} Board
  * @typedef {import("../../core/engine/going_back.js").BackGoal} BackGoal
  * @typedef {import("../../core/debug/goals.js").Goal} Goal
- *
- * What it calls: time passes until a goal is reached; back and forward; the names that a condition may have; the status says something.
- * @typedef {{ goOn: (goal: Goal) => void, goBack: (goal: BackGoal) => void, goForward: () => void,
- *   names: () => import("../../core/conditions/condition_language.js").Names, tell: (words: string) => void }} HistoryCalls
+ */
+
+/**
+ * What the buttons of time call.
+ * @typedef {object} HistoryCalls
+ * @property {(goal: Goal) => void} goOn Lets time pass until a goal is reached.
+ * @property {(goal: BackGoal) => void} goBack Goes back to a goal.
+ * @property {() => void} goForward Returns to where the last way back began.
+ * @property {() => import("../../core/conditions/condition_language.js").Names} names Returns the names that a condition may have.
+ * @property {(words: string) => void} tell Shows a message in the status line.
  */
 
 const MOST_INSTRUCTIONS = 10000000;

@@ -17,14 +17,26 @@ import * as say from "../../words/time.js";
  * @typedef {import("../../core/debug/goals.js").Goal} Goal
  * @typedef {import("../../core/bench/bench_client.js").Bench} Bench
  * @typedef {import("../session/current_session.js").CurrentSession} CurrentSession
+ * @typedef {import("../../core/board/key_place.js").Key} Key
  * @typedef {import("../../core/time/speeds.js").Speed} Speed
- *
- * What it calls: time begins to run, and stands still; what it has done is shown, logged and counted; what is drawn more seldom is drawn
- * now, and the listing; whether an instruction is in its middle; the cycles that were counted; where time stands still, with its name and
- * its line; when a breakpoint stops, in words; how many breakpoints have an error; what a refusal means; a step is served; a call failed.
- * @typedef {{ began: () => void, stood: () => void, took: (frame: Frame) => void, drawRest: () => void, drawListing: () => void,
- *   isOwed: () => boolean, cycles: () => number, where: () => string, when: (id: number) => string, unreadable: () => number,
- *   wordsOfRefusal: (number: number) => string, step: () => Promise<string | null>, failed: (fault: unknown) => void }} RunningCalls
+ */
+
+/**
+ * What running time calls of the page.
+ * @typedef {object} RunningCalls
+ * @property {() => void} began Time begins to run.
+ * @property {() => void} stood Time is paused, after all of it is shown.
+ * @property {(frame: Frame) => void} took Shows, logs and counts what time has done in a frame.
+ * @property {() => void} drawRest Draws what is drawn less often while time runs.
+ * @property {() => void} drawListing Draws the listing, which follows the counter or stays, by the speed.
+ * @property {() => boolean} isOwed Returns whether the counter is inside an instruction, whose second cycle is pending.
+ * @property {() => number} cycles Returns the cycles that the session has counted in all.
+ * @property {() => string} where Returns the counter with its name and its line, as words.
+ * @property {(id: number) => string} when Returns when the breakpoint with an id stops, as words.
+ * @property {() => number} unreadable Returns how many breakpoints have an error and stop each time.
+ * @property {(number: number) => string} wordsOfRefusal Returns what the number of a refusal means.
+ * @property {() => Promise<string | null>} step Serves a step. Resolves to its answer, null if the call failed.
+ * @property {(fault: unknown) => void} failed Reports an error that a call threw.
  */
 
 /** How often the session is kept while time runs. */
@@ -146,10 +158,10 @@ export class Running {
 
   /**
    * @param {number} cycles
-   * @param {string} key goes down before them, "" for none
+   * @param {Key | null} key goes down before them
    */
   async advance(cycles, key) {
-    const arrived = key === "" ? () => {} : this.asked.send({ word: "press", key });
+    const arrived = key ? this.asked.send({ word: "press", key }) : () => {};
     const frame = await this.bench.call("advance", [cycles, key]).finally(arrived);
     this.ran(frame);
   }
@@ -279,7 +291,7 @@ export class Running {
   /**
    * A change of a key for the time that runs.
    * @param {"press" | "release" | "forget"} word
-   * @param {string} key
+   * @param {Key} key
    */
   queue(word, key) {
     const { bench, current, calls } = this;
@@ -293,7 +305,7 @@ export class Running {
 
   /**
    * Whether a key will be down once all is done that was asked for; while keys are as fingers put them, whether it is.
-   * @param {string} key
+   * @param {Key} key
    * @param {boolean} isDown whether the bench tells that it is
    */
   willBeDown(key, isDown) {

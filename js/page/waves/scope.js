@@ -20,14 +20,22 @@ import * as say from "../../words/waves.js";
  * @typedef {import("../../core/waves/live_waves.js").LiveChoice} LiveChoice
  * @typedef {import("../../core/waves/wave_lines.js").WaveLine} WaveLine
  * @typedef {import("../../core/waves/wave_words.js").Base} Base
- *
- * What it calls: records so many cycles, from here on or up to here, and values by their names (null where it failed, which is told);
- * records from here on whatever is done (null where that failed), and ends that; all that can be recorded of the board; the name of the
- * session; shows an address in the program; whether it records is told at its tab; how rows are arranged is kept.
- * @typedef {{ record: (cycles: number, isBefore: boolean, values: string[]) => Promise<Recorded | null>,
- *   begin: (wanted: { trigger: string } & LiveWanted, values: string[]) => Promise<{ recorded: Recorded | null, fault: string } | null>,
- *   end: () => Promise<LivePart | null>, offered: () => WaveLine[], name: () => string, goTo: (address: number) => void,
- *   isOn: (isOn: boolean) => void, keep: (rows: import("../../core/waves/wave_rows.js").KeptRows) => void }} ScopeCalls
+ */
+
+/**
+ * What the logic analyser calls.
+ * @typedef {object} ScopeCalls
+ * @property {(cycles: number, isBefore: boolean, values: string[]) => Promise<Recorded | null>} record Records `cycles` cycles up to now
+ *   (`isBefore`) or from now on, with values by their names. Resolves to null if it failed, which is then reported.
+ * @property {(wanted: { trigger: string } & LiveWanted, values: string[]) => Promise<{ recorded: Recorded | null, fault: string } |
+ *   null>} begin Records from now on until `end`. Resolves to the first part, or to why the trigger cannot be read; null if the call
+ *   failed.
+ * @property {() => Promise<LivePart | null>} end Ends the recording. Resolves to the rest of it; null if there is none.
+ * @property {() => WaveLine[]} offered Returns all lines that the board of now has.
+ * @property {() => string} name Returns the name of the session, after which files are named.
+ * @property {(address: number) => void} goTo Shows the line of an address in source and listing.
+ * @property {(isOn: boolean) => void} isOn Shows on the tab whether it records.
+ * @property {(rows: import("../../core/waves/wave_rows.js").KeptRows) => void} keep Keeps how the rows are arranged.
  */
 
 /** A picture that goes on is drawn once in so many milliseconds. */

@@ -1,5 +1,6 @@
 // Draws waves on a canvas, or on a picture that is saved.
 
+import { isDecoder } from "../../core/waves/decoders.js";
 import { countUpTo } from "../../core/waves/growing.js";
 import { isText } from "../../core/waves/wave_lines.js";
 import { ticksOf } from "../../core/waves/wave_window.js";
@@ -151,20 +152,22 @@ function drawMeasured(context, { view, gutter, colours }, { from, to }, y) {
 }
 
 /**
- * What a line is called beside its picture: a port by the name that the board's text gives it.
+ * What a line is called beside its picture: a port by the name that the board's text gives it, a decoder by what it does.
  * @param {import("../../core/waves/wave_lines.js").WaveLine} line
  */
-function nameInGutter({ name, title, kind }) {
+function nameInGutter(line) {
+  const { name, title, kind } = line;
+  if (isDecoder(line)) return title;
   return kind === "port" && title !== "" ? `${title} ${name}` : name;
 }
 
 /**
- * The value at the active cursor; the label's stands in its row.
+ * The value at the active cursor; that of a label or a decoder stands in its row.
  * @param {Picture} picture
  * @param {number} line
  */
 function valueInGutter({ waves, view }, line) {
-  return waves.lines[line].kind === "label" ? "" : waves.valueAt(line, view.moment);
+  return waves.lines[line].kind === "label" || isDecoder(waves.lines[line]) ? "" : waves.valueAt(line, view.moment);
 }
 
 /**

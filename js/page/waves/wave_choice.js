@@ -7,10 +7,14 @@ import * as say from "../../words/waves.js";
 /**
  * @typedef {import("../../core/waves/wave_lines.js").WaveLine} WaveLine
  * @typedef {import("../../core/waves/wave_recording.js").Waves} Waves
- *
- * What it calls: all that the board of now has, recorded or not; the lines of the recording that are shown, in their order; other values
- * are wanted than the recording has.
- * @typedef {{ offered: () => WaveLine[], choose: (chosen: number[]) => void, wants: () => void }} ChoiceCalls
+ */
+
+/**
+ * What the choice of lines calls.
+ * @typedef {object} ChoiceCalls
+ * @property {() => WaveLine[]} offered Returns all lines that the board of now has, recorded or not.
+ * @property {(chosen: number[]) => void} choose Shows these lines of the recording, by their numbers, in this order.
+ * @property {() => void} wants Other values are wanted than the recording has.
  */
 
 export class WaveChoice {

@@ -3,15 +3,19 @@
 
 /**
  * @typedef {{ x: number, y: number }} Point
+ */
+
+/**
+ * What fingers, mouse and wheel on the waves call. Points are in pixels from the top left corner.
  * @typedef {object} PointerCalls
- * @property {(point: Point, isOther: boolean) => void} click puts the cursor; with Shift the other one
- * @property {(point: Point) => boolean} holdsCursor whether a drag from there moves the cursor
- * @property {(point: Point) => void} drag moves the cursor
- * @property {(point: Point) => boolean} isName whether names of rows are there
- * @property {(from: Point, to: Point) => void} dragRow moves a row by its name
- * @property {(point: Point | null) => void} hover the pointer is there, and nothing is pressed; null: it is gone
- * @property {(pixels: number) => void} pan
- * @property {(factor: number, x: number) => void} zoom
+ * @property {(point: Point, isOther: boolean) => void} click Puts the cursor at a point; with Shift (`isOther`) the other cursor.
+ * @property {(point: Point) => boolean} holdsCursor Returns whether a drag from a point moves the cursor.
+ * @property {(point: Point) => void} drag Moves the cursor that is dragged to a point.
+ * @property {(point: Point) => boolean} isName Returns whether names of rows are at a point.
+ * @property {(from: Point, to: Point) => void} dragRow Moves the row whose name is at one point to the other point.
+ * @property {(point: Point | null) => void} hover The pointer is at a point and nothing is pressed; null: it has left.
+ * @property {(pixels: number) => void} pan Moves the part that is shown, to later moments if `pixels` is positive.
+ * @property {(factor: number, x: number) => void} zoom Shows `factor` times as many pixels for each cycle, around the moment at `x`.
  */
 
 /** A pointer that has moved less, in pixels, has clicked. */

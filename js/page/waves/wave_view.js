@@ -20,9 +20,14 @@ import * as say from "../../words/waves.js";
  * @typedef {import("../../core/waves/wave_rows.js").WaveRow} WaveRow
  * @typedef {import("../../core/waves/wave_words.js").Base} Base
  * @typedef {import("../../core/waves/wave_recording.js").Waves} Waves
- *
- * What it calls: shows an address in the program; a line is not to be shown; how the rows are arranged is kept.
- * @typedef {{ goTo: (address: number) => void, hide: (name: string) => void, keep: (rows: KeptRows) => void }} WaveViewCalls
+ */
+
+/**
+ * What the waves call.
+ * @typedef {object} WaveViewCalls
+ * @property {(address: number) => void} goTo Shows the line of an address in source and listing.
+ * @property {(name: string) => void} hide Shows a line no longer, by its name.
+ * @property {(rows: KeptRows) => void} keep Keeps how the rows are arranged.
  */
 
 /** How much a button or a key zooms. */

@@ -25,7 +25,7 @@ const CHANGES = { serve: true, serveTyped: true, goOn: true, goBack: true, goFor
  * @param {any[]} words
  */
 function pressesKey(call, words) {
-  return call === "advance" && words.length > 1 && words[1] !== "";
+  return call === "advance" && words.length > 1 && words[1] !== null;
 }
 
 class BenchWorker {
@@ -53,10 +53,10 @@ class BenchWorker {
   take(message) {
     if (message.kind === "request") {
       this.requests.push(message);
-      this.calls.spare.push(...message.spare);
+      this.calls.bench.spare.push(...message.spare);
     }
     if (message.kind === "cancel") this.cancelled = message.number;
-    if (message.kind === "spare") this.calls.spare.push(message.buffer);
+    if (message.kind === "spare") this.calls.bench.spare.push(message.buffer);
     if (message.kind === "ping") this.tell({ kind: "pong" });
     this.wake();
   }
@@ -82,7 +82,7 @@ class BenchWorker {
       const request = this.requests.shift();
       if (request) {
         await this.answer(request);
-      } else if (this.calls.fullSpeed.isOn) {
+      } else if (this.calls.bench.fullSpeed.isOn) {
         this.letRun();
         await this.breathe();
       } else {
@@ -98,12 +98,12 @@ class BenchWorker {
     this.current = number;
     this.told = performance.now();
     // What time has done before lines is told before them.
-    if (CHANGES[call] && this.calls.fullSpeed.isOn) this.tellFrame(this.calls.untold());
+    if (CHANGES[call] && this.calls.bench.fullSpeed.isOn) this.tellFrame(this.calls.bench.untold());
     try {
       const result = await (/** @type {any} */ (this.calls))[call](...words);
       if (pressesKey(call, words)) this.tellEarly({ kind: "early", number, result });
       this.tell({ kind: "reply", number, result }, result && result.file instanceof ArrayBuffer ? [result.file] : []);
-      if (pressesKey(call, words)) this.calls.lookBack();
+      if (pressesKey(call, words)) this.calls.bench.lookBack();
     } catch (fault) {
       this.tell({ kind: "reply", number, fault: packFault(fault) });
     }
@@ -116,10 +116,10 @@ class BenchWorker {
 
   letRun() {
     try {
-      const frame = this.calls.batch();
+      const frame = this.calls.bench.batch();
       if (frame) this.tellFrame(frame);
     } catch (fault) {
-      this.calls.fullSpeed.stop();
+      this.calls.bench.fullSpeed.stop();
       this.tell({ kind: "failed", fault: packFault(fault) });
     }
   }

@@ -1,0 +1,125 @@
+# Where no native program is for the system, commands that keep no session file run on the proved module: they print what they print by the
+# native program, byte for byte. The others say why they cannot. The machine is another one by a `uname` of its own, on a copy of the tree
+# without any program.
+# shellcheck shell=sh
+
+other=$folder/other
+mkdir -p "$other/tree/tools" "$other/tree/page" "$other/tree/shipped" "$other/bin"
+cp -R mcs4 js examples "$other/tree"
+cp -R tools/lib "$other/tree/tools"
+cp page/fethsaim.html "$other/tree/page"
+cp -R shipped/commands "$other/tree/shipped"
+printf '#!/bin/sh\ncase ${1-} in -s) echo Darwin ;; *) echo arm64 ;; esac\n' > "$other/bin/uname"
+chmod +x "$other/bin/uname"
+mkdir -m 700 "$other/cache"
+why="it is for Linux on x86-64, and this is Darwin on arm64"
+
+# A command on the other machine: its words behind `mcs4`.
+elsewhere() {
+    env -u MCS4 PATH="$other/bin:$PATH" XDG_CACHE_HOME="$other/cache" "$other/tree/mcs4" "$@"
+}
+
+# Compares output, errors and status of a command on both, which run at a time; standard input is a file.
+same_on_module() {
+    input=$1
+    shift
+    outcome ./mcs4 "$@" < "$input" > "$folder/native" &
+    outcome elsewhere "$@" < "$input" > "$folder/by_module"
+    wait "$!"
+    verdict_of_files "$folder/by_module" "$folder/native" "on the module: mcs4 $*"
+}
+
+# It is said once, by a command that needs a session.
+verdict "$(outcome elsewhere listing $lock/lock.asm | sed -n '/^mcs4: /p; $p')" \
+    "mcs4: commands run on the proved module, more slowly, since the native program is not started: $why. This is said once
+status 0" "what is said of the module"
+same_on_module /dev/null listing $lock/lock.asm
+
+# --- the examples
+
+count=0
+for toml in examples/*/mcs4.toml; do
+    example=${toml%/mcs4.toml}
+    name=${example#examples/}
+    count=$((count + 1))
+    for command in test cover profile; do same_on_module /dev/null $command -C "$example"; done
+    ./mcs4 script -C "$example" > "$folder/$name.txt"
+    same_on_module /dev/null script -C "$example"
+    begins "$name" < "$folder/$name.txt"
+    same_on_module "$folder/answers" explain "$folder/$name.txt"
+    same_on_module /dev/null trace -C "$example" "$folder/$name.mcs" 600
+    same_on_module /dev/null trace --last 50 "$folder/$name.mcs" 9000
+    same_on_module /dev/null wave -C "$example" "$folder/$name.mcs" 3000
+    same_on_module /dev/null profile --session "$folder/$name.mcs" 5000 "$(sed -n 's/^program = "\(.*\)"$/'"$name"'\/\1/p' "$toml" | sed 's|^|examples/|')"
+done
+for text in examples/*.txt; do
+    name=${text#examples/}
+    name=${name%.txt}
+    count=$((count + 1))
+    begins "$name" < "$text"
+    same_on_module /dev/null trace "$folder/$name.mcs" 600
+    same_on_module /dev/null wave "$folder/$name.mcs" 3000
+    same_on_module "$folder/answers" explain "$text"
+    # Its board and its program, as the texts of tests.
+    awk -v folder="$folder" '/^wire$/ { to = folder "/board.toml"; printf "" > to; next } /^asm$/ { to = folder "/program.asm"; printf "" > to; next }
+        /^\.$/ { to = "" } to != "" { print > to }' "$text"
+    if [ -f "examples/$name.test" ]; then
+        for command in test cover profile; do same_on_module /dev/null $command "$folder/board.toml" "$folder/program.asm" "examples/$name.test"; done
+    fi
+done
+verdict "$count" "$(find examples -name '*.txt' -path 'examples/*' ! -path 'examples/*/*' -o -path 'examples/*/mcs4.toml' | wc -l | tr -d ' ')" "all examples"
+
+# --- the other commands, and errors
+
+begins session < $calculator/quotient.txt
+cp "$folder/answers" "$folder/told"
+same_on_module "$folder/told" cycles --source $calculator/calculator.asm "$folder/session.mcs" 1 3
+same_on_module $calculator/quotient.txt names $calculator/calculator.asm
+same_on_module "$folder/told" display $calculator/board.toml
+same_on_module /dev/null keys $calculator/board.toml 12+3=
+same_on_module /dev/null rom ask 0 300
+same_on_module $lock/lock.asm import -
+printf ' LDM 1\n JMP 3\n' > "$folder/wrong.asm"
+same_on_module /dev/null listing "$folder/wrong.asm"
+same_on_module /dev/null test $lock/board.toml "$folder/wrong.asm" $lock/lock.test
+sed 's/^row = /rows = /; s/chip = 0/chip = 16/' $lock/board.toml > "$folder/wrong.toml"
+same_on_module /dev/null test "$folder/wrong.toml" $lock/lock.asm $lock/lock.test
+sed 's/ on$/ off/' $lock/lock.test > "$folder/fails.test"
+verdict "$(grep -c ' off$' "$folder/fails.test" | sed 's/^[1-9].*/some/')" some "a test that fails"
+same_on_module /dev/null test $lock/board.toml $lock/lock.asm "$folder/fails.test"
+head -c 9000 "$folder/session.mcs" > "$folder/cut.mcs"
+same_on_module /dev/null trace "$folder/cut.mcs" 10
+same_on_module /dev/null trace "$folder/none.mcs" 10
+# The session in a project is made by commands or by a snapshot: its bytes are others, and it is the same session.
+cp -R $three "$folder/texts"
+for host in ./mcs4 elsewhere; do
+    verdict "$(outcome $host project join "$folder/texts" "$folder/${host##*/}.mcsp")" "status 0" "$host: a project"
+    ./mcs4 project split "$folder/${host##*/}.mcsp" "$folder/${host##*/}.split"
+    echo state | "$mcs4" open "$(ls "$folder/${host##*/}.split"/*.mcs)" > "$folder/${host##*/}.state"
+    rm "$folder/${host##*/}.split"/*.mcs
+done
+verdict_of_files "$folder/elsewhere.state" "$folder/mcs4.state" "the session of a project that the module has put together"
+verdict "$(diff -r "$folder/elsewhere.split" "$folder/mcs4.split")" "" "the texts of a project that the module has put together"
+
+# --- what cannot be there
+
+keeps="only the native program keeps a session file, and it is not started: $why. Commands that keep none run here"
+for words in "new $folder/new.mcs" "open $folder/session.mcs"; do
+    # shellcheck disable=SC2086
+    refuses 1 "mcs4: $keeps" elsewhere $words
+done
+cp "$folder/session.mcs" "$folder/before.mcs"
+for words in "back $folder/session.mcs 1" "resume $calculator/quotient.txt $folder/session.mcs" "panel $calculator/board.toml $folder/session.mcs" \
+    "keys --until-stop $folder/session.mcs $calculator/board.toml 1" "debug $folder/session.mcs"; do
+    # shellcheck disable=SC2086
+    refuses 1 "${words%% *}: $keeps" elsewhere $words
+done
+verdict_of_files "$folder/session.mcs" "$folder/before.mcs" "a session that no command keeps there"
+verdict "$(ls "$folder/new.mcs" 2> /dev/null || echo none)" none "no session file is made there"
+refuses 1 "prove: the program that searches, shipped/mcs4-prove, is not started: $why. mcs4 explore tries keys here, but proves nothing" \
+    elsewhere prove -C $lock
+verdict "$(outcome elsewhere version)" "mcs4: the program in shipped/ is not started: $why
+program: none here; commands that keep no session file run on the proved module
+manual: $other/tree/docs/MANUAL.md
+page: $other/tree/page/fethsaim.html
+status 0" "mcs4 version there"

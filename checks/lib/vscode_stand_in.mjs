@@ -1,0 +1,210 @@
+// A stand-in for the module `vscode`, as far as the extension of editors/vscode calls it: `standIn()` makes one. What the extension registers
+// is in `registered`, by its kind and name; the stand-in keeps the texts that are open, and what is shown to the user.
+import { readFileSync, readdirSync, statSync } from "node:fs";
+import { basename, join, sep } from "node:path";
+import { pathToFileURL } from "node:url";
+
+class Disposable {
+  constructor(act = () => {}) {
+    this.dispose = act;
+  }
+}
+
+/** An event: those who listen are called by `fire`. */
+function eventOf() {
+  const listeners = new Set();
+  const event = (act) => {
+    listeners.add(act);
+    return new Disposable(() => listeners.delete(act));
+  };
+  return { event, fire: (...given) => [...listeners].map((act) => act(...given)) };
+}
+
+class Uri {
+  constructor(scheme, fsPath, text) {
+    Object.assign(this, { scheme, fsPath, path: fsPath, text });
+  }
+  static file(path) {
+    // As the editor writes addresses: a colon is %3A, blanks are %20.
+    return new Uri("file", path, String(pathToFileURL(path)).replace(/(?<=^file:\/\/\/[A-Za-z]):/, "%3A"));
+  }
+  static parse(text) {
+    const { protocol, pathname } = new URL(text);
+    return new Uri(protocol.slice(0, -1), decodeURIComponent(pathname), text);
+  }
+  static joinPath(uri, ...parts) {
+    return Uri.file(join(uri.fsPath, ...parts));
+  }
+  toString() {
+    return this.text;
+  }
+}
+
+class Position {
+  constructor(line, character) {
+    Object.assign(this, { line, character });
+  }
+}
+
+class Range {
+  constructor(...given) {
+    const [one, two, three, four] = given;
+    [this.start, this.end] = given.length === 4 ? [new Position(one, two), new Position(three, four)] : [one, two];
+  }
+}
+
+/** The items of tests, by their ids. */
+class Items {
+  constructor(parent) {
+    this.parent = parent;
+    this.all = new Map();
+  }
+  get size() {
+    return this.all.size;
+  }
+  get(id) {
+    return this.all.get(id);
+  }
+  add(item) {
+    item.parent = this.parent;
+    this.all.set(item.id, item);
+  }
+  replace(items) {
+    this.all.clear();
+    for (const item of items) this.add(item);
+  }
+  delete(id) {
+    this.all.delete(id);
+  }
+  forEach(act) {
+    for (const item of this.all.values()) act(item);
+  }
+}
+
+function testItem(id, label, uri) {
+  const item = { id, label, uri, range: undefined, parent: undefined };
+  return Object.assign(item, { children: new Items(item) });
+}
+
+/** The files below a folder that end as a pattern does, `**` and a name or `*.ending`. */
+function filesIn(folder, pattern) {
+  const [, name] = /^\*\*\/(.*)$/.exec(pattern);
+  const fits = (each) => (name.startsWith("*") ? each.endsWith(name.slice(1)) : each === name);
+  return readdirSync(folder).sort().flatMap((each) => {
+    const whole = join(folder, each);
+    if (statSync(whole).isDirectory()) return filesIn(whole, pattern);
+    return fits(each) ? [Uri.file(whole)] : [];
+  });
+}
+
+class Plain {
+  constructor(...given) {
+    this.given = given;
+  }
+}
+const PLAIN = ["Location", "Diagnostic", "Hover", "CompletionItem", "SnippetString", "DocumentSymbol", "CodeAction", "SemanticTokensLegend",
+  "SemanticTokens", "SemanticTokensEdits", "SemanticTokensEdit", "DebugAdapterExecutable", "TextEdit", "InlayHint", "FoldingRange",
+  "SelectionRange", "SignatureInformation", "ParameterInformation", "SignatureHelp", "CodeLens", "DocumentLink", "SymbolInformation",
+  "CallHierarchyItem", "CallHierarchyIncomingCall", "CallHierarchyOutgoingCall", "TestMessage", "ProcessExecution", "Task", "MarkdownString"];
+
+/**
+ * @param {string} folder of the workspace
+ * @param {Record<string, string>} settings of the user, by their names below `mcs4`
+ */
+export function standIn(folder, settings = {}) {
+  const registered = {};
+  const told = { errors: [], words: [], launched: [], diagnostics: new Map(), runs: [], panels: [] };
+  const events = Object.fromEntries(["open", "close", "change", "custom", "terminate"].map((name) => [name, eventOf()]));
+  const documents = [];
+  const register = (kind) => (...given) => {
+    const name = typeof given[0] === "string" ? given.shift() : "";
+    registered[name === "" ? kind : `${kind} ${name}`] = given.find((each) => typeof each === "object" || typeof each === "function");
+    return new Disposable();
+  };
+  const languages = new Proxy({
+    createDiagnosticCollection: () => ({ set: (uri, list) => told.diagnostics.set(uri.toString(), list), dispose: () => {} }),
+    // A text that gets another language is closed and opened again.
+    setTextDocumentLanguage: async (document, languageId) => {
+      events.close.fire(document);
+      document.languageId = languageId;
+      events.open.fire(document);
+      return document;
+    },
+  }, { get: (own, name) => own[name] || ((selector, provider) => register(name)(provider)) });
+  const root = { uri: Uri.file(folder), name: basename(folder), index: 0 };
+  const vscode = {
+    ...Object.fromEntries(PLAIN.map((name) => [name, class extends Plain {}])), Uri, Position, Range, languages,
+    DiagnosticSeverity: { Error: 0, Warning: 1, Information: 2 }, CodeActionKind: { QuickFix: "quickfix" }, FoldingRangeKind: { Comment: 1 },
+    TestRunProfileKind: { Run: 1, Debug: 2 }, TaskScope: { Workspace: 2 }, TaskGroup: { Test: "test" }, ViewColumn: { Beside: -2 },
+    WorkspaceEdit: class { replace() {} },
+    workspace: {
+      workspaceFolders: [root], textDocuments: documents,
+      getConfiguration: () => ({ get: (name) => settings[name] }),
+      getWorkspaceFolder: ({ fsPath }) => (fsPath.startsWith(folder + sep) ? root : undefined),
+      findFiles: async (pattern, _, most = Infinity) => filesIn(folder, pattern).slice(0, most), saveAll: async () => true,
+      createFileSystemWatcher: () => ({ ...new Disposable(), onDidCreate: eventOf().event, onDidChange: eventOf().event, onDidDelete: eventOf().event }),
+      onDidOpenTextDocument: events.open.event, onDidCloseTextDocument: events.close.event, onDidChangeTextDocument: events.change.event,
+    },
+    debug: {
+      registerDebugAdapterDescriptorFactory: register("adapter"), registerDebugConfigurationProvider: register("configuration"),
+      registerDebugAdapterTrackerFactory: register("tracker"), onDidReceiveDebugSessionCustomEvent: events.custom.event,
+      onDidTerminateDebugSession: events.terminate.event, activeDebugSession: undefined,
+      startDebugging: async (_, configuration) => told.launched.push(configuration),
+    },
+    commands: { registerCommand: register("command") },
+    tasks: { registerTaskProvider: register("tasks") },
+    tests: {
+      createTestController: (id, label) => {
+        const controller = {
+          id, label, items: new Items(undefined), profiles: {}, createTestItem: testItem, dispose: () => {},
+          createRunProfile: (name, kind, act) => {
+            controller.profiles[name] = act;
+          },
+          createTestRun: () => {
+            const run = { output: "", results: [], isEnded: false };
+            told.runs.push(run);
+            return {
+              started: () => {}, appendOutput: (text) => { run.output += text; }, end: () => { run.isEnded = true; },
+              passed: ({ label: name }) => run.results.push(["passed", name]),
+              failed: ({ label: name }, message) => run.results.push(["failed", name, message]),
+              errored: ({ label: name }, message) => run.results.push(["errored", name, message]),
+            };
+          },
+        };
+        registered["tests"] = controller;
+        return controller;
+      },
+    },
+    window: {
+      activeTextEditor: undefined, registerWebviewViewProvider: register("view"),
+      showErrorMessage: (words) => told.errors.push(words), showInformationMessage: (words) => told.words.push(words),
+      showInputBox: async () => undefined,
+      createWebviewPanel: (viewType, title, column, options) => {
+        const panel = { viewType, title, column, options, webview: webview(), onDidDispose: eventOf().event };
+        told.panels.push(panel);
+        return panel;
+      },
+    },
+  };
+  /** A page within the editor: what it is told is in `posted`, and `say` is what it says. */
+  function webview() {
+    const said = eventOf();
+    const own = {
+      cspSource: "vscode-resource:", html: "", options: {}, posted: [], onDidReceiveMessage: said.event,
+      asWebviewUri: ({ fsPath }) => `vscode-resource:${basename(fsPath)}`,
+      postMessage: async (message) => own.posted.push(message), say: (message) => Promise.all(said.fire(message)),
+    };
+    return own;
+  }
+  /** Opens a text, as the editor does: first with the language that package.json gives its name. */
+  function open(name, languageId) {
+    const uri = Uri.file(join(folder, name));
+    const text = readFileSync(uri.fsPath, "utf8");
+    const document = { uri, fileName: uri.fsPath, languageId, version: 1, getText: () => text };
+    documents.push(document);
+    vscode.window.activeTextEditor = { document };
+    events.open.fire(document);
+    return document;
+  }
+  return { vscode, registered, told, events, open };
+}

@@ -1,0 +1,54 @@
+// Tasks of the projects in the workspace: their tests, what these have run, the search for what breaks a property, and the proof of it.
+"use strict";
+const { basename, dirname } = require("node:path");
+const { PROJECT } = require("./bench_files.js");
+
+const TYPE = "mcs4";
+const COMMANDS = ["test", "cover", "profile", "explore", "prove"];
+/** What finds errors in the output: package.json has them. */
+const MATCHERS = ["$mcs4", "$mcs4-line", "$mcs4-test"];
+
+class Tasks {
+  /**
+   * @param vscode the editor's own module
+   * @param {import("./bench_command.js").BenchCommand} bench
+   */
+  constructor(vscode, bench) {
+    this.vscode = vscode;
+    this.bench = bench;
+  }
+
+  register() {
+    return this.vscode.tasks.registerTaskProvider(TYPE, { provideTasks: () => this.all(), resolveTask: (task) => this.resolved(task) });
+  }
+
+  async all() {
+    const files = await this.vscode.workspace.findFiles(`**/${PROJECT}`, "**/node_modules/**");
+    return files.flatMap((uri) => COMMANDS.map((command) => this.task({ type: TYPE, command, folder: dirname(uri.fsPath) }, uri)));
+  }
+
+  task(definition, uri) {
+    const { vscode, bench } = this;
+    const { command, folder } = definition;
+    const scope = vscode.workspace.getWorkspaceFolder(uri) || vscode.TaskScope.Workspace;
+    const name = `${command} ${basename(folder)}`;
+    const task = new vscode.Task(definition, scope, name, "MCS-4", bench.execution([command, "-C", folder], folder), MATCHERS);
+    if (command === "test") task.group = vscode.TaskGroup.Test;
+    return task;
+  }
+
+  /** A task of tasks.json; its folder is that of the workspace if it names none. */
+  resolved({ definition, scope }) {
+    const { vscode } = this;
+    const [first] = vscode.workspace.workspaceFolders || [];
+    const { uri } = scope && scope.uri ? scope : first || { uri: null };
+    const folder = definition.folder || (uri ? uri.fsPath : "");
+    if (!COMMANDS.includes(definition.command) || folder === "") return undefined;
+    const made = this.task({ ...definition, folder }, uri || vscode.Uri.file(folder));
+    // The editor knows the task by the definition that it has given.
+    made.definition = definition;
+    return made;
+  }
+}
+
+module.exports = { Tasks };

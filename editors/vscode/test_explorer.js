@@ -1,0 +1,153 @@
+// The tests of the workspace in the editor's own view of tests: they are found in texts, run by `mcs4 test`, and debugged by `mcs4 dap`.
+"use strict";
+const { readFileSync } = require("node:fs");
+const { basename } = require("node:path");
+const { belongsToBench, wordsOfTests } = require("./bench_files.js");
+const { resultsOf } = require("./tap.js");
+
+const PATTERN = "**/*.test";
+const HEAD = /^([ \t]*test[ \t]+)(\S.*?)[ \t]*$/;
+
+/**
+ * The tests in a text, each with its place.
+ * @param {string} text
+ */
+function testsIn(text) {
+  return text.split(/\r?\n/).flatMap((line, at) => {
+    const [, before, name] = HEAD.exec(line) || [];
+    return name ? [{ name, line: at, from: before.length, to: before.length + name.length }] : [];
+  });
+}
+
+class TestExplorer {
+  /**
+   * @param vscode the editor's own module
+   * @param {import("./bench_command.js").BenchCommand} bench
+   */
+  constructor(vscode, bench) {
+    this.vscode = vscode;
+    this.bench = bench;
+  }
+
+  register() {
+    const { vscode } = this;
+    const { workspace, tests, TestRunProfileKind } = vscode;
+    this.controller = tests.createTestController("mcs4", "MCS-4 tests");
+    this.controller.createRunProfile("Run", TestRunProfileKind.Run, (request, token) => this.run(request, token), true);
+    this.controller.createRunProfile("Debug", TestRunProfileKind.Debug, (request) => this.debug(request), true);
+    this.controller.resolveHandler = (item) => (item ? this.read(item.uri) : this.findAll());
+    this.controller.refreshHandler = () => this.findAll();
+    const watcher = workspace.createFileSystemWatcher(PATTERN);
+    const look = ({ uri, getText }) => {
+      if (uri.scheme === "file" && uri.fsPath.endsWith(".test")) this.show(uri, getText());
+    };
+    const seen = (document) => look({ uri: document.uri, getText: () => document.getText() });
+    for (const document of workspace.textDocuments) seen(document);
+    return [
+      this.controller, watcher, watcher.onDidCreate((uri) => this.read(uri)), watcher.onDidChange((uri) => this.read(uri)),
+      watcher.onDidDelete((uri) => this.controller.items.delete(uri.toString())),
+      workspace.onDidOpenTextDocument(seen), workspace.onDidChangeTextDocument(({ document }) => seen(document)),
+    ];
+  }
+
+  // --- which tests there are
+
+  async findAll() {
+    const found = await this.vscode.workspace.findFiles(PATTERN, "**/node_modules/**");
+    for (const uri of found) this.read(uri);
+  }
+
+  /** Reads a text from the disk. */
+  read(uri) {
+    try {
+      this.show(uri, readFileSync(uri.fsPath, "utf8"));
+    } catch {
+      this.controller.items.delete(uri.toString());
+    }
+  }
+
+  /** Shows the tests of a text, if it belongs to the bench: others have .test files, too. */
+  show(uri, text) {
+    if (!belongsToBench(uri.fsPath)) return;
+    const { controller, vscode } = this;
+    const found = testsIn(text);
+    const file = controller.items.get(uri.toString()) || controller.createTestItem(uri.toString(), basename(uri.fsPath), uri);
+    file.children.replace(found.map(({ name, line, from, to }) => {
+      const item = controller.createTestItem(`${uri}#${name}`, name, uri);
+      item.range = new vscode.Range(line, from, line, to);
+      return item;
+    }));
+    controller.items.add(file);
+  }
+
+  // --- what is run
+
+  /** The tests that a request is about, by their texts: each text's item, and those of its tests that are wanted. */
+  wantedOf({ include, exclude = [] }) {
+    const wanted = new Map();
+    const add = (file, tests) => {
+      const own = tests.filter((test) => !exclude.includes(test) && !exclude.includes(file));
+      wanted.set(file, [...(wanted.get(file) || []), ...own]);
+    };
+    const childrenOf = (item) => {
+      const children = [];
+      item.children.forEach((child) => children.push(child));
+      return children;
+    };
+    const all = [];
+    this.controller.items.forEach((item) => all.push(item));
+    for (const item of include || all) {
+      if (item.parent) add(item.parent, [item]);
+      else add(item, childrenOf(item));
+    }
+    return wanted;
+  }
+
+  async run(request, token) {
+    const run = this.controller.createTestRun(request);
+    for (const [file, tests] of this.wantedOf(request)) {
+      if (token.isCancellationRequested) break;
+      await this.runText(run, file, tests, token);
+    }
+    run.end();
+  }
+
+  /** Runs a text of tests; those that are wanted get their results. */
+  async runText(run, file, tests, token) {
+    await this.vscode.workspace.saveAll(false);
+    for (const test of tests) run.started(test);
+    const { output, errors } = await this.bench.run(wordsOfTests(file.uri.fsPath), token);
+    run.appendOutput((output + errors).replace(/\r?\n/g, "\r\n"));
+    const names = [];
+    file.children.forEach((child) => names.push(child.label));
+    // What the texts before this one have comes first.
+    const results = resultsOf(output).slice(-names.length);
+    for (const test of tests) {
+      const result = results[names.indexOf(test.label)];
+      if (!result || result.name !== test.label) run.errored(test, new this.vscode.TestMessage(errors.trim() || "The test was not run."));
+      else if (result.hasPassed) run.passed(test);
+      else run.failed(test, this.messageOf(result));
+    }
+  }
+
+  messageOf({ words, at, more }) {
+    const { vscode } = this;
+    const message = new vscode.TestMessage([words, ...more].join("\n"));
+    if (at) message.location = new vscode.Location(vscode.Uri.file(at.file), new vscode.Position(at.line - 1, 0));
+    return message;
+  }
+
+  /** Debugs the first test of a request: it stands where it failed, or at its end, and time goes back from there. */
+  async debug(request) {
+    const { workspace, debug } = this.vscode;
+    const run = this.controller.createTestRun(request);
+    const [[, [test]]] = [...this.wantedOf(request)];
+    if (test) {
+      const configuration = { type: "mcs4", request: "launch", name: test.label, tests: test.uri.fsPath, test: test.label };
+      await debug.startDebugging(workspace.getWorkspaceFolder(test.uri), configuration);
+    }
+    run.end();
+  }
+}
+
+module.exports = { TestExplorer };

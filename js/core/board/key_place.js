@@ -1,0 +1,96 @@
+// A key of a board as a value: its row and column, or the TEST pin. The texts that stand for keys are made and read here alone.
+
+/**
+ * A key of the matrix, by its row and column from 0 on.
+ * @typedef {{ kind: "matrix", row: number, column: number }} MatrixKey
+ *
+ * The key at the TEST pin: `level` is the level of the pin while it is pressed, 0 or 1.
+ * @typedef {{ kind: "pin", level: number }} PinKey
+ *
+ * @typedef {MatrixKey | PinKey} Key
+ */
+
+/** More columns than a board can have: a key of the matrix is one number. */
+const COLUMNS = 256;
+
+/**
+ * @param {number} row
+ * @param {number} column
+ * @returns {MatrixKey}
+ */
+export function matrixKey(row, column) {
+  return { kind: "matrix", row, column };
+}
+
+/**
+ * @param {number} level
+ * @returns {PinKey}
+ */
+export function pinKey(level) {
+  return { kind: "pin", level };
+}
+
+/**
+ * Returns whether two values are the same key.
+ * @param {Key} one
+ * @param {Key} other
+ */
+export function isSameKey(one, other) {
+  if (one.kind === "matrix") return other.kind === "matrix" && one.row === other.row && one.column === other.column;
+  return other.kind === "pin" && one.level === other.level;
+}
+
+/**
+ * Returns the text of a key: `0 2` as lines have it, or `test 0`.
+ * @param {Key} key
+ */
+export function textOfKey(key) {
+  return key.kind === "matrix" ? `${key.row} ${key.column}` : `test ${key.level}`;
+}
+
+/**
+ * Returns the key of such a text; null if it is none.
+ * @param {string} text
+ * @returns {Key | null}
+ */
+export function keyOfText(text) {
+  const [, row, column, level] = /^(?:(\d{1,3}) (\d{1,3})|test ([01]))$/.exec(text) || [];
+  if (level !== undefined) return pinKey(Number(level));
+  return row === undefined ? null : matrixKey(Number(row), Number(column));
+}
+
+/**
+ * Returns the bench's line that presses or releases a key.
+ * @param {"press" | "release"} word
+ * @param {Key} key
+ */
+export function lineOfKey(word, key) {
+  if (key.kind === "matrix") return `${word} ${key.row} ${key.column}`;
+  return `test ${word === "press" ? key.level : 1 - key.level}`;
+}
+
+/** The keys of the matrix that are down, as the bench reported them. */
+export class KeysDown {
+  /** @param {string[]} items of a list in an answer: `0.2` for row 0, column 2 */
+  constructor(items = []) {
+    /** @type {Set<number>} */
+    this.numbers = new Set();
+    for (const item of items) {
+      const [row, column] = item.split(".");
+      this.numbers.add(Number(row) * COLUMNS + Number(column));
+    }
+  }
+
+  get count() {
+    return this.numbers.size;
+  }
+
+  /**
+   * Returns whether a key is down.
+   * @param {Key} key
+   * @param {string} level of the TEST pin
+   */
+  has(key, level) {
+    return key.kind === "matrix" ? this.numbers.has(key.row * COLUMNS + key.column) : level === String(key.level);
+  }
+}

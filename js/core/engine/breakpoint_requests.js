@@ -1,0 +1,44 @@
+// Requests that set what stops time: breakpoints, and common mistakes.
+
+import { readBoard } from "../bench/answers.js";
+import { Face } from "../board/face.js";
+import { namesOfWatched } from "../debug/watched.js";
+import { SourceMap } from "../machine/source_map.js";
+
+/**
+ * @typedef {import("./open_bench.js").OpenBench} OpenBench
+ * @typedef {import("../bench/protocol.js").BrokenLines} BrokenLines
+ * @typedef {import("../debug/soft_breakpoints.js").Placed} Placed
+ * @typedef {import("../debug/usual_faults.js").Kind} Kind
+ */
+
+export class BreakpointRequests {
+  /** @param {OpenBench} bench */
+  constructor(bench) {
+    this.bench = bench;
+  }
+
+  /**
+   * The breakpoints from here on: those that always stop are the bench's own, and are served to it.
+   * @param {Placed[]} placed
+   * @param {{ board: string, program: string, watched?: string[] }} texts those that have the names
+   * @returns {Promise<BrokenLines>}
+   */
+  async setBreakpoints(placed, texts) {
+    const { session } = this.bench;
+    const { map } = this.bench.checkProgram(texts.program);
+    const names = { face: new Face(texts.board), board: readBoard(session.lookQuestions.board), map: new SourceMap(map, texts.program),
+      watched: namesOfWatched(texts.watched) };
+    const { lines, faults } = this.bench.debugger.setBreakpoints(placed, names);
+    return { ...(lines ? await this.bench.serve(lines) : this.bench.nothingServed()), faults };
+  }
+
+  /**
+   * At which faults that everyone makes once time stops.
+   * @param {Kind[]} kinds
+   */
+  stopAtFaults(kinds) {
+    this.bench.stopKinds = kinds;
+    if (this.bench.opened) this.bench.opened.usual.stops = new Set(kinds);
+  }
+}

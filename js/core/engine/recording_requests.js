@@ -1,0 +1,58 @@
+// Requests that record the lines of the board.
+
+import { readTrigger } from "../waves/trigger.js";
+import { LiveRecorder } from "./live_recorder.js";
+import { recordAfter, recordBefore } from "./wave_recorder.js";
+
+/**
+ * @typedef {import("./open_bench.js").OpenBench} OpenBench
+ * @typedef {import("./live_recorder.js").LiveWanted} LiveWanted
+ * @typedef {import("./wave_recorder.js").Recorded} Recorded
+ * @typedef {import("./open_bench.js").WaveTexts} WaveTexts
+ */
+
+export class RecordingRequests {
+  /** @param {OpenBench} bench */
+  constructor(bench) {
+    this.bench = bench;
+  }
+
+  /**
+   * The lines of the board over so many cycles, from here on or up to here; the session is as it was.
+   * @param {number} cycles
+   * @param {boolean} isBefore
+   * @param {WaveTexts} texts
+   */
+  record(cycles, isBefore, texts) {
+    const { engine, session } = this.bench;
+    const known = this.bench.knownOf(texts);
+    /** @type {(done: number) => Promise<boolean>} */
+    const goesOn = (done) => this.bench.goesOn(done, cycles);
+    if (isBefore) return recordBefore(engine, session.timeline, cycles, known, goesOn);
+    return recordAfter(engine, session.file, cycles, known, goesOn);
+  }
+
+  /**
+   * Records from here on whatever is done, until it is ended; `part` of what is shown has it. Where the trigger cannot be read, nothing is
+   * recorded, and words tell why.
+   * @param {WaveTexts} texts
+   * @param {{ trigger: string } & LiveWanted} wanted
+   * @returns {{ recorded: Recorded | null, fault: string }}
+   */
+  recordLive(texts, wanted) {
+    const { engine, session } = this.bench;
+    const recorder = new LiveRecorder(engine, session.file, this.bench.knownOf(texts));
+    const names = this.bench.namesOf(texts);
+    const { trigger, fault } = readTrigger(wanted.trigger, recorder.lines, names);
+    if (fault) return { recorded: null, fault };
+    recorder.waitFor(trigger, wanted);
+    session.recorder = recorder;
+    return { recorded: recorder.recorded(session.file), fault: "" };
+  }
+
+  /** The recording ends; gives the rest of it. */
+  endRecording() {
+    if (this.bench.session.recorder) this.bench.session.recorder.stop("hand");
+    return this.bench.recordedPart();
+  }
+}

@@ -1,0 +1,84 @@
+// Requests for the session: it is opened, and lines are served and asked.
+
+import { BenchRefusal } from "../bench/faults.js";
+import { NO_TALLY, Debugger } from "../debug/debugger.js";
+import { CycleCount } from "./accepted.js";
+import { Printing } from "./printing.js";
+import { WorkerSession } from "./worker_session.js";
+
+/**
+ * @typedef {import("./open_bench.js").OpenBench} OpenBench
+ * @typedef {import("../bench/protocol.js").ServedLines} ServedLines
+ * @typedef {import("../bench/protocol.js").TypedLines} TypedLines
+ */
+
+export class SessionRequests {
+  /** @param {OpenBench} bench */
+  constructor(bench) {
+    this.bench = bench;
+  }
+
+  /**
+   * Opens a session in the place of the one that is here.
+   * @param {Uint8Array} file
+   * @param {number} [total] the cycles that were counted up to here
+   * @param {number} [reset] and up to the last reset
+   * @param {import("./printing.js").Printed | null} [printed] what was sent to its printer
+   */
+  open(file, total = 0, reset = 0, printed = null) {
+    const session = new WorkerSession(this.bench.engine, file, new CycleCount(total, reset));
+    session.printing = printed && new Printing(printed);
+    const look = session.look();
+    this.bench.opened = new Debugger(session);
+    this.bench.opened.usual.stops = new Set(this.bench.stopKinds);
+    this.bench.fullSpeed.stop();
+    return this.bench.shown(look, true);
+  }
+
+  /**
+   * What was done before the session was opened, as the page has kept it, is remembered from here on; gives how many entries of its last
+   * segment are, -1 where it is none of the session's.
+   * @param {import("./timeline.js").Recalled[]} segments
+   */
+  recall(segments) {
+    try {
+      return this.bench.session.timeline.recall(this.bench.engine, segments);
+    } catch (fault) {
+      // Bytes that hold no session.
+      if (fault instanceof BenchRefusal) return -1;
+      throw fault;
+    }
+  }
+
+  /**
+   * Serves lines, all of them or none.
+   * @param {string} lines
+   * @returns {Promise<ServedLines>}
+   */
+  serve(lines) {
+    return this.bench.serve(lines);
+  }
+
+  /**
+   * The same of lines that were typed, whose runs end at each breakpoint.
+   * @param {string} lines
+   * @returns {Promise<TypedLines>}
+   */
+  async serveTyped(lines) {
+    const typed = { id: 0, cut: "", cycles: 0, tally: NO_TALLY };
+    const told = await this.bench.served(async () => {
+      const served = await this.bench.debugger.serveTyped(lines, (done) => this.bench.goesOn(done, lines.length));
+      Object.assign(typed, served.typed);
+      return served.told;
+    });
+    return { ...told, typed };
+  }
+
+  /**
+   * The answers to questions.
+   * @param {string} lines
+   */
+  ask(lines) {
+    return this.bench.session.ask(lines);
+  }
+}

@@ -1,0 +1,34 @@
+// The proved module as the engine of commands, where no native program is for this system. It is said once to each user.
+/* global WebAssembly */
+import { closeSync, existsSync, openSync } from "node:fs";
+import { join } from "node:path";
+import { Engine } from "../core/engine/engine.js";
+import { IS_RUN_BY_COMMAND } from "./children.mjs";
+import joined from "./joined.cjs";
+import { printError } from "./output.mjs";
+import { moduleOfPage } from "./page_parts.mjs";
+
+const OWNER_ALONE = 0o600;
+
+/** Returns whether something is said for the first time to this user; where that cannot be noted, it is not said, as tools/lib/start.sh does. */
+function isFirstTime() {
+  try {
+    const folder = joined.rememberedFolder();
+    const note = join(folder, "told_module");
+    if (folder === "" || existsSync(note)) return false;
+    closeSync(openSync(note, "wx", OWNER_ALONE));
+    return true;
+  } catch {
+    return false;
+  }
+}
+
+/**
+ * Starts the module.
+ * @param {string} words say that it is used, and why; "" if that need not be said
+ */
+export function startModule(words) {
+  const engine = new Engine(new WebAssembly.Module(moduleOfPage()));
+  if (words !== "" && !process.env[IS_RUN_BY_COMMAND] && isFirstTime()) printError(`mcs4: ${words}\n`);
+  return engine;
+}

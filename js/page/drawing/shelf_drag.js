@@ -1,0 +1,93 @@
+// A part is dragged from the shelf onto the sheet, by mouse, pen or finger: it comes to where it is dropped, a lamp or a buzzer dropped on
+// a line is wired to it. A click adds a part at its usual place, and Shift and Enter go to it on the sheet, where arrows move it.
+
+import { element } from "../ui/dom.js";
+
+/**
+ * @typedef {import("../../core/drawing/acts.js").Shelved} Shelved
+ * @typedef {{ clientX: number, clientY: number }} Place
+ *
+ * What the pointer holds: the part with its button, where it went down, and whether it has been dragged since.
+ * @typedef {{ part: Shelved, node: HTMLElement, from: Place, isDragged: boolean }} Held
+ *
+ * @typedef {object} ShelfCalls
+ * @property {(place: Place) => boolean} isSheet whether the sheet is there
+ * @property {(part: Shelved, place: Place) => void} dropped a part was dropped on the sheet
+ * @property {(part: Shelved) => void} goTo a part is added, and gets the keyboard on the sheet
+ * @property {(isOver: boolean) => void} over whether a part that is dragged is over the sheet
+ */
+
+/** So far the pointer moves until a part is dragged. */
+const SLACK = 6;
+
+export class ShelfDrag {
+  /** @param {ShelfCalls} calls */
+  constructor(calls) {
+    this.calls = calls;
+    /** @type {Held | null} */
+    this.held = null;
+    this.wasDragged = false;
+    /** What follows the pointer. */
+    this.ghost = element("div", { id: "shelf-ghost", hidden: true });
+    document.body.append(this.ghost);
+    addEventListener("keydown", (event) => {
+      if (event.key !== "Escape" || !this.held || !this.held.isDragged) return;
+      event.preventDefault();
+      this.release();
+    }, true);
+  }
+
+  /**
+   * @param {HTMLElement} node
+   * @param {Shelved} part
+   */
+  listen(node, part) {
+    // The click that a browser makes of a drag is none, also after Escape.
+    node.addEventListener("click", (event) => {
+      if (this.wasDragged && event.detail > 0) event.stopImmediatePropagation();
+      this.wasDragged = false;
+    }, true);
+    node.addEventListener("pointerdown", (event) => {
+      this.wasDragged = false;
+      if (event.button !== 0 || !event.isPrimary) return;
+      this.held = { part, node, from: event, isDragged: false };
+      node.setPointerCapture(event.pointerId);
+    });
+    node.addEventListener("pointermove", (event) => this.move(event));
+    node.addEventListener("pointerup", (event) => this.up(event));
+    node.addEventListener("pointercancel", () => this.release());
+    node.addEventListener("keydown", (event) => {
+      if (event.key !== "Enter" || !event.shiftKey) return;
+      event.preventDefault();
+      this.calls.goTo(part);
+    });
+  }
+
+  /** @param {PointerEvent} event */
+  move(event) {
+    const { held, ghost } = this;
+    if (!held) return;
+    const { clientX, clientY } = event;
+    if (!held.isDragged && Math.hypot(clientX - held.from.clientX, clientY - held.from.clientY) < SLACK) return;
+    if (!held.isDragged) ghost.textContent = held.node.textContent;
+    held.isDragged = this.wasDragged = true;
+    ghost.hidden = false;
+    ghost.style.setProperty("left", `${clientX}px`);
+    ghost.style.setProperty("top", `${clientY}px`);
+    this.calls.over(this.calls.isSheet(event));
+  }
+
+  /** @param {PointerEvent} event */
+  up(event) {
+    const { held } = this;
+    this.release();
+    if (!held || !held.isDragged) return;
+    if (this.calls.isSheet(event)) this.calls.dropped(held.part, event);
+  }
+
+  release() {
+    this.held = null;
+    this.ghost.hidden = true;
+    this.calls.over(false);
+  }
+}

@@ -1,0 +1,144 @@
+// Decoders of waves: by traces that are written by hand, and beside what the bench tells of a calculator.
+import assert from "node:assert/strict";
+import { test } from "node:test";
+import { readBoard } from "../core/bench/answers.js";
+import { linesOfBoard } from "../core/waves/wave_lines.js";
+import { firstChoice } from "../core/waves/wave_catalog.js";
+import { find, readSearch } from "../core/waves/wave_search.js";
+import { readTrigger } from "../core/waves/trigger.js";
+import { vcdParts } from "../core/waves/vcd.js";
+import { Waves } from "../core/waves/wave_recording.js";
+import { begin, examplesOfPage } from "./page_session.js";
+
+const BOARD = readBoard([
+  "board", "[[rom]]", "chip = 0", 'port = "0000"', "[[rom]]", "chip = 1", 'port = "iiii"',
+  "[[chain]]", 'clock = "rom0.0"', 'data = "rom0.1"', "chips = 1",
+  "[keys]", "chain = 0", "first = 1", "rows = 2", 'columns = ["rom1.2", "rom1.0"]',
+]);
+const LINES = linesOfBoard(BOARD, "# row 0: 7 CE\n", false);
+const numberOf = (waves, name) => waves.lines.findIndex((line) => line.name === name);
+
+/** A recording: the moments at which each line changes, from 0 on, by their names. */
+function wavesOf(changes, cycles) {
+  const tracks = LINES.map(({ name, width }) => (
+    { first: 0, moments: Uint32Array.from(changes[name] || []), values: width > 1 ? new Float64Array(0) : null }));
+  return new Waves({ from: 0, cycles, isStuck: false, isOwed: false, lines: LINES, tracks,
+    moments: Uint32Array.of(0), counters: Uint16Array.of(0), listing: [], program: null });
+}
+
+/** What a row shows: each value with the moment from which on it is there. */
+function rowOf(waves, name) {
+  const line = numberOf(waves, name);
+  return [waves.from, ...waves.changesOf(line)].map((moment) => `${moment} ${waves.valueAt(line, moment)}`);
+}
+
+// 1, 0, 0, then a rest; 1, and after 16 cycles 1 again; after 17 cycles 0.
+const TRACE = {
+  "rom0.0": [10, 15, 20, 25, 30, 35, 100, 105, 116, 117, 133, 140],
+  "rom0.1": [8, 18, 90, 120],
+  "chain0.0": [10, 20, 100, 133],
+  "chain0.1": [20, 30, 116],
+  "chain0.2": [30, 100, 133],
+  "chain0.3": [100, 116],
+  "chain0.4": [116, 133],
+  "chain0.5": [133],
+};
+const TOOK_IN = ["0 = 000", "10 1", "20 0", "30 0", "46 = 004", "100 1", "116 1", "132 = 013", "133 0", "149 = 026"];
+
+test("a shift register's row has each bit that came in, and its bits at rest", () => {
+  assert.deepEqual(rowOf(wavesOf(TRACE, 200), "shift.chain0"), TOOK_IN);
+});
+
+test("it is at rest only once the recording has come so far", () => {
+  assert.deepEqual(rowOf(wavesOf(TRACE, 148), "shift.chain0"), TOOK_IN.slice(0, -1));
+  assert.deepEqual(rowOf(wavesOf(TRACE, 149), "shift.chain0"), TOOK_IN);
+  assert.deepEqual(rowOf(wavesOf({}, 50), "shift.chain0"), ["0 = 000"]);
+});
+
+test("its bits are written as numbers are", () => {
+  const waves = wavesOf(TRACE, 200);
+  waves.base = "binary";
+  assert.equal(rowOf(waves, "shift.chain0")[7], "132 = 0000010011");
+  waves.base = "decimal";
+  assert.equal(rowOf(waves, "shift.chain0")[7], "132 = 19");
+});
+
+// Row 0 is bit 1 of the chain, column 0 is line 2 of ROM 1: a key of row 0, another one, both; a key while two rows are driven; one alone.
+const SCAN = {
+  "chain0.1": [10, 60], "chain0.2": [50, 90],
+  "rom1.2": [20, 40, 70, 80], "rom1.0": [30, 45, 55, 65],
+};
+
+test("a key scan has the rows that are driven, and the keys that answer", () => {
+  assert.deepEqual(rowOf(wavesOf(SCAN, 100), "scan.keys"), [
+    "0 -", "10 row 0", "20 row 0: 7", "30 row 0: 7 CE", "40 row 0: CE", "45 row 0", "50 rows 0+1", "55 rows 0+1: column 1", "60 row 1: 1.1",
+    "65 row 1", "70 row 1: 1.0", "80 row 1", "90 -",
+  ]);
+});
+
+test("piece by piece, without what was before, the rows are the same", () => {
+  const all = { ...SCAN, ...TRACE, "chain0.1": SCAN["chain0.1"], "chain0.2": SCAN["chain0.2"] };
+  for (const name of ["shift.chain0", "scan.keys"]) {
+    const whole = wavesOf(all, 200);
+    const wanted = [...whole.changesOf(numberOf(whole, name))].map((moment) => `${moment} ${whole.valueAt(numberOf(whole, name), moment)}`);
+    for (const size of [1, 7, 16, 50]) {
+      const parts = wavesOf({}, 0);
+      const got = [];
+      parts.changesOf(numberOf(parts, name));
+      for (let from = 0; from < 200; from += size) {
+        const to = Math.min(200, from + size);
+        parts.beginAt(from);
+        const tracks = parts.lines.map(({ name: each }) => (
+          { first: 0, moments: Uint32Array.from((all[each] || []).filter((at) => at > from && at <= to)), values: null }));
+        parts.append({ from, cycles: to, isStuck: false, isOwed: false, tracks: tracks.map((data, line) => (
+          { ...data, values: parts.lines[line].width > 1 ? new Float64Array(0) : null })), moments: new Uint32Array(0),
+        counters: new Uint16Array(0), listing: [] });
+        got.push(...rowOf(parts, name).slice(1));
+      }
+      assert.deepEqual(got, wanted, `${name} by ${size}`);
+    }
+  }
+});
+
+test("a decoder is searched for its changes, a scan for a key; a trigger names a line", () => {
+  const waves = wavesOf(SCAN, 100);
+  const moments = (text) => {
+    const { search, fault } = readSearch(text, waves, -1);
+    return search ? [find(waves, search, 0, true), find(waves, search, 100, false)] : fault;
+  };
+  assert.deepEqual([moments("key scan = CE"), moments("scan.keys = 1.0"), moments("scan.keys changes")], [[30, 30], [70, 70], [10, 90]]);
+  assert.match(moments("scan.keys = 3"), /^scan\.keys is decoded/);
+  assert.match(moments("4003 shift-in 0 rises"), /^shift\.chain0 is decoded/);
+  assert.match(readTrigger("shift.chain0 changes", LINES, /** @type {any} */ ({})).fault, /^shift\.chain0 is decoded from other lines/);
+});
+
+test("a file has decoders as texts without blanks, and they are shown at first where they change", () => {
+  const waves = wavesOf(SCAN, 100);
+  const file = [...vcdParts(waves, [numberOf(waves, "scan.keys")])].join("");
+  assert.match(file, /\$var string 1 A scan\.keys \$end/);
+  assert.match(file, /#2160\nsrow_0:_7 A\n/);
+  const names = firstChoice(waves).map((line) => waves.lines[line].name);
+  assert.deepEqual(names.slice(-2), ["scan.keys", "pc"]);
+});
+
+test("of a calculator: each bit is that of the first stage after the clock, and at rest the bits are those of the port", async () => {
+  const { board, program } = examplesOfPage.find(({ name }) => name === "calculator");
+  const calls = await begin("calculator", "run 30000\npress 2 0\n");
+  const waves = new Waves(await calls.record(20000, false, { board, program, values: [] }));
+  for (const chain of [0, 1]) {
+    const names = [`shift.chain${chain}`, `chain${chain}.0`, `chain${chain}[${chain === 0 ? 9 : 39}:0]`, chain === 0 ? "rom0.0" : "rom0.2"];
+    const [line, first, port, clock] = names.map((name) => numberOf(waves, name));
+    const boxes = [...waves.changesOf(line)];
+    const clocks = [...waves.changesOf(clock)].filter((moment) => waves.numberAt(clock, moment) === 1);
+    assert.ok(clocks.length > 20);
+    assert.deepEqual(boxes.filter((moment) => !waves.valueAt(line, moment).startsWith("=")), clocks);
+    for (const moment of boxes) {
+      const value = waves.valueAt(line, moment);
+      assert.equal(value, value.startsWith("=") ? `= ${waves.valueAt(port, moment)}` : waves.valueAt(first, moment));
+    }
+  }
+  const scan = numberOf(waves, "scan.keys");
+  const seen = new Set([...waves.changesOf(scan)].map((moment) => waves.valueAt(scan, moment)));
+  // Key 2.0 is 1.
+  assert.deepEqual([...seen].sort(), ["row 0", "row 1", "row 2: 1", "row 3", "row 4"]);
+});
