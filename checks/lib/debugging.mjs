@@ -231,7 +231,7 @@ async function tryMessages() {
   fits((await client.answer("threads")).message, /initialize comes first/, "out of order");
   await client.ask("initialize", {});
   fits((await client.answer("next", { threadId: 1 })).message, /configurationDone comes first|nothing is launched/, "a move before launch");
-  fits((await client.answer("frobnicate")).message, /there is no frobnicate/, "an unknown request");
+  fits((await client.answer("frobnicate")).message, /unsupported request: frobnicate/, "an unknown request");
   client.raw("Content-Length: 4\r\n\r\n{no}");
   fits((await client.next(({ request_seq }) => request_seq === 0)).message, /not JSON/, "no JSON");
   client.raw(`Content-Length: ${16777217}\r\n\r\n`);

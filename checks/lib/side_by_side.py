@@ -99,7 +99,7 @@ CHECKS = [
     Check("shipped", "", 25, quick=""),
     Check("stopped", "python3", 25),
     Check("editors", "node nvim", 20, quick=""),
-    Check("debugging", "node", 20, quick=""),
+    Check("debugging", "node", 50, quick=""),
     Check("grammars", "python3 node nvim esbuild", 20, quick=""),
     Check("back", "flock", 20, quick=""),
     Check("documents", "python3", 15, quick=""),

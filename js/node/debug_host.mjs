@@ -1,7 +1,10 @@
 // What a debugger that runs by node needs of its host: files, and session files that the program itself writes (`mcs4 open`).
 import { closeSync, existsSync, fsyncSync, openSync, realpathSync } from "node:fs";
 import { dirname, isAbsolute, join, resolve, sep } from "node:path";
+import { holderOf, readUnlocked } from "./file_locks.mjs";
+import { CommandError } from "./output.mjs";
 import { openProgram } from "./program_on_file.mjs";
+import { heldBy } from "../words/adapter.js";
 import { isInside, readUserFile, readUserText, replacementOf } from "./user_files.mjs";
 
 /** The most bytes that a session can have. */
@@ -51,6 +54,16 @@ function syncFolder(name) {
   closeSync(folder);
 }
 
+/** Starts the program on a session file; an error says who has the file, if somebody has. */
+async function openFile(name) {
+  try {
+    return await openProgram("open", name);
+  } catch (fault) {
+    const holder = fault instanceof CommandError && existsSync(name) ? holderOf(name) : "";
+    throw holder === "" ? fault : new CommandError(`${fault.message}; ${heldBy(holder)}`);
+  }
+}
+
 /** What a debugger needs of the host that it runs on; see js/core/adapter/launching.js. */
 export const host = {
   nameOf: (name, folder) => {
@@ -67,8 +80,9 @@ export const host = {
   },
   isThere: existsSync,
   isInside: (name, folder) => !existsSync(name) || isInside(name, folder),
-  open: async (name) => new SessionFile(name, await openProgram("open", name)),
+  open: async (name) => new SessionFile(name, await openFile(name)),
   make: async (name) => new SessionFile(name, await openProgram("new", name)),
+  readSession: async (name) => readUnlocked(name, MOST_SESSION),
   pause: () => new Promise((settle) => {
     setImmediate(settle);
   }),

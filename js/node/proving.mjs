@@ -1,11 +1,11 @@
 // The search of `mcs4 prove`: questions to the program mcs4-prove, and counterexamples on the bench, which `mcs4 test` has to confirm.
 import { writeFileSync } from "node:fs";
 import { join } from "node:path";
-import { counterexampleOf } from "../core/prove/counterexample.js";
+import { Judging } from "../core/prove/judging.js";
 import { allMistakes } from "../core/prove/mistakes.js";
-import { askedOf, questionOf, readAnswer } from "../core/prove/question.js";
+import { questionOf, readAnswer } from "../core/prove/question.js";
 import { readCampaign } from "../core/explore/campaign.js";
-import { grouped, stepsOf } from "../core/explore/report.js";
+import { grouped } from "../core/explore/report.js";
 import { subjectOf } from "../core/explore/subject.js";
 import { prepare } from "../core/testing/prepared.js";
 import * as say from "../words/prove.js";
@@ -16,8 +16,6 @@ import { temporaryFolder } from "./temporary.mjs";
 
 /**
  * @typedef {import("./given_texts.mjs").GivenText} GivenText
- * @typedef {import("../core/prove/verdicts.js").Judged} Judged
- * @typedef {import("../core/prove/verdicts.js").Verdict} Verdict
  * @typedef {{ board: GivenText, program: GivenText, properties: { name: string, text: string } }} Texts
  */
 
@@ -35,18 +33,21 @@ class Proving {
     process.on("SIGINT", interrupt);
   }
 
-  /** Reads the texts: what is searched, and the properties. */
+  /** Reads the texts; returns the judgement of their properties. */
   async begin() {
     const engine = await startEngine();
     const { board, program, properties } = this.texts;
     const { prepared, faults: wrong } = prepare(engine, { boardText: board.text, programText: program.text });
     if (!prepared) throw await errorOfTexts(engine, { board, program }, wrong);
-    this.subject = subjectOf(engine, board.text, program.text, program.before);
-    const { campaign, faults } = readCampaign(properties.text, this.subject, false);
+    const subject = subjectOf(engine, board.text, program.text, program.before);
+    const { campaign, faults } = readCampaign(properties.text, subject, false);
     if (faults.length > 0) throw new CommandError(faults.map(({ line, words }) => `${properties.name}:${line}: ${words}`).join("\n"));
-    this.campaign = campaign;
-    this.properties = campaign.properties.filter(({ line }) => line > 0);
-    this.mistakes = allMistakes();
+    return new Judging(subject, campaign, {
+      ask: (nevers) => this.ask(nevers, []),
+      confirms: (found, isGoal) => this.confirms(found, isGoal),
+      reason: (kind) => this.reasons[kind],
+      breathe,
+    });
   }
 
   /**
@@ -64,21 +65,6 @@ class Proving {
   }
 
   /**
-   * Judges a property by the answer to what it asks.
-   * @param {import("../core/explore/properties.js").Property} property
-   * @param {import("../core/prove/question.js").Answer} answer
-   * @param {string} mistake the word of the mistake that it excludes, or ""
-   * @returns {Promise<Verdict>}
-   */
-  async judge(property, answer, mistake) {
-    if (answer.kind === "holds") return { kind: "proved", states: answer.states };
-    if (answer.kind !== "fails") return { kind: "open", words: this.reasons[answer.kind] };
-    const found = await counterexampleOf(this.subject, { ...this.campaign, properties: [property] }, 0, answer.values, breathe, mistake);
-    if (!found || !await this.confirms(found, property.isGoal)) return { kind: "open", words: say.NOT_CONFIRMED };
-    return found.isAllowed || property.isGoal ? { kind: "found", found } : { kind: "open", words: say.excluded(stepsOf(found.steps)) };
-  }
-
-  /**
    * Whether `mcs4 test` judges a counterexample as it should; lines of a session were run on the bench as they are.
    * @param {import("../core/prove/counterexample.js").Counterexample} found
    * @param {boolean} isGoal
@@ -93,37 +79,19 @@ class Proving {
   }
 
   /**
-   * Judges what every program is asked.
-   * @param {import("../core/prove/question.js").Answer} together the answer to all questions at once
+   * Judges what every program is asked: all of it at once, and each alone if that decides nothing of it.
+   * @param {Judging} judging
    */
-  async judgeMistakes(together) {
-    const words = this.mistakes.map(({ word }) => word);
-    const all = together.kind === "fails" ? await this.ask([], words) : together;
-    /** @type {Judged[]} */
+  async judgeMistakes(judging) {
+    const mistakes = allMistakes();
+    const together = await this.ask([], mistakes.map(({ word }) => word));
+    /** @type {import("../core/prove/verdicts.js").Judged[]} */
     const judged = [];
-    for (const { property, word } of this.mistakes) {
-      const answer = all.kind === "fails" ? await this.ask([], [word]) : all;
-      judged.push({ property, verdict: await this.judge(property, answer, word) });
+    for (const { property, word } of mistakes) {
+      const answer = together.kind === "fails" ? await this.ask([], [word]) : together;
+      judged.push({ property, verdict: await judging.verdictOf(property, answer, { ...judging.campaign, properties: [property] }, word) });
     }
     return judged;
-  }
-
-  /** Judges all properties: those that can be asked together first. Where none of these fails, each has the answer that all have. */
-  async judgeAll() {
-    const { campaign, subject: { names: { board } } } = this;
-    const all = this.properties.map((property) => ({ property, asked: askedOf(property, campaign, board) }));
-    const wanted = all.flatMap(({ property, asked }) => (property.isGoal || !asked.nevers ? [] : asked.nevers));
-    const together = await this.ask(wanted, this.mistakes.map(({ word }) => word));
-    /** @type {Judged[]} */
-    const judged = [];
-    for (const { property, asked } of all) {
-      if (!asked.nevers) judged.push({ property, verdict: { kind: "open", words: asked.words } });
-      else {
-        const isAnswered = !property.isGoal && together.kind !== "fails";
-        judged.push({ property, verdict: await this.judge(property, isAnswered ? together : await this.ask(asked.nevers, []), "") });
-      }
-    }
-    return [...judged, ...await this.judgeMistakes(together)];
   }
 }
 
@@ -134,6 +102,6 @@ class Proving {
  */
 export async function proveTexts(texts, most) {
   const proving = new Proving(texts, most);
-  await proving.begin();
-  return proving.judgeAll();
+  const judging = await proving.begin();
+  return [...await judging.judgeAll(), ...await proving.judgeMistakes(judging)];
 }

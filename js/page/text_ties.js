@@ -3,6 +3,7 @@
 import { countOfFaults } from "../core/bench/words.js";
 import { ExploreTab } from "./explore/explore_tab.js";
 import { Explorer } from "../core/explore/explorer.js";
+import { Prover } from "../core/prove/prover.js";
 import { keyScanOf, placeOfRoutine } from "../core/drawing/scan_routine.js";
 import { namesOfCharacters } from "../core/machine/ram_names.js";
 import { SourceSync } from "../core/machine/source_sync.js";
@@ -104,6 +105,7 @@ export function textsOf(page) {
     session: () => current.session,
     touch: () => current.touch(),
     keep: () => current.keep(),
+    edited: () => page.explore.proofs.edited(),
     named: (boardText) => {
       page.readFace(boardText);
       current.takeTitle(titleOf(boardText, page.programEditor.text));
@@ -178,6 +180,28 @@ function addTest({ tests, texts }, test) {
 }
 
 /**
+ * Opens a session of texts after lines, to which time can go back.
+ * @param {Page} page
+ * @param {{ name: string, lines: string, told: string }} wanted
+ * @param {import("../core/explore/exploring.js").ExploredTexts} texts
+ */
+async function openAfter(page, { name, lines, told }, texts) {
+  const { boardText, programText } = texts;
+  const make = async () => {
+    const example = { name, title: "", board: boardText, program: programText, tests: "", properties: "", lines: "", project: "" };
+    return newRecord(name, await page.bench.call("make", [example]), { ...texts, testText: page.tests.editor.text });
+  };
+  const { sessionsController } = page;
+  const before = page.current.session;
+  if (!(await sessionsController.manager.useNew(make))) return;
+  await page.serving.act(lines);
+  // The lines are not the user's: what was left is still the news.
+  if (before && !before.isUntouched) sessionsController.tellLeft(before.record);
+  page.layout.showText("program");
+  page.running.tell(told);
+}
+
+/**
  * @param {Page} page
  * @param {ManualSection[]} manual
  * @param {() => import("../core/bench/bench_client.js").Bench} makeBench
@@ -185,7 +209,7 @@ function addTest({ tests, texts }, test) {
  */
 export function exploreOf(page, manual, makeBench) {
   const { bench, words } = page;
-  const explorer = new Explorer(makeBench);
+  const [explorer, prover] = [new Explorer(makeBench), new Prover(makeBench)];
   const tab = new ExploreTab(manual, {
     texts: () => ({ boardText: page.boardEditor.text, programText: page.programEditor.text, testText: page.tests.editor.text }),
     labels: () => (page.source.map ? [...page.source.map.labels.values()].flat() : []),
@@ -200,6 +224,8 @@ export function exploreOf(page, manual, makeBench) {
       const testText = page.tests.editor.text;
       page.sessionsController.manager.useNew(async () => newRecord(name, file, { ...texts, testText }));
     },
+    prove: prover.prove.bind(prover),
+    openAfter: (name, lines, texts, told) => openAfter(page, { name, lines, told }, texts),
     addTest: (test) => addTest(page, test),
     mark: (told) => page.layout.tabs.mark("properties", told),
     edited: () => page.texts.edited(),

@@ -1,128 +1,18 @@
 // The debug adapter, without a process: its messages, and what it answers by the module of the page.
 import assert from "node:assert/strict";
-import { afterEach, test } from "node:test";
+import { test } from "node:test";
 import { readFileSync } from "node:fs";
-import { AdapterConnection } from "../core/adapter/adapter_connection.js";
-import { DebugAdapter } from "../core/adapter/debug_adapter.js";
-import { LONGEST_MESSAGE, MessageReader, framed } from "../core/server/framing.js";
-import { Engine } from "../core/engine/engine.js";
+import { LONGEST_MESSAGE, framed } from "../core/server/framing.js";
 import { EYE_CYCLES } from "../core/time/mcs4_time.js";
-import { dataOfPage } from "../node/page_parts.mjs";
-import { moduleOfPage } from "./page_session.js";
-
-const engine = new Engine(new globalThis.WebAssembly.Module(moduleOfPage));
-const lock = (name) => readFileSync(new URL(`../../examples/lock/${name}`, import.meta.url), "utf8");
-const FILES = Object.fromEntries(["board.toml", "lock.asm", "mcs4.toml"].map((name) => [`/lock/${name}`, lock(name)]));
-const LOCK = { program: "/lock/lock.asm" };
-const SOURCE = { path: "/lock/lock.asm" };
-
-const PATIENCE = 20000;
-
-/** @type {DebugAdapter[]} */
-const begun = [];
-afterEach(async () => {
-  // Time that still runs would go on for ever.
-  for (const adapter of begun.splice(0)) await adapter.leave();
-});
-
-/** A program that serves a session file, as a list of the lines that it was sent and the bytes that it has. */
-class FakeFile {
-  constructor(bytes) {
-    this.bytes = bytes.slice();
-    this.now = bytes.slice();
-    this.lines = [];
-    this.replaced = 0;
-    this.hasEnded = false;
-  }
-
-  async ask(lines) {
-    this.lines.push(...lines.split("\n").slice(0, -1));
-    return engine.serve(this.now, lines, this.now).answers;
-  }
-
-  async replace(bytes, lines, count, check) {
-    const next = bytes.slice();
-    check(engine.serve(next, lines, next).answers);
-    this.now = next;
-    this.replaced += 1;
-  }
-
-  async end() {
-    this.hasEnded = true;
-  }
-}
-
-/** An adapter with one who asks it; `files` are texts and session files. */
-function served(files = FILES, sessions = {}) {
-  const reader = new MessageReader();
-  const told = [];
-  const ended = [];
-  const connection = new AdapterConnection((bytes) => told.push(...[...reader.take(bytes)].map(({ text }) => JSON.parse(text))));
-  const host = {
-    nameOf: (name, folder) => (/^([A-Z]:)?\//.test(name) ? name : `${folder}/${name}`),
-    beside: (name, other) => other.replace(/[^/]*$/, name),
-    read: (name) => files[name] ?? null,
-    isThere: (name) => name in files || name in sessions,
-    isInside: (name) => !/outside/.test(name),
-    open: async (name) => sessions[name] || Promise.reject(new Error(`${name} is in use`)),
-    make: async (name) => {
-      sessions[name] = new FakeFile(engine.begin());
-      return sessions[name];
-    },
-    pause: () => new Promise(setImmediate),
-    end: (status) => ended.push(status),
-  };
-  const adapter = new DebugAdapter(connection, engine, dataOfPage(), host);
-  begun.push(adapter);
-  let seq = 0;
-  const until = async (fits) => {
-    const end = performance.now() + PATIENCE;
-    while (!told.some(fits)) {
-      if (performance.now() > end) throw new Error(`nothing came: ${JSON.stringify(told.slice(-3))}`);
-      await new Promise(setImmediate);
-    }
-    return told.find(fits);
-  };
-  const answer = async (command, args) => {
-    seq += 1;
-    const own = seq;
-    connection.take(framed({ seq, type: "request", command, arguments: args }));
-    return until((each) => each.type === "response" && each.request_seq === own);
-  };
-  const ask = async (command, args) => {
-    const response = await answer(command, args);
-    assert.ok(response.success, response.message);
-    return response.body;
-  };
-  const stops = () => told.filter(({ event }) => event === "stopped").map(({ body }) => body);
-  const move = async (command, args = { threadId: 1 }) => {
-    const before = stops().length;
-    await ask(command, args);
-    await until(() => stops().length > before);
-    return stops()[before];
-  };
-  const begin = async (args = LOCK, configure = async () => {}) => {
-    const { supportsInvalidatedEvent = true, ...given } = args;
-    await ask("initialize", { adapterID: "mcs4", supportsInvalidatedEvent });
-    await ask("launch", given);
-    await configure();
-    const before = stops().length;
-    await ask("configurationDone");
-    if (args.stopOnEntry !== false) await until(() => stops().length > before);
-  };
-  const output = () => told.filter(({ event }) => event === "output").map(({ body }) => body.output).join("");
-  const evaluate = async (expression, context = "watch") => (await ask("evaluate", { expression, context })).result;
-  const lines = async () => (await ask("stackTrace", { threadId: 1 })).stackFrames.map(({ line }) => line);
-  return { adapter, connection, told, ended, until, answer, ask, move, begin, output, evaluate, lines, stops, sessions };
-}
+import { FILES, FakeFile, LOCK, SOURCE, engine, served } from "./served_adapter.js";
 
 test("messages are answered in their order, each by a number of its own; what is none is told", async () => {
   const { connection, told, answer, ask, until } = served();
   assert.deepEqual((await answer("threads")).message, "initialize comes first");
   await ask("initialize", {});
   assert.equal((await answer("initialize", {})).message, "initialize comes once");
-  assert.equal((await answer("nothing")).message, "there is no nothing here");
-  assert.equal((await answer("toString")).message, "there is no toString here");
+  assert.equal((await answer("nothing")).message, "unsupported request: nothing");
+  assert.equal((await answer("toString")).message, "unsupported request: toString");
   assert.equal((await answer("stackTrace", { threadId: 1 })).message, "nothing is launched yet");
   connection.take(framed({ seq: 70, type: "request" }));
   connection.take(framed([]));
@@ -151,7 +41,7 @@ test("what cannot be launched is refused in words, and another launch can follow
   assert.match(await refused({ session: "/none.mcs" }), /^\/none.mcs is not there/);
   assert.match(await refused({ project: "/b" }), /^there is no \/b\/mcs4.toml/);
   assert.match(await refused({ project: "/c/mcs4.toml" }), /^\/c\/mcs4.toml, line 2: \/x.asm is not a path from the project's folder/);
-  assert.match((await answer("attach", {})).message, /nothing to attach to/);
+  assert.match((await answer("attach", {})).message, /^attach needs "session"/);
   await ask("launch", { cwd: "/lock", project: "/lock" });
   assert.equal((await answer("launch", LOCK)).message, "launch comes once");
   assert.equal((await answer("next", { threadId: 1 })).message, "configurationDone comes first");

@@ -9,8 +9,8 @@ import { moduleOfPage } from "./page_session.js";
 const engine = new Engine(new globalThis.WebAssembly.Module(moduleOfPage));
 export const bytesOf = (text) => new TextEncoder().encode(text);
 
-/** A server with one who asks it; `files` are beside the texts. */
-export function served(files = {}) {
+/** A server with one who asks it; `files` are beside the texts, and `pause` is what it does between pieces of work. */
+export function served(files = {}, pause = async () => {}) {
   const reader = new MessageReader();
   const told = [];
   let status = null;
@@ -20,7 +20,7 @@ export function served(files = {}) {
   }, (ended) => {
     status = ended;
   });
-  const host = { readFile: (uri) => files[uri] || null, pause: async () => {} };
+  const host = { readFile: (uri) => files[uri] || null, pause };
   const server = new LanguageServer(connection, engine, dataOfPage(), host);
   const answer = async (method, params, id = told.length + 1) => {
     connection.take(framed({ jsonrpc: "2.0", id, method, params }));

@@ -2,6 +2,7 @@
 import assert from "node:assert/strict";
 import { test } from "node:test";
 import { readFileSync } from "node:fs";
+import { framed } from "../core/server/framing.js";
 import { served } from "./served.js";
 
 const LOCK = new URL("../../examples/lock/", import.meta.url);
@@ -115,4 +116,35 @@ test("a test that is run by its lens, and the line that failed", async () => {
     { command: "mcs4.runTest", arguments: ["file:///none.test", "a"] }]) {
     assert.equal((await answer("workspace/executeCommand", wrong)).error.code, -32602);
   }
+});
+
+test("a test that runs ends where the client cancels it, and no result is shown", async () => {
+  let pauses = 0;
+  const pause = () => {
+    pauses += 1;
+    return new Promise(setImmediate);
+  };
+  const { connection, answer, begin, open, told: all } = served(FILES, pause);
+  await begin();
+  await open(tests, "test long\n  until r15 9 within 10000 s\ntest short\n  run 5 ms\n");
+  const until = async (isSo) => {
+    for (const end = performance.now() + 20000; !isSo() && performance.now() < end;) await new Promise(setImmediate);
+    assert.ok(isSo());
+  };
+  const before = pauses;
+  connection.take(framed({ jsonrpc: "2.0", id: 950, method: "workspace/executeCommand",
+    params: { command: "mcs4.runTest", arguments: [tests, "long"] } }));
+  await until(() => pauses >= before + 3);
+  connection.take(framed({ jsonrpc: "2.0", id: 950, method: "workspace/symbol", params: { query: "" } }));
+  const of950 = () => all.filter(({ id }) => id === 950);
+  assert.deepEqual(of950().map(({ error }) => error.message), ["a request with the id 950 waits for its answer"]);
+  connection.take(framed({ jsonrpc: "2.0", method: "$/cancelRequest", params: { id: 950 } }));
+  assert.equal(of950()[1].error.code, -32800);
+  const cancelledAt = pauses;
+  for (let turn = 0; turn < 50; turn++) await new Promise(setImmediate);
+  assert.ok(pauses <= cancelledAt + 1, "the run has ended");
+  const other = await answer("workspace/executeCommand", { command: "mcs4.runTest", arguments: [tests, "short"] }, 951);
+  assert.equal(other.result, null);
+  const shown = all.filter(({ method }) => method === "window/showMessage").map(({ params: { message } }) => message);
+  assert.deepEqual([shown, of950().length], [["The test short passed."], 2]);
 });

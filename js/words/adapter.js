@@ -3,7 +3,11 @@
 // --- adapter/adapter_connection.js ---
 export const MESSAGE_FORM = "a message has a number seq, the type \"request\" and a command";
 /** @type {(command: string) => string} */
-export const noCommand = (command) => `there is no ${command} here`;
+export const noCommand = (command) => `unsupported request: ${command}`;
+
+// --- adapter/progress.js ---
+/** @type {(id: string) => string} */
+export const noProgress = (id) => `no work is under way that has the progressId ${id}`;
 
 // --- adapter/answering.js ---
 export const WHAT_IS_IN_ROM = "what stands in ROM";
@@ -11,11 +15,11 @@ export const MADE_OF_ROM = "made of what stands in ROM";
 /** @type {(name: string) => string} */
 export const oneSource = (name) => `there is one source, ${name}`;
 export const NO_REFERENCE = "there is nothing of this reference";
+export const NO_FRAME = "there is no such frame; frameId is one of stackTrace";
+export const NO_LINE = "text has no such line";
 export const ADDRESSES_ARE = "there are the addresses 0x000 to 0xFFF";
 /** @type {(most: number) => string} */
 export const rowsAre = (most) => `instructionCount is 0 to ${most}`;
-/** @type {(reference: string) => string} */
-export const noMemory = (reference) => `${reference} is no memory, as 0x000 and ram.0 are`;
 /** @type {(what: string) => string} */
 export const boardHasNo = (what) => `the board has no ${what}`;
 export const COUNT_IS = "count is 0 or more";
@@ -29,7 +33,11 @@ export const HITS_WORDS = "a hit count is a number, as in 5: it stops from that 
 /** @type {(most: number) => string} */
 export const mostOn = (most) => `${most} breakpoints are on at most`;
 /** @type {(place: string) => string} */
-export const notWatched = (place) => `${place} is not watched: 8 characters of RAM that the board has can be`;
+export const notWatched = (place) => (
+  `${place} cannot be watched; registers, pairs, ports, lines, lamps, chains and RAM characters that the board has can`);
+export const ONLY_CHANGES = "only changes are watched (accessType write)";
+/** @type {(kind: string) => string} */
+export const noFilter = (kind) => `unknown exception filter: ${kind}`;
 /** @type {(place: string) => string} */
 export const changes = (place) => `${place} changes`;
 
@@ -60,7 +68,10 @@ export const ADDRESS_RANGE = "addresses are 0x000 to 0xFFF";
 // --- adapter/debug_adapter.js ---
 export const NOTHING_LAUNCHED = "nothing is launched yet";
 export const PATHS_ONLY = "files are named by paths here, not by addresses";
-export const NOTHING_TO_ATTACH = "there is nothing to attach to: launch begins a program, or opens a session file";
+export const CONDITION_OF_FAULT = "a condition, as in r5 > 8 and lamp open on: it pauses only if this holds before the instruction";
+export const RUNNING_LINES = "Running lines";
+/** @type {(done: number, all: number) => string} */
+export const charactersOf = (done, all) => `${done.toLocaleString("en")} of ${all.toLocaleString("en")} characters`;
 export const CONFIGURED_ONCE = "configurationDone comes once";
 export const LAUNCH_ONCE = "launch comes once";
 /** @type {(why: string) => string} */
@@ -68,11 +79,12 @@ export const sourceDiffers = (why) => `The source is not what stands in ROM now:
 /** @type {(name: string) => string} */
 export const notInProgram = (name) => `it is not in the program that is debugged, ${name}`;
 export const NO_DEBUG = "this runs without a debugger (noDebug)";
-/** @type {(name: string) => string} */
-export const noCharacter = (name) => `${name} is no character of RAM: only these are watched`;
-export const CONFIGURED_FIRST = "configurationDone comes first";
-export const ONE_THREAD = "there is one thread, 1";
-export const NO_TARGET = "there is no such target";
+
+// --- node/file_locks.mjs, node/debug_host.mjs ---
+/** @type {(holder: string) => string} */
+export const heldBy = (holder) => `it is open in ${holder}`;
+/** @type {(name: string, holder: string) => string} */
+export const sessionInUse = (name, holder) => `${name} is in use by ${holder || "another program"}; wait until that has ended`;
 
 // --- adapter/session_writer.js ---
 /** @type {(answer: string) => string} */
@@ -94,6 +106,9 @@ export const DOT_ALONE = "a line that is a dot alone";
 export const noBoardBeside = (program) => `there is no board.toml beside ${program}: "board" names the board's text`;
 /** @type {(session: string) => string} */
 export const sessionNotThere = (session) => `${session} is not there; with "board" and "program" it is made`;
+export const ATTACH_NEEDS = "attach needs \"session\", a session file; launch begins a program";
+/** @type {(session: string) => string} */
+export const noSession = (session) => `there is no session file ${session}`;
 export const PROGRAM_HAS_FAULTS = "the program has errors";
 /** @type {(hasRom: boolean, address: string) => string} */
 export const romDiffers = (hasRom, address) => `ROM has ${hasRom ? "another byte" : "no chip"} at 0x${address}`;
@@ -104,6 +119,8 @@ export const loadPuts = (difference) => (
   `${difference}. "load": true puts it there; without "program" the source is made of what stands in ROM`);
 
 // --- adapter/debugged_machine.js ---
+export const RUNNING = "Running";
+export const SEARCHING_BACK = "Searching the past";
 export const TIME_RUNS_ALREADY = "time runs already: pause comes first";
 /** @type {(count: number) => string} */
 export const notesBefore = (count) => `(${count} notes before these)`;
@@ -116,6 +133,15 @@ export const noSuchTest = (name, file) => `${file} has no test ${name}`;
 export const testHasPassed = (name) => `The test passes: ${name}. This is its end; step back for what led there.`;
 /** @type {(file: string, line: number, words: string) => string} */
 export const testsHaveFault = (file, line, words) => `${file}, line ${line}: ${words || "it has an error"}; no test is run`;
+
+// --- adapter/move_requests.js ---
+export const CONFIGURED_FIRST = "configurationDone comes first";
+export const ONE_THREAD = "there is one thread, 1";
+export const NO_TARGET = "there is no such target";
+export const NOT_CALLED = "this frame is the program itself, which nothing called; restart begins it again";
+
+// --- adapter/number_format.js ---
+export const FORMAT_IS = "format is an object, as { \"hex\": true }";
 
 // --- adapter/dap_protocol.js ---
 /** @type {(name: string) => string} */

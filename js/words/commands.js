@@ -105,9 +105,10 @@ export const COMMAND_WORDS = {
       An editor starts the debug adapter, and talks with it over standard input and output. It has breakpoints at lines, addresses and
       labels with conditions, hit counts and log messages; steps over, into, out and back; registers, RAM, ports, lamps and keys, which
       can be set; the disassembly; and in the console the bench's lines and keys by their names. The manual's chapter "In your editor"
-      has the settings of editors, and what \`launch\` takes.
+      has the settings of editors, and what \`launch\` and \`attach\` take.
 
-      A session file that is launched is in use meanwhile, and has at each stop what was done up to there. Nothing else is written.`,
+      A session file that is launched is in use meanwhile, and has at each stop what was done up to there. Nothing else is written: one that
+      is attached to stays as it is.`,
     options: { stdio: "Does nothing: editors may say how they talk." },
     examples: [["mcs4 dap", "is what an editor starts"]],
     status: [

@@ -19,6 +19,11 @@ export const insideInstruction = (address, line) => `${address} is inside the in
 export const insideAndMoved = (address, line, next) => (
   `${address} is inside the instruction of line ${line}: its breakpoint is at the next one, line ${next}.`);
 
+// --- debug/data_watches.js ---
+/** @type {(place: string, from: string, to: string) => string} */
+export const changedFrom = (place, from, to) => `${place} changed from ${from} to ${to}`;
+export const CHANGES_ALWAYS = "pc changes with each instruction";
+
 // --- debug/debug_session.js ---
 /** @type {(why: string, line: string) => string} */
 export const lineEnded = (why, line) => `${why} The line ${line} ended there.`;

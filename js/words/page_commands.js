@@ -78,6 +78,7 @@ export const COMMANDS = {
   "tests.first": "Insert a sample test",
   "tests.clear": "Clear the results of the tests",
   "properties.search": "Search for a counterexample",
+  "properties.prove": "Prove the properties for all inputs",
   "properties.first": "Insert sample properties",
   "properties.clear": "Clear the results of the search",
   "wiring.apply": "Apply the drawn board",

@@ -23,6 +23,17 @@ export const MISTAKES = {
   wrr: "no WRR to a port without outputs",
 };
 
+// --- prove/judging.js ---
+/** @type {(steps: string) => string} */
+export const excluded = (steps) => `only inputs that the text excludes break it so far (${steps})`;
+export const NOT_CONFIRMED = "the bench does not confirm the counterexample that was found";
+
+// --- prove/bounded_proof.js ---
+/** @type {(states: string) => string} */
+export const moreThan = (states) => `more than ${states} states; a larger number beside Prove allows more`;
+/** @type {(states: string) => string} */
+export const fullAfter = (states) => `there is no memory for so many states (more than ${states}); mcs4 prove, in a terminal, has more`;
+
 // --- prove/verdicts.js ---
 /** @type {(words: string) => string} */
 export const notDecided = (words) => `TODO not decided: ${words}`;
@@ -42,8 +53,48 @@ export const foundBy = (steps, cycles, isGoal) => `${isGoal ? "reached" : "broke
 export const moreStates = (most) => `more than ${most} states; --most allows more`;
 export const NO_MEMORY = "there is no memory for more states";
 export const GAVE_UP = "the prover gave up";
-/** @type {(steps: string) => string} */
-export const excluded = (steps) => `only inputs that the text excludes break it so far (${steps})`;
-export const NOT_CONFIRMED = "the bench does not confirm the counterexample that was found";
 /** @type {(words: string) => string} */
 export const proverEnded = (words) => `the prover ended without an answer: ${words}`;
+
+// --- page/prove/proofs.js ---
+export const PROVE = "Prove";
+export const CANCEL = "Cancel";
+export const STATES_FORM = "The states are a number, 1 to 999,999,999.";
+export const NO_PROPERTY = "Properties has no property: a line that begins with never, always, at or reach, for example.";
+export const CANCELLED_EARLY = "It was cancelled before anything was proved.";
+/** @type {(property: string) => string} */
+export const nextStepBreaks = (property) => `The next step breaks: ${property}`;
+/** @type {(property: string) => string} */
+export const nextStepReaches = (property) => `The next step reaches: ${property}`;
+
+// --- page/prove/proofs_view.js ---
+export const CHANGED = "the program, the board or the text has changed since";
+export const ITS_TEST = "Its test";
+export const ITS_LINES = "Its lines";
+export const OPEN_FOUND = "Open counterexample";
+export const OPEN_WAY = "Open the way there";
+export const BEFORE_IT = "a new session, stopped before the step that breaks it; time goes back from there";
+export const BEFORE_GOAL = "a new session, stopped before the step that reaches it; time goes back from there";
+export const ADD_TO_TESTS = "Add it to the tests";
+export const AT_END = "at the end of Tests";
+
+// --- words/proved.js ---
+/** What is said of a property, in one or two words. */
+export const MARKS = { proved: "proved", never: "never reached", fails: "can fail", reached: "reached", open: "not decided" };
+/** @type {(states: string) => string} */
+export const forAllInputs = (states) => `for all inputs: ${states}`;
+export const CANCELLED = "Cancelled: ";
+/** @type {(count: string) => string} */
+export const countProved = (count) => `${count} proved`;
+/** @type {(count: string) => string} */
+export const countBroken = (count) => `${count} can fail`;
+/** @type {(count: string) => string} */
+export const countReached = (count) => `${count} reached`;
+/** @type {(count: string) => string} */
+export const countNever = (count) => `${count} never reached`;
+/** @type {(count: string) => string} */
+export const countOpen = (count) => `${count} not decided`;
+/** @type {(number: number, count: number) => string} */
+export const judging = (number, count) => `Property ${number} of ${count}`;
+/** @type {(which: string, states: string) => string} */
+export const moreSoFar = (which, states) => `${which}: more than ${states} states so far`;

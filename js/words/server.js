@@ -29,6 +29,8 @@ export const INITIALIZE_FIRST = "initialize comes first";
 export const INITIALIZE_ONCE = "initialize comes once";
 /** @type {(method: string) => string} */
 export const noMethod = (method) => `there is no ${method} here`;
+/** @type {(id: number | string | null) => string} */
+export const idWaits = (id) => `a request with the id ${id} waits for its answer`;
 
 // --- server/diagnostics.js ---
 export const MAY_BE_MORE = "There may be more errors.";

@@ -53,6 +53,7 @@ export function wordsOfGone(goal, gone, where, breakpoint) {
   const before = cycles === 0 ? "" : `${over} before`;
   if (goal.kind === "stop") return `Back at the stop at ${where}${before}.`;
   if (goal.kind === "instruction") return `Back at ${where}${before}: this instruction is not done.`;
+  if (goal.kind === "call") return `Back at ${where}${before}: the subroutine begins here.`;
   if (end === "break") {
     const when = wordsOfWhen(breakpoint && { ...breakpoint, from: 1, hits: 0 });
     return `Back at ${where}${before}, at a breakpoint${when}.`;
@@ -70,6 +71,7 @@ export function wordsOfGone(goal, gone, where, breakpoint) {
 function whyNot(goal, why) {
   if (goal.kind === "forward") return "forward leads where going back came from, until something else is done";
   if (goal.kind === "stop") return "no stop before this one is remembered";
+  if (goal.kind === "call") return "what is remembered does not reach back to the call";
   if (goal.kind === "instruction" || why === "short" && goal.kind === "arrival") return "what is remembered reaches no further back";
   if (goal.kind === "when") return `${goal.condition} has not become true as far back as is remembered`;
   if (why === "lacks") return `this board has no ${goal.place}`;
@@ -124,16 +126,16 @@ function reached(goal, returns, where) {
 
 /**
  * @param {Goal | null} goal null where time ran to none
- * @param {Pick<Stop, "why" | "cycles" | "returns">} stop
+ * @param {Pick<Stop, "why" | "cycles" | "returns" | "change">} stop
  * @param {string} where time stands still
  * @param {string} [when] what of the breakpoint that stopped it
  */
-export function wordsOfStop(goal, { why, cycles, returns }, where, when = "") {
+export function wordsOfStop(goal, { why, cycles, returns, change }, where, when = "") {
   if (why === "lacks") return `Nothing was done: this board has no ${goal && goal.kind === "change" ? goal.place : "such place"}.`;
   if (why === "outside") return `Nothing was done: ${NO_CALL_WAITS}.`;
   const after = `after ${wordsOfCycles(cycles)}`;
   if (goal && why === "goal") return `${reached(goal, returns, where)}, ${after}.`;
-  const reason = (REASONS[why] || why) + (why === "break" ? when : "");
+  const reason = why === "watch" && change ? `after ${change}` : (REASONS[why] || why) + (why === "break" ? when : "");
   return goal ? `Paused at ${where}, ${reason}, ${after}; ${wordsOfGoal(goal)} was not reached.` : `Paused at ${where}, ${reason}.`;
 }
 

@@ -1,11 +1,18 @@
-// Requests, responses and events of the protocol of debug adapters over a stream: one request after the other, `initialize` first.
+// Requests, responses and events of the protocol of debug adapters over a stream: one request after the other, `initialize` first. Only
+// `cancel` does not wait for its turn.
 
-import { MessageReader, StreamLost, fieldOf, framed } from "../server/framing.js";
-import { AdapterError, wordsOf } from "./dap_protocol.js";
+import { Cancelled } from "../bench/faults.js";
+import { fieldOf } from "../server/framing.js";
+import { MessageStream } from "../server/message_stream.js";
+import { AdapterError, CANCELLED, fail, needNumber, textOrNone, wordsOf } from "./dap_protocol.js";
 import * as say from "../../words/adapter.js";
-import { INITIALIZE_FIRST, INITIALIZE_ONCE, NOT_JSON, messageTooLong } from "../../words/server.js";
+import { INITIALIZE_FIRST, INITIALIZE_ONCE, NOT_JSON } from "../../words/server.js";
 
-/** @typedef {(args: any) => unknown} Act what a request does: it gives the body of the response, or a promise of it */
+/**
+ * A request that is not answered yet. Long work looks at `isCancelled`, and throws Cancelled.
+ * @typedef {{ seq: number, command: string, hasBegun: boolean, isCancelled: boolean }} Asked
+ * @typedef {(args: any, asked: Asked) => unknown} Act what a request does: it gives the body of the response, or a promise of it
+ */
 
 /** A body that something follows. */
 export class Followed {
@@ -19,33 +26,25 @@ export class Followed {
   }
 }
 
-export class AdapterConnection {
+export class AdapterConnection extends MessageStream {
   /** @param {(bytes: Uint8Array) => void} write */
   constructor(write) {
-    this.write = write;
-    this.reader = new MessageReader();
+    super(write);
     /** @type {Record<string, Act>} */
     this.requests = {};
     this.sent = 0;
     this.isOpen = false;
     /** Requests are done in the order in which they came. */
     this.turn = Promise.resolve();
+    /** @type {Set<Asked>} */
+    this.waiting = new Set();
+    /** @type {(id: string) => void} stops the work that a progress is reported of */
+    this.stopWork = (id) => fail(say.noProgress(id));
   }
 
-  /**
-   * Takes bytes of the stream. It throws a StreamLost if no message can follow, after the client has got the error.
-   * @param {Uint8Array} bytes
-   */
-  take(bytes) {
-    try {
-      for (const received of this.reader.take(bytes)) {
-        if ("text" in received) this.takeText(received.text);
-        else this.refuse(0, "", new AdapterError(messageTooLong(received.tooLong)));
-      }
-    } catch (thrown) {
-      if (thrown instanceof StreamLost) this.refuse(0, "", new AdapterError(thrown.message));
-      throw thrown;
-    }
+  /** @param {string} words */
+  refuseStream(words) {
+    this.refuse(0, "", new AdapterError(words));
   }
 
   /** @param {string} text */
@@ -67,7 +66,10 @@ export class AdapterConnection {
       this.refuse(number, typeof command === "string" ? command : "", new AdapterError(words));
       return;
     }
-    this.turn = this.turn.then(() => this.request(number, command, message.arguments));
+    const asked = { seq: number, command, hasBegun: false, isCancelled: false };
+    this.waiting.add(asked);
+    if (command === "cancel" && this.isOpen) this.request(asked, message.arguments);
+    else this.turn = this.turn.then(() => this.request(asked, message.arguments));
   }
 
   /**
@@ -80,23 +82,56 @@ export class AdapterConnection {
   }
 
   /**
-   * @param {number} seq
-   * @param {string} command
+   * @param {Asked} asked
    * @param {any} args
    */
-  async request(seq, command, args) {
+  async request(asked, args) {
+    // One that was cancelled before its turn has its answer.
+    if (!this.waiting.has(asked)) return;
+    const { seq, command } = asked;
+    asked.hasBegun = true;
     try {
       const fault = this.faultOfOrder(command);
       if (fault) throw new AdapterError(fault);
       const act = Object.prototype.hasOwnProperty.call(this.requests, command) && this.requests[command];
       if (!act) throw new AdapterError(say.noCommand(command));
-      const given = await act(args);
+      const given = await act(args, asked);
       if (command === "initialize") this.isOpen = true;
       const body = given instanceof Followed ? given.body : given;
+      this.waiting.delete(asked);
       this.send({ type: "response", request_seq: seq, success: true, command, ...(body === undefined ? {} : { body }) });
-      if (given instanceof Followed) given.after();
+      if (given instanceof Followed) this.follow(given);
     } catch (thrown) {
-      this.refuse(seq, command, thrown);
+      this.waiting.delete(asked);
+      this.refuse(seq, command, asked.isCancelled && thrown instanceof Cancelled ? new AdapterError(CANCELLED) : thrown);
+    }
+  }
+
+  /**
+   * Does what follows a response; an error there has no request to be the answer of.
+   * @param {Followed} followed
+   */
+  follow({ after }) {
+    try {
+      after();
+    } catch (thrown) {
+      this.tell("output", { category: "stderr", output: `${wordsOf(thrown)}\n` });
+    }
+  }
+
+  /**
+   * Does the request `cancel`: the one that it names is refused at once if it has not begun, else it ends where it can. A request that is
+   * answered already stays so.
+   * @param {any} args
+   */
+  cancel(args) {
+    const [number, progress] = [needNumber(args, "requestId", 0), textOrNone(args, "progressId")];
+    if (progress !== "") this.stopWork(progress);
+    for (const asked of [...this.waiting].filter(({ seq, command }) => seq === number && command !== "cancel")) {
+      asked.isCancelled = true;
+      if (asked.hasBegun) continue;
+      this.waiting.delete(asked);
+      this.refuse(asked.seq, asked.command, new AdapterError(CANCELLED));
     }
   }
 
@@ -123,6 +158,6 @@ export class AdapterConnection {
   /** @param {object} message */
   send(message) {
     this.sent += 1;
-    this.write(framed({ seq: this.sent, ...message }));
+    this.writeMessage({ seq: this.sent, ...message });
   }
 }

@@ -1,18 +1,21 @@
 // What is asked while time stands: the stack, scopes, values, memory, the source.
 
-import { LAST_ADDRESS, hex } from "../bench/numbers.js";
-import { refusalOf } from "../bench/answers.js";
+import { LAST_ADDRESS } from "../bench/numbers.js";
 import { WORDS } from "../conditions/parser.js";
 import { PLACE_WORDS } from "../conditions/places.js";
 import { FIRST_WORDS } from "./console.js";
-import { addressWords, bytesAt, rowsAt } from "./disassembly.js";
+import { rowsAt } from "./disassembly.js";
 import { framesOf } from "./frames.js";
+import { numberOfPlace, readMemory, referenceOf, writeMemory } from "./memory.js";
+import { baseOf, formatOf, inBase, numberInBase } from "./number_format.js";
+import { isCall, neverContinues, targetOf, wordsOf } from "../engine/rom_codes.js";
 import { fieldOf } from "../server/framing.js";
 import { keysOf } from "../testing/test_text.js";
 import { fail, needNumber, needText } from "./dap_protocol.js";
 import { placeToSet, setPlace } from "./set_place.js";
 import { hoverOf, valueOfExpression } from "./expression_values.js";
 import * as say from "../../words/adapter.js";
+import { wordsOfLine } from "../../words/stops.js";
 
 /**
  * @typedef {import("./launching.js").Launched} Launched
@@ -22,23 +25,28 @@ import * as say from "../../words/adapter.js";
 
 /** The reference of the source that is made of what stands in ROM. */
 const ROM_SOURCE = 1;
-/** So many instructions are told at once. */
+/** This many instructions are told at once. */
 const MOST_ROWS = 8192;
 const MOST_COMPLETIONS = 500;
+/** The name of a key that is begun. */
+const KEY_BEGUN = /(?:^\s*(?:press|release|keys)\s(?:.*\s)?|\bkey\s+)(\S*)$/;
+/** Calls are looked for in so many instructions. */
+const MOST_LOOKED = 256;
 
 export class Answering {
   /**
    * @param {Launched} launched
    * @param {Scopes} scopes
    * @param {Known} known
-   * @param {number} firstLine how the client counts lines: from 0 or from 1
+   * @param {{ firstLine: number, firstColumn: number }} counting how the client counts lines and columns: from 0 or from 1
    */
-  constructor(launched, scopes, known, firstLine) {
+  constructor(launched, scopes, known, { firstLine, firstColumn }) {
     this.launched = launched;
     this.session = launched.session;
     this.scopes = scopes;
     this.known = known;
     this.firstLine = firstLine;
+    this.firstColumn = firstColumn;
   }
 
   // --- the source ---
@@ -74,23 +82,56 @@ export class Answering {
     const all = framesOf(this.session);
     const from = Math.max(0, needNumber(args, "startFrame", 0));
     const levels = needNumber(args, "levels", 0);
-    const frames = all.map(({ address, line, name }, at) => ({
-      id: at + 1, name, instructionPointerReference: `0x${hex(address, 3)}`,
-      ...(line > 0 ? { line: line - 1 + this.firstLine, column: 1, source: this.source }
+    const [isHex, withLine] = [formatOf(args, "hex"), formatOf(args, "line") === true];
+    const frames = all.map(({ address, line, name, call }, at) => ({
+      id: at + 1, name: nameInFormat(name, isHex) + (withLine && line > 0 ? `, ${wordsOfLine(line)}` : ""),
+      instructionPointerReference: referenceOf(address), canRestart: call >= 0,
+      ...(line > 0 ? { line: line - 1 + this.firstLine, column: this.firstColumn, source: this.source }
         : { line: 0, column: 0, presentationHint: "subtle" }),
     }));
     return { stackFrames: frames.slice(from, levels > 0 ? from + levels : undefined), totalFrames: all.length };
   }
 
-  scopesOfFrame() {
+  /** @param {any} args */
+  scopesOfFrame(args) {
+    this.frameOf(args, 1);
+    // No scope has a number in its name.
+    baseOf(args);
     return { scopes: this.scopes.all() };
+  }
+
+  /**
+   * The frame that a request names.
+   * @param {any} args
+   * @param {number} [usual] the one that is meant without an id
+   */
+  frameOf(args, usual) {
+    return framesOf(this.session)[needNumber(args, "frameId", usual) - 1] || fail(say.NO_FRAME);
+  }
+
+  /**
+   * The calls from the counter on, up to where the program surely goes on elsewhere: what a step can lead into.
+   * @param {any} args
+   */
+  stepInTargets(args) {
+    const frame = this.frameOf(args);
+    const { map } = this.session;
+    // In the frames of callers the call is under way.
+    if (needNumber(args, "frameId") > 1) return { targets: [] };
+    return {
+      targets: callsFrom(this.session, frame.address).map(({ address, target }) => {
+        const [line, name] = [map.lineOf(address), map.nameOf(target) || referenceOf(target)];
+        const words = line > 0 ? `${name}, ${wordsOfLine(line)}` : name;
+        return { id: address, label: words, ...(line > 0 ? { line: line - 1 + this.firstLine, column: this.firstColumn } : {}) };
+      }),
+    };
   }
 
   // --- values ---
 
   /** @param {any} args */
   variables(args) {
-    const all = this.scopes.variables(needNumber(args, "variablesReference")) || fail(say.NO_REFERENCE);
+    const all = this.scopes.variables(needNumber(args, "variablesReference"), baseOf(args)) || fail(say.NO_REFERENCE);
     const from = Math.max(0, needNumber(args, "start", 0));
     const count = needNumber(args, "count", 0);
     const some = all.slice(from, count > 0 ? from + count : undefined);
@@ -104,59 +145,72 @@ export class Answering {
   }
 
   /**
-   * What sets a variable; "" where nothing does.
+   * The place whose changes a variable shows; "" for none.
    * @param {number} reference
    * @param {string} name
    */
   placeOfVariable(reference, name) {
     const found = (this.scopes.variables(reference) || []).find((each) => each.name === name);
-    return found ? found.place : "";
+    return found ? found.watched || found.place : "";
   }
 
   /** @param {any} args */
   async setVariable(args) {
-    const value = await this.scopes.set(needNumber(args, "variablesReference"), needText(args, "name"), needText(args, "value"));
-    return { value, variablesReference: 0 };
+    const [name, value] = [needText(args, "name"), needText(args, "value")];
+    const now = await this.scopes.set(needNumber(args, "variablesReference"), name, value, baseOf(args));
+    return { value: now, variablesReference: 0 };
   }
 
   /** @param {any} args */
   async setExpression(args) {
     const place = placeToSet(needText(args, "expression"), this.known.face);
     const value = needText(args, "value");
+    const base = baseOf(args);
     await setPlace(this.session, place, value);
-    return { value: place.startsWith("key ") ? value.trim().toLowerCase() : valueOfExpression(place, this.known) };
+    return { value: place.startsWith("key ") ? value.trim().toLowerCase() : valueOfExpression(place, this.known, base) };
   }
 
   /**
    * @param {string} expression
    * @param {string} context
+   * @param {import("./number_format.js").Base} base
    */
-  evaluate(expression, context) {
-    const result = context === "hover" ? hoverOf(expression, this.known) : valueOfExpression(expression, this.known);
-    return { result, variablesReference: 0 };
+  evaluate(expression, context, base) {
+    const result = context === "hover" ? hoverOf(expression, this.known) : valueOfExpression(expression, this.known, base);
+    const memory = numberOfPlace(expression);
+    return { result, variablesReference: 0, ...(memory >= 0 ? { memoryReference: referenceOf(memory) } : {}) };
   }
 
   /** @param {any} args */
   completions(args) {
-    const text = needText(args, "text");
-    const column = Math.max(0, needNumber(args, "column", text.length + 1) - 1);
-    const word = (/[A-Za-z_@][\w.]*$/.exec(text.slice(0, column)) || [""])[0];
-    const words = this.wordsAfter(text.slice(0, column - word.length));
+    const whole = needText(args, "text");
+    const lines = whole.split("\n");
+    const at = needNumber(args, "line", this.firstLine) - this.firstLine;
+    const text = lines[at] ?? fail(say.NO_LINE);
+    const column = Math.min(text.length, Math.max(0, needNumber(args, "column", text.length + this.firstColumn) - this.firstColumn));
+    const { words, word } = this.wordsAt(text.slice(0, column));
     const targets = words.filter((each) => each.toLowerCase().startsWith(word.toLowerCase())).slice(0, MOST_COMPLETIONS);
-    return { targets: targets.map((label) => ({ label, start: column - word.length, length: word.length })) };
+    const before = lines.slice(0, at).reduce((sum, line) => sum + line.length + 1, 0);
+    const start = before + column - word.length + this.firstColumn;
+    return { targets: targets.map((label) => ({ label, start, length: word.length })) };
   }
 
   /**
-   * What a line can go on with: keys behind what moves them, else names and the words of conditions, at its beginning a command as well.
+   * What a line can go on with, and the word that is begun: keys after what moves them, lamps after `lamp`, else names and the words of
+   * conditions, at its beginning a command as well.
    * @param {string} before
+   * @returns {{ words: string[], word: string }}
    */
-  wordsAfter(before) {
+  wordsAt(before) {
     const { session: { map }, known: { face } } = this;
-    const [first] = before.trim().split(/\s+/);
-    if (/^(press|release|keys)$/.test(first)) return [...keysOf(face).keys()];
+    const begun = KEY_BEGUN.exec(before);
+    if (begun) return { words: [...keysOf(face).keys()], word: begun[1] };
+    const word = (/[A-Za-z_@][\w.]*$/.exec(before) || [""])[0];
+    const first = before.slice(0, before.length - word.length).trim();
+    if (/\blamp$/.test(first)) return { words: [...face.lampNumbers.keys()], word };
     const names = [...map.names.keys()];
     const words = [...names, ...names.map((name) => `@${name}`), ...PLACE_WORDS, ...face.lampNumbers.keys(), ...WORDS];
-    return [...new Set(first === "" ? [...FIRST_WORDS, ...words] : words)];
+    return { words: [...new Set(first === "" ? [...FIRST_WORDS, ...words] : words)], word };
   }
 
   // --- memory ---
@@ -174,7 +228,7 @@ export class Answering {
     const rows = rowsAt(this.session, begin, needNumber(args, "instructionOffset", 0), count).filter(({ address }) => address >= 0);
     return {
       instructions: rows.map(({ address, bytes, words, line, name }) => ({
-        address: addressWords(address), instruction: words || "nothing",
+        address: referenceOf(address), instruction: words || "nothing",
         ...(bytes ? { instructionBytes: bytes } : { presentationHint: "invalid" }),
         ...(name ? { symbol: name } : {}), ...(line > 0 ? { location: this.source, line: line - 1 + this.firstLine } : {}),
       })),
@@ -182,49 +236,46 @@ export class Answering {
   }
 
   /**
-   * The bytes at a reference, and the place among them.
    * @param {any} args
+   * @param {(reference: string) => number} addressOf
    */
-  bytesOf(args) {
-    const reference = needText(args, "memoryReference");
-    const isBank = /^ram\.[0-7]$/.test(reference);
-    const isRom = /^0x[0-9A-F]{1,3}$/i.test(reference);
-    if (!isBank && !isRom) fail(say.noMemory(reference));
-    const address = isRom ? Number(reference) : 0;
-    const bytes = bytesAt(this.session, reference) || fail(say.boardHasNo(reference));
-    return { bytes, from: address + needNumber(args, "offset", 0), bank: isBank ? reference.slice(4) : "" };
+  readMemory(args, addressOf) {
+    return readMemory(args, this.session, addressOf);
   }
 
-  /** @param {any} args */
-  readMemory(args) {
-    const { bytes, from } = this.bytesOf(args);
-    const count = needNumber(args, "count");
-    if (count < 0) fail(say.COUNT_IS);
-    if (from < 0 || from >= bytes.length) return { address: addressWords(from), unreadableBytes: count };
-    const read = bytes.subarray(from, Math.min(bytes.length, from + count));
-    const unread = count - read.length;
-    return { address: addressWords(from), data: btoa(String.fromCharCode(...read)), ...(unread > 0 ? { unreadableBytes: unread } : {}) };
-  }
-
-  /** @param {any} args */
-  async writeMemory(args) {
-    const { bytes, from, bank } = this.bytesOf(args);
-    const data = bytesOfBase64(needText(args, "data"));
-    if (from < 0 || from + data.length > bytes.length) fail(say.OUTSIDE_OF_MEMORY);
-    const lines = [...data].map((byte, at) => `poke ${bank ? `ram.${bank}` : "rom"}.${from + at} ${byte}\n`).join("");
-    const { session } = this.session.debugger;
-    // All of them are tried before the first one is written.
-    const tried = session.ask(lines);
-    const refused = tried.findIndex((answer) => refusalOf(answer));
-    if (refused >= 0) fail(say.benchAnswered(lines.split("\n")[refused], tried[refused]));
-    await session.serve(lines, async () => true);
-    return { bytesWritten: data.length };
+  /**
+   * @param {any} args
+   * @param {(reference: string) => number} addressOf
+   */
+  writeMemory(args, addressOf) {
+    return writeMemory(args, this.session, addressOf);
   }
 }
 
+/**
+ * The name of a frame, `show + 3` or `02C`, with its number in a base.
+ * @param {string} name
+ * @param {boolean | null} isHex
+ */
+function nameInFormat(name, isHex) {
+  if (isHex === null) return name;
+  const [, label, more] = /^(.* \+ )(\d+)$/.exec(name) || [];
+  if (label) return label + numberInBase(Number(more), isHex ? "hex" : "decimal");
+  return /^[0-9A-F]{3}$/.test(name) ? inBase(`0x${name}`, isHex ? "hex" : "decimal") : name;
+}
 
-/** @param {string} text */
-function bytesOfBase64(text) {
-  if (!/^[A-Za-z0-9+/]*={0,2}$/.test(text) || text.length % 4 !== 0) fail(say.BASE_64);
-  return Uint8Array.from(atob(text), (letter) => letter.charCodeAt(0));
+/**
+ * The calls from an address on, up to the first instruction that does not go on to the next one, or that is none of the program.
+ * @param {import("../debug/debug_session.js").DebugSession} session
+ * @param {number} from
+ */
+function callsFrom({ debugger: { session: { codes } }, map }, from) {
+  const calls = [];
+  for (let address = from, count = 0; address <= LAST_ADDRESS && count < MOST_LOOKED; count++) {
+    const code = codes[address];
+    if (isCall(code)) calls.push({ address, target: targetOf(codes, address) });
+    if (neverContinues(code) || (address !== from && map.lineOf(address) === 0)) break;
+    address += wordsOf(code);
+  }
+  return calls;
 }

@@ -1,17 +1,23 @@
 // The breakpoints that the client sets, of lines, labels and addresses, with those that the session had before; put together they are the
-// list that the debugger has.
+// list that the debugger has. Likewise places whose changes stop time, and common mistakes that do.
 
-import { readBoard, watchedPlaces } from "../bench/answers.js";
-import { LAST_ADDRESS, hex } from "../bench/numbers.js";
+import { watchedPlaces } from "../bench/answers.js";
+import { LAST_ADDRESS } from "../bench/numbers.js";
+import { conditionOf } from "../conditions/condition_language.js";
 import { BreakpointList, MOST_BREAKPOINTS, MOST_ON, instructionOfAddress, instructionOfLine } from "../debug/breakpoints.js";
 import { placeOf } from "../conditions/places.js";
+import { watchablePlace } from "../debug/data_watches.js";
+import { LARGEST_PIECE } from "../debug/debug_session.js";
+import { CYCLES_OF_CALL } from "../debug/usual_faults.js";
 import { listOf, needNumber, needText, textOrNone, wordsOf } from "./dap_protocol.js";
 import * as say from "../../words/adapter.js";
-import { noLabel } from "../../words/conditions.js";
+import { inColumn, noLabel } from "../../words/conditions.js";
+import { KINDS } from "../../words/debug.js";
 import { stopsEachTime } from "../../words/machine.js";
 
 /**
  * @typedef {import("../debug/debug_session.js").DebugSession} DebugSession
+ * @typedef {import("../debug/usual_faults.js").Kind} KindOfFault
  *
  * One that is wanted: where it is, what it needs to stop, and why it cannot be, "" where it can.
  * @typedef {{ id: number, line: number, address: number, condition: string, from: number, note: string, words: string }} Wanted
@@ -19,6 +25,10 @@ import { stopsEachTime } from "../../words/machine.js";
  * As the protocol tells it, with lines counted from 1.
  * @typedef {{ id: number, verified: boolean, line?: number, message?: string, address: number }} Told
  * @typedef {"lines" | "labels" | "addresses"} Kind
+ *
+ * A place whose changes are wanted, by its name, and a common mistake; `words` is why it cannot be, "" where it can.
+ * @typedef {{ id: number, name: string, condition: string, from: number, words: string }} WantedData
+ * @typedef {{ kind: string, condition: string }} WantedFault
  */
 
 /** @type {Omit<Wanted, "id">} */
@@ -74,9 +84,24 @@ export class ClientBreakpoints {
     /** The characters that the session watched, and those that the client watches, as `B 0xSS`. */
     this.ownWatches = watchesOf(session);
     /** @type {string[]} */
+    this.watched = [];
+    /** @type {WantedData[]} */
     this.data = [];
+    /** @type {WantedFault[]} */
+    this.faults = [];
     /** @type {Map<number, Wanted>} those of the list, by its ids */
     this.byId = new Map();
+  }
+
+  /**
+   * Takes over what another session had, before its program is made.
+   * @param {ClientBreakpoints} other
+   */
+  async takeFrom({ wanted, made, data, faults }) {
+    Object.assign(this, { wanted, made, data, faults });
+    await this.applyData();
+    this.applyFaults();
+    return this.moveWithProgram();
   }
 
   /** @param {Partial<Wanted>} some */
@@ -205,23 +230,75 @@ export class ClientBreakpoints {
     return moved.map((each) => this.told(each, ""));
   }
 
-  // --- characters that are watched ---
+  // --- places that are watched ---
 
   /** @param {any} args */
   async setData(args) {
-    const asked = listOf(args, "breakpoints").map((given) => needText(given, "dataId"));
-    const places = asked.map((dataId) => watchOf(dataId));
-    const wanted = [...new Set(places.filter((place) => place !== ""))].slice(0, MOST_DATA - this.ownWatches.length);
-    const gone = this.data.filter((place) => !wanted.includes(place) && !this.ownWatches.includes(place));
-    const come = wanted.filter((place) => !this.data.includes(place) && !this.ownWatches.includes(place));
-    const lines = [...gone.map((place) => `unwatch ${place}\n`), ...come.map((place) => `watch ${place}\n`)].join("");
-    if (lines) await this.session.debugger.session.serve(lines, async () => true);
-    this.data = wanted;
-    const now = watchesOf(this.session);
-    return places.map((place, at) => {
-      const verified = now.includes(place);
-      return { verified, ...(verified ? {} : { message: say.notWatched(asked[at]) }) };
+    const { board } = this.session.debugger.session.lookQuestions;
+    this.data = listOf(args, "breakpoints").map((given) => {
+      const name = needText(given, "dataId");
+      const { from, words } = fromOf(textOrNone(given, "hitCondition"));
+      const place = watchablePlace(name, board);
+      const access = textOrNone(given, "accessType") || "write";
+      this.made += 1;
+      const wrong = !place ? say.notWatched(name) : access !== "write" ? say.ONLY_CHANGES : words;
+      return { id: this.made, name: place ? place.name : name, condition: textOrNone(given, "condition"), from, words: wrong };
     });
+    const faults = await this.applyData();
+    return this.data.map(({ id, words }) => {
+      const message = words || faults.get(id) || "";
+      return { id, verified: message === "", ...(message ? { message } : {}) };
+    });
+  }
+
+  /**
+   * These are the places whose changes stop time from here on. The bench watches as many characters of RAM as it can; the others are found
+   * ahead. Gives why some cannot be, by their ids.
+   */
+  async applyData() {
+    const { session, ownWatches } = this;
+    const right = this.data.filter(({ words }) => words === "");
+    const free = MOST_DATA - ownWatches.length;
+    const plain = right.filter(({ name, condition, from }) => watchOf(name) !== "" && condition.trim() === "" && from === 1);
+    const watched = [...new Set(plain.map(({ name }) => watchOf(name)))].filter((place) => !ownWatches.includes(place)).slice(0, free);
+    const gone = this.watched.filter((place) => !watched.includes(place));
+    const come = watched.filter((place) => !this.watched.includes(place));
+    const lines = [...gone.map((place) => `unwatch ${place}\n`), ...come.map((place) => `watch ${place}\n`)].join("");
+    if (lines) await session.debugger.session.serve(lines, async () => true);
+    this.watched = watched;
+    const now = watchesOf(session);
+    return session.debugger.setWatches(right.filter((each) => !plain.includes(each) || !now.includes(watchOf(each.name))), session.names);
+  }
+
+  // --- common mistakes ---
+
+  /** @param {any} args */
+  setFaults(args) {
+    const plain = listOf(args, "filters").map((kind) => ({ kind: String(kind), condition: "" }));
+    const options = listOf(args, "filterOptions").map((given) => (
+      { kind: needText(given, "filterId"), condition: textOrNone(given, "condition") }));
+    this.faults = [...plain, ...options];
+    return this.applyFaults();
+  }
+
+  /** Time stops at these from here on. One whose condition has an error stops each time. */
+  applyFaults() {
+    const { session, faults } = this;
+    const { usual } = session.debugger;
+    usual.stops = new Set();
+    usual.conditions = new Map();
+    const told = faults.map(({ kind, condition: text }) => {
+      if (!Object.prototype.hasOwnProperty.call(KINDS, kind)) return { verified: false, message: say.noFilter(kind) };
+      const own = /** @type {KindOfFault} */ (kind);
+      const isAlways = text.trim() === "";
+      const { condition, fault, column } = isAlways ? { condition: null, fault: "", column: -1 } : conditionOf(text, session.names);
+      usual.stops.add(own);
+      if (condition) usual.conditions.set(own, condition);
+      return fault ? { verified: false, message: stopsEachTime(inColumn(fault, column)) } : { verified: true };
+    });
+    // All instructions are looked at only where so many cycles are done at once.
+    if (session.largestPiece >= CYCLES_OF_CALL) session.largestPiece = usual.stops.size > 0 ? CYCLES_OF_CALL : LARGEST_PIECE;
+    return told;
   }
 
   /** Those that the session has beside the client's are its own. */
@@ -229,7 +306,7 @@ export class ClientBreakpoints {
     const { lines, labels, addresses } = this.wanted;
     const ofClient = new Set([...lines, ...labels, ...addresses].map(({ address }) => address));
     this.own = this.session.debugger.session.breaks.filter((address) => !ofClient.has(address));
-    this.ownWatches = watchesOf(this.session).filter((place) => !this.data.includes(place));
+    this.ownWatches = watchesOf(this.session).filter((place) => !this.watched.includes(place));
   }
 
   /** The session has the breakpoints and watches that it had before, and no other. */
@@ -264,18 +341,11 @@ export function watchOf(name) {
 }
 
 /**
- * What the client calls a character that can be watched, and how; null where a variable is none.
+ * What the client calls a place whose changes can stop time, and how; null where a variable is none.
  * @param {string} name
  * @param {DebugSession} session
  */
 export function dataOf(name, session) {
-  const place = placeOf(name);
-  const board = readBoard(session.debugger.session.lookQuestions.board);
-  const isThere = place !== null && watchOf(name) !== "" && place.probesOn(board).length > 0;
-  return isThere && place ? { dataId: place.name, description: say.changes(place.name) } : null;
-}
-
-/** @param {number} address */
-export function referenceOf(address) {
-  return `0x${hex(address, 3)}`;
+  const place = watchablePlace(name, session.debugger.session.lookQuestions.board);
+  return place ? { dataId: place.name, description: say.changes(place.name), canPersist: true } : null;
 }

@@ -20,6 +20,9 @@ import { noKey } from "../../words/testing.js";
  *
  * What came of a line: words, whether the machine is another one now, and a move that begins once they are told.
  * @typedef {{ words: string, changes: boolean, move: (() => void) | null }} Done
+ *
+ * Says between pieces whether to go on; where it does not, no line is done.
+ * @typedef {(done: number) => Promise<boolean>} GoesOn
  */
 
 /** What a line begins with. */
@@ -55,9 +58,11 @@ export class Console {
 
   /**
    * @param {string} text
+   * @param {GoesOn} [goesOn]
+   * @param {import("./number_format.js").Base} [base] of numbers
    * @returns {Promise<Done>}
    */
-  async take(text) {
+  async take(text, goesOn, base) {
     const line = text.trim();
     if (line.length > LONGEST) fail(say.tooLong(LONGEST));
     const [word, ...rest] = line.split("\n")[0].split(/[ \t]+/);
@@ -67,15 +72,18 @@ export class Console {
     if (word === "keys" && rest.length > 0) return this.typeKeys(rest);
     if (word === "until" || word === "change" || word === "back" || word === "forward") return this.moveTo(word, rest);
     if (word === "set" && !line.includes("\n")) return this.served(linesOfSet(line.slice("set".length), this.session));
-    if (word === "set") return this.serve(line);
+    if (word === "set") return this.serve(line, goesOn);
     // No line of the bench compares.
-    return FORMS.has(word) && !COMPARES.test(line) ? this.serve(line) : this.valueOf(line);
+    return FORMS.has(word) && !COMPARES.test(line) ? this.serve(line, goesOn) : this.valueOf(line, base);
   }
 
-  /** @param {string} line */
-  valueOf(line) {
+  /**
+   * @param {string} line
+   * @param {import("./number_format.js").Base} [base] of numbers
+   */
+  valueOf(line, base) {
     try {
-      return told(valueOfExpression(line, this.known));
+      return told(valueOfExpression(line, this.known, base));
     } catch (thrown) {
       return fail(say.seeHelp(wordsOf(thrown)));
     }
@@ -160,26 +168,28 @@ export class Console {
 
   /**
    * @param {string} line
+   * @param {GoesOn} [goesOn]
    * @returns {Promise<Done>}
    */
-  async serve(line) {
+  async serve(line, goesOn) {
     const { lines, words } = putNames(`${line}\n`, this.session.map);
     if (words) fail(words);
     const kinds = readInputs(lines).map(({ kind }) => kind);
     if (kinds.length > MOST_INPUTS) fail(say.tooManyLines(MOST_INPUTS));
     if (this.machine.isMoving && kinds.some((kind) => RUNS.has(kind))) fail(say.TIME_RUNS);
     if (kinds.every(isQuestion)) return told(this.session.debugger.session.ask(lines).join("\n"));
-    const done = await this.served(lines);
+    const done = await this.served(lines, goesOn);
     if (kinds.some((kind) => BREAKS.has(kind))) this.calls.breaksChanged();
     return done;
   }
 
   /**
    * @param {string} lines
+   * @param {GoesOn} [goesOn]
    * @returns {Promise<Done>}
    */
-  async served(lines) {
-    const { entries, touchesRom, tally, words: stopWords } = await this.session.serve(lines);
+  async served(lines, goesOn) {
+    const { entries, touchesRom, tally, words: stopWords } = await this.session.serve(lines, goesOn);
     if (touchesRom) this.calls.romChanged();
     const answers = entries.flatMap((entry) => entry.answers);
     const words = answers.map((answer) => {

@@ -18,6 +18,8 @@ export class AdapterError extends Error {
 
 /** The word of the protocol for what is asked while time runs. */
 export const NOT_STOPPED = "notStopped";
+/** The word of the protocol for the answer to a request that the client has cancelled. */
+export const CANCELLED = "cancelled";
 
 /**
  * @param {string} words

@@ -4,22 +4,24 @@
 //     const adapter = new DebugAdapter(new AdapterConnection(write), engine, dataOfPage, host);   (launching.js says what a host gives)
 //     connection.take(bytes) ..; await adapter.leave() where the client has gone
 
-import { LAST_ADDRESS, hex } from "../bench/numbers.js";
 import { Face } from "../board/face.js";
 import { instructionOfLine } from "../debug/breakpoints.js";
 import { KINDS } from "../../words/debug.js";
-import { NO_CALL_WAITS, stoppedAt } from "../../words/stops.js";
+import { stoppedAt } from "../../words/stops.js";
 import { instructionsOf } from "../help/manual.js";
 import { fieldOf } from "../server/framing.js";
 import { Words } from "../bench/words.js";
 import { Followed } from "./adapter_connection.js";
 import { Answering } from "./answering.js";
-import { ClientBreakpoints, dataOf, referenceOf } from "./client_breakpoints.js";
+import { ClientBreakpoints, dataOf } from "./client_breakpoints.js";
 import { Console, addressOf } from "./console.js";
-import { differenceWords, launch } from "./launching.js";
+import { attach, differenceWords, launch } from "./launching.js";
 import { Machine } from "./debugged_machine.js";
-import { framesOf } from "./frames.js";
-import { AdapterError, NOT_STOPPED, fail, listOf, needNumber, needText, textOrNone } from "./dap_protocol.js";
+import { referenceOf } from "./memory.js";
+import { Moves, THREAD } from "./move_requests.js";
+import { baseOf } from "./number_format.js";
+import { Progress } from "./progress.js";
+import { NOT_STOPPED, fail, listOf, needNumber, needText, textOrNone } from "./dap_protocol.js";
 import { Scopes } from "./scopes.js";
 import { ShownBoard, changeKey } from "./shown_board.js";
 import * as say from "../../words/adapter.js";
@@ -30,13 +32,11 @@ import * as say from "../../words/adapter.js";
  * @typedef {import("./launching.js").Host} Host
  * @typedef {import("./launching.js").Launched} Launched
  * @typedef {import("./debugged_machine.js").Ended} Ended
- * @typedef {import("../debug/usual_faults.js").Kind} Kind
  *
  * What is there once a session is launched.
  * @typedef {{ launched: Launched, machine: Machine, breakpoints: ClientBreakpoints, console: Console, answering: Answering }} Open
  */
 
-const THREAD = 1;
 const CAPABILITIES = {
   supportsConfigurationDoneRequest: true,
   supportsFunctionBreakpoints: true,
@@ -60,7 +60,16 @@ const CAPABILITIES = {
   supportsLoadedSourcesRequest: true,
   supportsTerminateRequest: true,
   supportsExceptionInfoRequest: true,
-  exceptionBreakpointFilters: Object.entries(KINDS).map(([filter, label]) => ({ filter, label, default: false })),
+  supportsExceptionFilterOptions: true,
+  supportsStepInTargetsRequest: true,
+  supportsRestartFrame: true,
+  supportsCancelRequest: true,
+  supportsValueFormattingOptions: true,
+  supportsDelayedStackTraceLoading: true,
+  supportsClipboardContext: true,
+  completionTriggerCharacters: [" ", "@", "."],
+  exceptionBreakpointFilters: Object.entries(KINDS).map(([filter, label]) => (
+    { filter, label, default: false, supportsCondition: true, conditionDescription: say.CONDITION_OF_FAULT })),
 };
 
 export class DebugAdapter {
@@ -76,9 +85,13 @@ export class DebugAdapter {
     this.host = host;
     this.words = new Words(refusals);
     this.instructions = instructionsOf(manual);
-    /** How the client counts lines, and whether it can be told that values are others. */
+    /** How the client counts lines and columns, and which events it takes. */
     this.firstLine = 1;
+    this.firstColumn = 1;
     this.takesInvalidated = false;
+    this.takesMemory = false;
+    this.progress = new Progress((event, body) => connection.tell(event, body));
+    this.moves = new Moves(this);
     /** @type {Open | null} */
     this.open = null;
     this.isConfigured = false;
@@ -88,7 +101,8 @@ export class DebugAdapter {
     this.ended = null;
     /** @type {ShownBoard | null} where the client draws the board */
     this.shownBoard = null;
-    connection.requests = { ...this.lifeRequests(), ...this.breakpointRequests(), ...this.moveRequests(), ...this.askRequests() };
+    connection.requests = { ...this.lifeRequests(), ...this.breakpointRequests(), ...this.moves.table(), ...this.askRequests() };
+    connection.stopWork = (id) => this.progress.stop(id);
   }
 
   /** @returns {Open} */
@@ -102,13 +116,17 @@ export class DebugAdapter {
   lifeRequests() {
     return {
       initialize: (args) => {
-        this.firstLine = fieldOf(args, "linesStartAt1") === false ? 0 : 1;
-        this.takesInvalidated = fieldOf(args, "supportsInvalidatedEvent") === true;
         if (textOrNone(args, "pathFormat") === "uri") fail(say.PATHS_ONLY);
+        this.firstLine = fieldOf(args, "linesStartAt1") === false ? 0 : 1;
+        this.firstColumn = fieldOf(args, "columnsStartAt1") === false ? 0 : 1;
+        this.takesInvalidated = fieldOf(args, "supportsInvalidatedEvent") === true;
+        this.takesMemory = fieldOf(args, "supportsMemoryEvent") === true;
+        this.progress.isOn = fieldOf(args, "supportsProgressReporting") === true;
         return CAPABILITIES;
       },
-      launch: (args) => this.launch(args),
-      attach: () => fail(say.NOTHING_TO_ATTACH),
+      cancel: (args) => this.connection.cancel(args),
+      launch: (args) => this.launch(args, launch),
+      attach: (args) => this.launch(args, attach),
       configurationDone: () => {
         const { launched } = this.there;
         if (this.isConfigured) fail(say.CONFIGURED_ONCE);
@@ -127,21 +145,26 @@ export class DebugAdapter {
     };
   }
 
-  /** @param {any} args */
-  async launch(args) {
+  /**
+   * @param {any} args
+   * @param {typeof launch} act `launch` or `attach`
+   */
+  async launch(args, act) {
     if (this.open) fail(say.LAUNCH_ONCE);
-    await this.begin(await launch(this.engine, args, this.host, this.words));
+    await this.begin(await act(this.engine, args, this.host, this.words));
     return new Followed(undefined, () => this.connection.tell("initialized"));
   }
 
   /** @param {Launched} launched */
   async begin(launched) {
     const { session } = launched;
+    /** @type {Machine} */
     const machine = new Machine(session, launched.kept, {
       stopped: (ended) => this.stopped(ended),
       output: (words, category) => this.output(words, category),
       pause: this.host.pause,
       looked: () => this.tellBoard(),
+      work: (title) => this.progress.begin(title, () => machine.pause()),
     }, launched.isRealTime);
     const breakpoints = new ClientBreakpoints(session);
     await breakpoints.apply();
@@ -150,7 +173,7 @@ export class DebugAdapter {
     const lines = new Console(machine, known, this.words, {
       breaksChanged: () => breakpoints.takeOwn(), romChanged: () => this.tellRom(launched),
     });
-    const answering = new Answering(launched, new Scopes(session, face), known, this.firstLine);
+    const answering = new Answering(launched, new Scopes(session, face), known, this);
     this.open = { launched, machine, breakpoints, console: lines, answering };
     if (this.shownBoard) this.shownBoard = new ShownBoard(machine);
     this.tellBoard();
@@ -164,7 +187,8 @@ export class DebugAdapter {
   }
 
   /**
-   * Begins anew: a session file by a power cycle, else with the texts as they are now.
+   * Begins anew: a session file that is written by a power cycle; one that is read with what it has now; else with the texts as they are
+   * now.
    * @param {any} args
    */
   async restart(args) {
@@ -175,17 +199,11 @@ export class DebugAdapter {
       await machine.stand();
     } else {
       const given = fieldOf(args, "arguments");
-      const { wanted, made } = breakpoints;
-      await this.begin(await launch(this.engine, given === undefined ? this.given(launched) : given, this.host, this.words));
-      Object.assign(this.there.breakpoints, { wanted, made });
-      for (const moved of await this.there.breakpoints.moveWithProgram()) this.tellBreakpoint(moved);
+      const act = launched.isAttached ? attach : launch;
+      await this.begin(await act(this.engine, given === undefined ? launched.args : given, this.host, this.words));
+      for (const moved of await this.there.breakpoints.takeFrom(breakpoints)) this.tellBreakpoint(moved);
     }
     return new Followed(undefined, () => this.stopped(this.standing("entry")));
-  }
-
-  /** @param {Launched} launched */
-  given({ program, board, test }) {
-    return test ? { test: test.name, tests: test.file } : { program, board };
   }
 
   /** Time that runs is stopped. */
@@ -235,10 +253,8 @@ export class DebugAdapter {
         return machine.quietly(async () => ({ breakpoints: await breakpoints.setData(args) }));
       },
       setExceptionBreakpoints: (args) => {
-        const { session } = this.there.launched;
-        const filters = listOf(args, "filters").filter((each) => Object.prototype.hasOwnProperty.call(KINDS, each));
-        session.debugger.usual.stops = new Set(/** @type {Kind[]} */ (filters));
-        return {};
+        const { machine, breakpoints } = this.there;
+        return machine.quietly(() => ({ breakpoints: breakpoints.setFaults(args) }));
       },
       breakpointLocations: (args) => this.locations(args),
     };
@@ -281,7 +297,7 @@ export class DebugAdapter {
     const reference = needNumber(args, "variablesReference", 0);
     const found = reference > 0 ? answering.placeOfVariable(reference, name) : name;
     const data = dataOf(found, launched.session);
-    if (!data) return { dataId: null, description: say.noCharacter(name) };
+    if (!data) return { dataId: null, description: say.notWatched(name) };
     return { ...data, accessTypes: ["write"] };
   }
 
@@ -299,79 +315,6 @@ export class DebugAdapter {
     return { breakpoints: lines };
   }
 
-  // --- moves ---
-
-  /** @returns {Record<string, Act>} */
-  moveRequests() {
-    const move = (/** @type {(machine: Machine) => void} */ act) => (/** @type {any} */ args) => this.follow(args, act);
-    return {
-      continue: (args) => new Followed({ allThreadsContinued: true }, this.follow(args, (machine) => machine.go(null)).after),
-      next: move((machine) => machine.go({ kind: "over" })),
-      stepIn: move((machine) => machine.into()),
-      stepOut: (args) => this.stepOut(args),
-      stepBack: move((machine) => machine.back({ kind: "instruction" })),
-      reverseContinue: move((machine) => machine.back({ kind: "arrival", place: "" })),
-      pause: () => {
-        const { machine } = this.there;
-        return new Followed(undefined, () => machine.pause());
-      },
-      gotoTargets: (args) => this.gotoTargets(args),
-      goto: (args) => this.goto(args),
-    };
-  }
-
-  /**
-   * A move begins once its response is sent.
-   * @param {any} args
-   * @param {(machine: Machine) => void} act
-   */
-  follow(args, act) {
-    this.needStopped();
-    this.needThread(args);
-    const { machine } = this.there;
-    return new Followed(undefined, () => act(machine));
-  }
-
-  /** @param {any} args */
-  stepOut(args) {
-    const follow = this.follow(args, (machine) => machine.go({ kind: "out" }));
-    if (framesOf(this.there.launched.session).length === 1) throw new AdapterError(NO_CALL_WAITS, true);
-    return follow;
-  }
-
-  needStopped() {
-    if (!this.isConfigured) fail(say.CONFIGURED_FIRST);
-    if (this.there.machine.isMoving) fail(NOT_STOPPED);
-  }
-
-  /** @param {any} args */
-  needThread(args) {
-    if (needNumber(args, "threadId", THREAD) !== THREAD) fail(say.ONE_THREAD);
-  }
-
-  /** @param {any} args */
-  gotoTargets(args) {
-    const { session } = this.there.launched;
-    if (!this.there.answering.isProgram(fieldOf(args, "source"))) return { targets: [] };
-    const found = instructionOfLine(needNumber(args, "line") + 1 - this.firstLine, session.map);
-    if (found.address < 0) return { targets: [] };
-    const label = session.map.nameOf(found.address) || hex(found.address, 3);
-    const instructionPointerReference = referenceOf(found.address);
-    return { targets: [{ id: found.address, label, line: found.line - 1 + this.firstLine, instructionPointerReference }] };
-  }
-
-  /** @param {any} args */
-  async goto(args) {
-    this.needStopped();
-    this.needThread(args);
-    const { machine, launched } = this.there;
-    const address = needNumber(args, "targetId");
-    if (!(address >= 0 && address <= LAST_ADDRESS)) fail(say.NO_TARGET);
-    await launched.session.debugger.session.serve(`poke pc ${address}\n`, async () => true);
-    await machine.stand();
-    return new Followed(undefined, () => this.stopped(this.standing("goto")));
-  }
-
   // --- what is asked ---
 
   /** @returns {Record<string, Act>} */
@@ -384,13 +327,13 @@ export class DebugAdapter {
     return {
       threads: () => ({ threads: [{ id: THREAD, name: "4004" }] }),
       stackTrace: standing((answering, args) => answering.stackTrace(args)),
-      scopes: standing((answering) => answering.scopesOfFrame()),
+      scopes: standing((answering, args) => answering.scopesOfFrame(args)),
       variables: standing((answering, args) => answering.variables(args)),
       setVariable: standing(async (answering, args) => this.changed(await answering.setVariable(args))),
       setExpression: standing(async (answering, args) => this.changed(await answering.setExpression(args))),
       disassemble: standing((answering, args) => answering.disassemble(args, (reference) => this.addressIn(reference))),
-      readMemory: standing((answering, args) => answering.readMemory(args)),
-      writeMemory: standing(async (answering, args) => this.changed(await answering.writeMemory(args))),
+      readMemory: standing((answering, args) => answering.readMemory(args, (reference) => this.addressIn(reference))),
+      writeMemory: standing((answering, args) => this.writeMemory(answering, args)),
       completions: (args) => this.there.answering.completions(args),
       loadedSources: () => ({ sources: [this.there.answering.source] }),
       source: (args) => this.there.answering.sourceText(args),
@@ -398,7 +341,7 @@ export class DebugAdapter {
         const { reason, words } = this.ended || { reason: "", words: "" };
         return { exceptionId: reason || "none", description: words, breakMode: "always" };
       },
-      evaluate: (args) => this.evaluate(args),
+      evaluate: (args, asked) => this.evaluate(args, asked),
       pressKey: (args) => this.moveKey("press", args),
       releaseKey: (args) => this.moveKey("release", args),
       watchBoard: () => {
@@ -427,16 +370,34 @@ export class DebugAdapter {
     return result;
   }
 
-  /** @param {any} args */
-  async evaluate(args) {
+  /**
+   * @param {Answering} answering
+   * @param {any} args
+   */
+  async writeMemory(answering, args) {
+    const written = await this.changed(await answering.writeMemory(args, (reference) => this.addressIn(reference)));
+    const { offset, bytesWritten: count } = written;
+    if (!this.takesMemory || count === 0) return written;
+    const memory = { memoryReference: needText(args, "memoryReference"), offset: needNumber(args, "offset", 0) + offset, count };
+    return new Followed(written, () => this.connection.tell("memory", memory));
+  }
+
+  /**
+   * @param {any} args
+   * @param {import("./adapter_connection.js").Asked} asked
+   */
+  async evaluate(args, asked) {
     const { machine, console: lines, answering } = this.there;
-    const expression = needText(args, "expression");
-    const context = textOrNone(args, "context");
-    if (context !== "repl") {
-      return machine.quietly(() => answering.evaluate(expression, context));
-    }
-    const { words, changes, move } = await machine.quietly(() => lines.take(expression));
-    if (move) this.needStopped();
+    const [expression, context, base] = [needText(args, "expression"), textOrNone(args, "context"), baseOf(args)];
+    if (context !== "repl") return machine.quietly(() => answering.evaluate(expression, context, base));
+    const work = this.progress.begin(say.RUNNING_LINES, () => { asked.isCancelled = true; });
+    const goesOn = async (/** @type {number} */ done) => {
+      work.passed(() => say.charactersOf(done, expression.length));
+      await this.host.pause();
+      return !asked.isCancelled;
+    };
+    const { words, changes, move } = await machine.quietly(() => lines.take(expression, goesOn, base)).finally(() => work.end());
+    if (move) this.moves.needStopped();
     const isStanding = !machine.isMoving && this.isConfigured;
     if (changes && !machine.isMoving) await machine.stand();
     return new Followed({ result: words, variablesReference: 0 }, () => {
@@ -498,7 +459,8 @@ export class DebugAdapter {
     if (!open) return;
     this.ended = ended;
     this.tellBoard();
-    const found = ended.reason === "breakpoint" ? open.breakpoints.ofStop(ended.id) : { id: 0, reason: ended.reason };
+    const isOwn = ended.reason === "data breakpoint";
+    const found = ended.reason === "breakpoint" ? open.breakpoints.ofStop(ended.id) : { id: isOwn ? ended.id : 0, reason: ended.reason };
     this.connection.tell("stopped", {
       reason: found.reason, description: ended.words, threadId: THREAD, allThreadsStopped: true,
       ...(found.id > 0 ? { hitBreakpointIds: [found.id] } : {}),

@@ -2,6 +2,7 @@
 // is told once it stops.
 
 import { Cancelled } from "../bench/faults.js";
+import { wordsOfCycles } from "../time/cycles.js";
 import { CYCLE_MS, FRAME_CYCLES } from "../time/mcs4_time.js";
 import { Shown } from "./shown.js";
 import { fail, wordsOf } from "./dap_protocol.js";
@@ -15,6 +16,7 @@ import { stoppedAt } from "../../words/stops.js";
  * @typedef {import("../debug/goals.js").Goal} Goal
  * @typedef {import("../engine/going_back.js").BackGoal} BackGoal
  * @typedef {import("./session_writer.js").KeptSession} KeptSession
+ * @typedef {ReturnType<import("./progress.js").Progress["begin"]>} Work
  *
  * How a move ended: its reason as the protocol has it, the words, and the breakpoint that stopped it, 0 for none.
  * @typedef {{ reason: string, words: string, id: number }} Ended
@@ -29,14 +31,16 @@ import { stoppedAt } from "../../words/stops.js";
  * @property {() => Promise<void>} pause Resolves after other work had its turn; called between the pieces of a move.
  * @property {() => void} looked Reports that time has passed, so what a view shows may be old. Called at most ten times a second while
  *   time runs.
+ * @property {(title: string) => Work} [work] Begins the report of a move, which the client gets if the move is long.
  */
 
 /** @type {Record<string, string>} what the protocol calls why a run stopped */
 const REASONS = {
   goal: "step", break: "breakpoint", watch: "data breakpoint", pause: "pause", lacks: "step", arrival: "pause", beginning: "entry",
+  call: "restart",
 };
 /** @type {Record<string, string>} why time stands where going back has led, by its goal, and by what was met on the way */
-const REACHED = { stop: "pause", arrival: "arrival" };
+const REACHED = { stop: "pause", arrival: "arrival", call: "call" };
 /** @type {Record<string, string>} */
 const MET = { break: "break", change: "watch", beginning: "beginning" };
 /** What is shown is looked at so many milliseconds after it was last. */
@@ -68,23 +72,44 @@ export class Machine {
     this.looked = 0;
     /** @type {Promise<void>} of the move that is under way, or the last one */
     this.move = Promise.resolve();
+    /** @type {Work | null} of the move that is under way, but for time that runs as on a real 4004: somebody looks at that */
+    this.work = null;
   }
 
   // --- moves ---
 
   /** @param {Goal | null} goal null: on to a stop */
   go(goal) {
-    const runs = () => goal === null || this.session.debugger.isMoving;
-    this.begin(() => this.session.go(goal, (done, tally) => this.between(tally, done)), runs);
+    const isOpen = () => goal === null || this.session.debugger.isMoving;
+    const act = () => this.session.go(goal, (done, tally) => this.between(tally, done));
+    this.begin(act, isOpen);
   }
 
   into() {
     this.begin(() => this.session.into(), () => false);
   }
 
+  /**
+   * On to a JMS, and into the subroutine that it calls.
+   * @param {number} address
+   */
+  intoCall(address) {
+    const { session } = this;
+    this.begin(async () => {
+      if (session.address === address) return session.into();
+      const stop = await session.go({ kind: "here", address }, (done, tally) => this.between(tally, done));
+      if (stop.why !== "goal") return stop;
+      this.tellTally(stop.tally, stop.tally.noted - this.noted);
+      return session.into();
+    }, () => session.debugger.isMoving);
+  }
+
   /** @param {BackGoal} goal */
   back(goal) {
-    this.begin(async () => this.wentBack(await this.session.back(goal, () => this.between()), REACHED[goal.kind] || "goal"), () => false);
+    let looked = 0;
+    const between = (/** @type {number} */ more) => this.between(undefined, looked += more);
+    const act = async () => this.wentBack(await this.session.back(goal, between), REACHED[goal.kind] || "goal");
+    this.begin(act, () => false, say.SEARCHING_BACK);
   }
 
   forward() {
@@ -103,14 +128,16 @@ export class Machine {
   /**
    * @param {() => Promise<Pick<Stopped, "why" | "words" | "id"> & { tally: Tally | null }>} act
    * @param {() => boolean} isOpen
+   * @param {string} [title] for people
    */
-  begin(act, isOpen) {
+  begin(act, isOpen, title = say.RUNNING) {
     if (this.isMoving) fail(say.TIME_RUNS_ALREADY);
     this.isMoving = true;
     this.isToPause = false;
     this.isOpen = isOpen;
     this.noted = 0;
     this.begun = performance.now();
+    this.work = this.isRealTime || !this.calls.work ? null : this.calls.work(title);
     this.move = this.run(act);
   }
 
@@ -129,8 +156,12 @@ export class Machine {
       ended = { reason: isPause ? "pause" : "exception", words, id: 0 };
     }
     this.isOpen = () => false;
-    await this.doWaiting();
-    await this.stand();
+    // What comes while the session is kept is done, too: nobody would do it later.
+    do {
+      await this.doWaiting();
+      await this.stand();
+    } while (this.waiting.length > 0);
+    if (this.work) this.work.end();
     this.isMoving = false;
     this.calls.stopped(ended);
   }
@@ -153,10 +184,11 @@ export class Machine {
   /**
    * Between two pieces of work.
    * @param {Tally} [tally] of the last piece
-   * @param {number} [done] cycles of time that runs
+   * @param {number} [done] cycles that were done, or looked through
    */
   async between(tally, done = 0) {
     if (tally) this.tellTally(tally, tally.noted);
+    if (this.work) this.work.passed(() => wordsOfCycles(done));
     if (performance.now() - this.looked >= LOOK_TIME && this.isOpen()) this.tellShown();
     if (this.isRealTime && tally) await this.waitFor(done);
     await this.calls.pause();

@@ -1,7 +1,7 @@
 // ROM as the protocol wants it: instructions around an address, and bytes.
 
-import { readListing, readRam } from "../bench/answers.js";
-import { LAST_ADDRESS, hex, upTo } from "../bench/numbers.js";
+import { readListing } from "../bench/answers.js";
+import { LAST_ADDRESS, upTo } from "../bench/numbers.js";
 import { MOST_LISTED } from "../bench/rom_bytes.js";
 
 /**
@@ -74,22 +74,10 @@ function nothingAt(address) {
 }
 
 /**
- * The bytes of ROM, or the characters of a bank of RAM, at a reference: `0x00D`, `ram.0`.
+ * The bytes of ROM.
  * @param {DebugSession} session
- * @param {string} reference
- * @returns {Uint8Array | null} null where there is no such place
  */
-export function bytesAt(session, reference) {
-  const bank = /^ram\.([0-7])$/.exec(reference);
-  const bench = session.debugger.session;
-  if (!bank) return romBytes(session);
-  const { registers } = readRam(bench.ask(`ram ${bank[1]}\n`));
-  if (registers.size === 0) return null;
-  return Uint8Array.from([...registers.values()].flatMap(({ characters }) => [...characters].map((digit) => parseInt(digit, 16))));
-}
-
-/** @param {DebugSession} session */
-function romBytes(session) {
+export function romBytes(session) {
   const bytes = new Uint8Array(LAST_ADDRESS + 1);
   for (const { address, line } of listed(session, 0, LAST_ADDRESS + 1)) {
     line.slice(4, 9).trim().split(" ").forEach((byte, at) => {
@@ -97,9 +85,4 @@ function romBytes(session) {
     });
   }
   return bytes;
-}
-
-/** @param {number} address */
-export function addressWords(address) {
-  return address < 0 ? `-0x${hex(-address, 3)}` : `0x${hex(address, 3)}`;
 }

@@ -5,6 +5,7 @@ import { expressionOf } from "../conditions/condition_language.js";
 import { placeOf } from "../conditions/places.js";
 import { Standing } from "../debug/standing.js";
 import { textOf, valuesAt } from "../debug/value_words.js";
+import { inBase, numberInBase } from "./number_format.js";
 import { AdapterError } from "./dap_protocol.js";
 import * as say from "../../words/adapter.js";
 import { inColumn } from "../../words/conditions.js";
@@ -13,16 +14,22 @@ import { inColumn } from "../../words/conditions.js";
  * @typedef {import("../debug/debug_session.js").DebugSession} DebugSession
  * @typedef {import("../board/face.js").Face} Face
  * @typedef {import("../help/manual.js").Instruction} Instruction
+ * @typedef {import("./number_format.js").Base} Base
  * @typedef {{ session: DebugSession, face: Face, instructions: Map<string, Instruction>, shown: () => string }} Known `shown` tells what
  *   lamps and displays show
  */
+
+/** Places that `trace` writes as hexadecimal digits, and those that are marks and no numbers; any other is a bit. */
+const OF_DIGITS = /^(acc|dcl|src|r\d+|p\d|ram\.\d\..*|st\..*|rom\d+|ram\d\.\d)$/;
+const OF_MARKS = /^(chain\d|lamps)$/;
 
 /**
  * The value of a place by its name; "" where it is none, or the board lacks it.
  * @param {string} text
  * @param {Known} known
+ * @param {Base} base
  */
-function placeValue(text, { session, face }) {
+function placeValue(text, { session, face }, base) {
   const word = text.replace(/^lamp /, "").trim();
   const lamp = face.lampNumbers.get(word) ?? face.lampNumbers.get(word.replace(/ /g, "_"));
   const name = lamp === undefined ? text : `lamp ${lamp}`;
@@ -30,19 +37,21 @@ function placeValue(text, { session, face }) {
   const value = place ? session.values([name])[0] : "";
   if (value === "" || !place) return "";
   if (place.name.startsWith("lamp ")) return say.lampIs(value === "*");
-  return /^(acc|dcl|src|r\d+|p\d|ram\.\d\..*|st\..*|rom\d+|ram\d\.\d)$/.test(place.name) ? `0x${value}` : value;
+  if (OF_DIGITS.test(place.name)) return inBase(`0x${value}`, base);
+  return OF_MARKS.test(place.name) ? value : numberInBase(Number(value), base);
 }
 
 /**
  * Of the counter with its line, and of what is no place.
  * @param {string} text
  * @param {DebugSession} session
+ * @param {Base} base
  */
-function registerValue(text, session) {
+function registerValue(text, session, base) {
   const word = text.toLowerCase();
   const { registers } = session;
-  if (word === "pc") return `0x${registers.counter}${registers.counter && lineWords(session)}`;
-  return word === "test" || word === "owed" ? registers[word] : "";
+  if (word === "pc") return inBase(`0x${registers.counter}${registers.counter && lineWords(session)}`, base);
+  return word === "test" || word === "owed" ? numberInBase(Number(registers[word]), base) : "";
 }
 
 /** @param {DebugSession} session */
@@ -65,17 +74,19 @@ function nameValue(text, { map }) {
 /**
  * @param {string} text
  * @param {Known} known
+ * @param {Base} [base] of numbers
  */
-export function valueOfExpression(text, known) {
+export function valueOfExpression(text, known, base = "usual") {
   const { session } = known;
   const told = text.trim();
   if (told === "") throw new AdapterError(say.NOTHING_TO_EVALUATE);
   if (told === "display" || told === "lamps") return known.shown();
-  const value = registerValue(told, session) || nameValue(told, session) || placeValue(told, known);
+  const value = registerValue(told, session, base) || inBase(nameValue(told, session), base) || placeValue(told, known, base);
   if (value) return value;
   const { expression, fault, column } = expressionOf(told, session.names);
   if (!expression) throw new AdapterError(inColumn(fault, column));
-  return expression.told(session.debugger.told(expression.places));
+  const answers = session.debugger.told(expression.places);
+  return expression.number && base !== "usual" ? numberInBase(expression.number(answers), base) : expression.told(answers);
 }
 
 /**

@@ -5,17 +5,11 @@ import { areLive, callBefore } from "../machine/returns.js";
 
 /**
  * @typedef {import("../debug/debug_session.js").DebugSession} DebugSession
- * @typedef {{ address: number, line: number, name: string }} Frame `line` is 0 where the program has none there
+ *
+ * `line` is 0 where the program has none there; `call` is the address of the JMS that began the frame, -1 for the outermost one, and
+ * `returns` are the return addresses that waited then, the newest first.
+ * @typedef {{ address: number, line: number, name: string, call: number, returns: string[] }} Frame
  */
-
-/**
- * @param {number} address
- * @param {DebugSession} session
- * @returns {Frame}
- */
-function frameAt(address, { map }) {
-  return { address, line: map.lineOf(address), name: map.nameOf(address) || hex(address, 3) };
-}
 
 /**
  * The newest first.
@@ -27,5 +21,10 @@ export function framesOf(session) {
   const calls = returns.map((address) => callBefore(address));
   const lines = session.debugger.session.ask(calls.map((address) => `list ${address} 1\n`).join(""));
   const live = areLive(returns, lines.map((line) => line.slice(4, 6)), session.map);
-  return [session.address, ...calls.filter((_, at) => live[at])].map((address) => frameAt(address, session));
+  const open = calls.filter((_, at) => live[at]);
+  const { map } = session;
+  return [session.address, ...open].map((address, at) => ({
+    address, line: map.lineOf(address), name: map.nameOf(address) || hex(address, 3), call: at < open.length ? open[at] : -1,
+    returns: returns.slice(at + 1, open.length).map((each) => hex(each, 3)),
+  }));
 }

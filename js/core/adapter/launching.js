@@ -1,6 +1,8 @@
-// What `launch` begins: a session in memory with the texts of a board and a program, or with what a session file has.
+// What `launch` begins: a session in memory with the texts of a board and a program, or with what a session file has; and what `attach`
+// does: a session file as it is, in a copy, unless the user wants it written.
 
 import { refusalOf } from "../bench/answers.js";
+import { BenchRefusal } from "../bench/faults.js";
 import { hex } from "../bench/numbers.js";
 import { DebugSession } from "../debug/debug_session.js";
 import { PROJECT_FILE, readProjectToml } from "../project/project_toml.js";
@@ -22,15 +24,17 @@ import { leadsOut } from "../../words/server.js";
  * @typedef {import("./session_writer.js").OpenFile} OpenFile
  *
  * What the host gives: the whole name of a file, beside a folder where it is not whole; a text, null where none can be read; whether no
- * link leads out of a folder; a program that opens a session file, or makes one by some lines; and a turn for others.
+ * link leads out of a folder; a program that opens a session file, or makes one by some lines; the bytes of one that no program has open;
+ * and a turn for others.
  * @typedef {{ nameOf: (name: string, folder: string) => string, beside: (name: string, other: string) => string,
  *   read: (name: string) => string | null, isThere: (name: string) => boolean, isInside: (name: string, folder: string) => boolean,
- *   open: (name: string) => Promise<OpenFile>, make: (name: string) => Promise<OpenFile>, pause: () => Promise<void> }} Host
+ *   open: (name: string) => Promise<OpenFile>, make: (name: string) => Promise<OpenFile>,
+ *   readSession: (name: string) => Promise<Uint8Array>, pause: () => Promise<void> }} Host
  *
- * What was launched: `program` is the name of its file, "" where its text was made of what stands in ROM.
- * `nameOf` gives the whole name of a file. `test` is the one that is debugged, and `note` what came of it.
+ * What was launched, or attached to, by some arguments: `program` is the name of its file, "" where its text was made of what stands in
+ * ROM. `nameOf` gives the whole name of a file. `test` is the one that is debugged, and `note` what came of it.
  * @typedef {{ session: DebugSession, kept: KeptSession | null, program: string, board: string, stopsOnEntry: boolean, isDebugged: boolean,
- *   isRealTime: boolean, nameOf: (name: string) => string, test: TestTexts | null, note: string }} Launched
+ *   isRealTime: boolean, isAttached: boolean, args: any, nameOf: (name: string) => string, test: TestTexts | null, note: string }} Launched
  *
  * @typedef {import("./launched_test.js").TestTexts} TestTexts
  * @typedef {{ board: string, program: string, session: string, load: boolean, test: TestTexts | null }} Wanted whole names, "" for none
@@ -186,6 +190,27 @@ async function ofFile(engine, wanted, host, words) {
 }
 
 /**
+ * The session that a file has, in memory: the file stays as it is.
+ * @param {Engine} engine
+ * @param {Wanted} wanted
+ * @param {Host} host
+ * @param {Words} words
+ */
+async function ofCopy(engine, wanted, host, words) {
+  const board = wanted.board === "" ? "" : textIn(wanted.board, "#", host);
+  const program = wanted.program === "" ? "" : textIn(wanted.program, ";", host);
+  const file = await host.readSession(wanted.session);
+  try {
+    const session = new DebugSession(engine, { file, board, program: program || sourceOfRom(engine, file) });
+    if (wanted.load && program !== "") await serveText(session, "asm", sentText(program, ";"), wanted.program, words);
+    else if (program !== "") needInRom(session, engine, wanted, words);
+    return { session, kept: null, note: "" };
+  } catch (thrown) {
+    throw thrown instanceof BenchRefusal ? refused(wanted.session, { number: thrown.number, line: 0 }, words) : thrown;
+  }
+}
+
+/**
  * @param {DebugSession} session
  * @param {"wire" | "asm"} word
  * @param {string} text
@@ -234,14 +259,42 @@ function needInRom(session, engine, { program, session: file }, words) {
  */
 export async function launch(engine, args, host, words) {
   const wanted = readWanted(args, host);
-  const { session, kept, note } = wanted.test ? await ofTest(engine, wanted.test, host)
+  const begun = wanted.test ? await ofTest(engine, wanted.test, host)
     : wanted.session === "" ? { session: ofTexts(engine, wanted, host, words), kept: null, note: "" }
       : await ofFile(engine, wanted, host, words);
+  return launchedOf(begun, wanted, args, host);
+}
+
+/**
+ * Attaches to a session file, which has to be there. Without `write` it stays as it is.
+ * @param {Engine} engine
+ * @param {any} args
+ * @param {Host} host
+ * @param {Words} words
+ * @returns {Promise<Launched>}
+ */
+export async function attach(engine, args, host, words) {
+  if (textOrNone(args, "session") === "") throw new AdapterError(say.ATTACH_NEEDS, true);
+  const isWritten = flagOf(args, "write", false);
+  const wanted = readWanted(args, host);
+  if (!host.isThere(wanted.session)) throw new AdapterError(say.noSession(wanted.session), true);
+  const begun = isWritten ? await ofFile(engine, wanted, host, words) : await ofCopy(engine, wanted, host, words);
+  return { ...launchedOf(begun, wanted, args, host), isAttached: true };
+}
+
+/**
+ * @param {{ session: DebugSession, kept: KeptSession | null, note: string }} begun
+ * @param {Wanted} wanted
+ * @param {any} args
+ * @param {Host} host
+ * @returns {Launched}
+ */
+function launchedOf({ session, kept, note }, { program, board, test }, args, host) {
   if (session.boardText === "") session.boardText = session.debugger.session.ask("board\n").slice(1).join("\n");
   session.debugger.usual.map = session.map;
   return {
-    session, kept, program: wanted.program, board: wanted.board, stopsOnEntry: flagOf(args, "stopOnEntry", true),
-    isDebugged: fieldOf(args, "noDebug") !== true, isRealTime: flagOf(args, "realTime", false),
-    nameOf: (name) => host.nameOf(name, textOrNone(args, "cwd")), test: wanted.test, note,
+    session, kept, test, note, program, board, stopsOnEntry: flagOf(args, "stopOnEntry", true),
+    isDebugged: fieldOf(args, "noDebug") !== true,
+    isRealTime: flagOf(args, "realTime", false), isAttached: false, args, nameOf: (name) => host.nameOf(name, textOrNone(args, "cwd")),
   };
 }

@@ -5,6 +5,8 @@ import { hex, upTo } from "../bench/numbers.js";
 import { keysOf } from "../board/board_keys.js";
 import { KeysDown, textOfKey } from "../board/key_place.js";
 import { Standing, wordsOfCharacter } from "../debug/standing.js";
+import { numberOfPlace, referenceOf, referenceOfBank } from "./memory.js";
+import { inBase, numberInBase } from "./number_format.js";
 import { setPlace } from "./set_place.js";
 import * as say from "../../words/adapter.js";
 import { sourceOfBank } from "../../words/debug.js";
@@ -14,9 +16,11 @@ import { sourceOfBank } from "../../words/debug.js";
  * @typedef {import("../board/face.js").Face} Face
  *
  * A value with its name, what evaluates to it, and a reference to what is inside it, 0 for nothing. `place`: what set_place.js sets it by,
- * "" where nothing does; `memory`: where it stands for who reads memory.
+ * "" where nothing does; `memory`: where it is for who reads memory; `isDecimal`: its value is a decimal number; `watched`: the place whose
+ * changes can stop time.
  * @typedef {{ name: string, value: string, evaluateName?: string, place: string, inside: number, count?: number,
- *   memory?: string }} Variable
+ *   memory?: string, isDecimal?: boolean, watched?: string }} Variable
+ * @typedef {import("./number_format.js").Base} Base
  *
  * @typedef {{ standing: Standing, face: Face, session: DebugSession, board: import("../bench/answers.js").Board }} Seen
  */
@@ -38,13 +42,30 @@ function variable(name, value, place = "") {
   return { name, value, place, inside: 0, ...(place ? { evaluateName: place } : {}) };
 }
 
+/**
+ * @param {string} name
+ * @param {string} value a decimal number
+ * @param {string} [place]
+ * @returns {Variable}
+ */
+const decimal = (name, value, place) => ({ ...variable(name, value, place), isDecimal: true });
+
+/**
+ * A place that is shown, and that nothing sets.
+ * @param {string} name
+ * @param {string} value
+ * @param {string} place
+ * @returns {Variable}
+ */
+const shown = (name, value, place) => ({ ...variable(name, value), evaluateName: place, watched: place });
+
 /** @param {Seen} seen */
 function registers({ standing: { registers: all } }) {
   const { accumulator, carry, counter, bank, test, owed } = all;
   return [
-    variable("acc", told(accumulator), "acc"), variable("cy", carry, "cy"),
+    variable("acc", told(accumulator), "acc"), decimal("cy", carry, "cy"),
     { ...variable("pc", told(counter), "pc"), memory: told(counter) },
-    variable("dcl", told(bank), "dcl"), variable("test", test, "test"), variable("owed", owed),
+    variable("dcl", told(bank), "dcl"), decimal("test", test, "test"), decimal("owed", owed),
     ...all.registers.map((value, at) => variable(`R${at}`, told(value), `r${at}`)),
   ];
 }
@@ -58,7 +79,7 @@ function pairs({ standing }) {
 function banks({ standing }) {
   return [...standing.ram].map(([bank, { registers: all }]) => (
     { ...variable(`bank ${bank}`, say.chipsOf(all.size / 4, bank === standing.bank)),
-      inside: BANK + bank, count: all.size, memory: `ram.${bank}` }));
+      inside: BANK + bank, count: all.size, memory: referenceOfBank(bank) }));
 }
 
 /**
@@ -69,10 +90,14 @@ function registersOfBank({ standing }, bank) {
   const ram = standing.ram.get(bank);
   return [...(ram ? ram.registers : [])].map(([name, { characters: digits, status }]) => {
     const [, chip, register] = name.split(".").map(Number);
+    const at = 4 * chip + register;
     return { ...variable(say.chipRegister(chip, register), `${digits} ${status}`),
-      inside: REGISTER + 16 * bank + 4 * chip + register, count: 20 };
+      inside: REGISTER + 16 * bank + at, count: 20, memory: memoryOf(`ram.${bank}.${16 * at}`) };
   });
 }
+
+/** @param {string} place a character of RAM */
+const memoryOf = (place) => referenceOf(numberOfPlace(place));
 
 /**
  * The characters of a register, each with a name of the program's that has its number, and its status characters.
@@ -88,9 +113,14 @@ function characters({ standing, session }, bank, register) {
     ...[...found.characters].map((value, at) => {
       const byte = register * 16 + at;
       const named = constants.filter((each) => each.value === byte && byte > 15).map(({ name }) => name);
-      return variable(`0x${hex(byte, 2)}${named.length > 0 ? ` ${named.join(" ")}` : ""}`, told(value), `ram.${bank}.0x${hex(byte, 2)}`);
+      const place = `ram.${bank}.0x${hex(byte, 2)}`;
+      const name = `0x${hex(byte, 2)}${named.length > 0 ? ` ${named.join(" ")}` : ""}`;
+      return { ...variable(name, told(value), place), memory: memoryOf(place) };
     }),
-    ...[...found.status].map((value, at) => variable(`status ${at}`, told(value), `st.${bank}.${register}.${at}`)),
+    ...[...found.status].map((value, at) => {
+      const place = `st.${bank}.${register}.${at}`;
+      return { ...variable(`status ${at}`, told(value), place), memory: memoryOf(place) };
+    }),
   ];
 }
 
@@ -101,10 +131,9 @@ function ports({ standing, face }) {
   const { roms, chains, sources } = standing.ports;
   const rams = [...standing.ram].flatMap(([bank, ram]) => [...ram.ports].map(([name, out]) => ({ bank, name, out })));
   return [
-    ...roms.map(({ chip, out, in: read }) => (
-      { ...variable(named(`rom${chip}`), `out ${told(out)}, in ${told(read)}`), evaluateName: `rom${chip}` })),
-    ...rams.map(({ name, out }) => ({ ...variable(named(`ram${name}`), `out ${told(out)}`), evaluateName: `ram${name}` })),
-    ...chains.map((bits, at) => variable(named(`chain${at}`), bits)),
+    ...roms.map(({ chip, out, in: read }) => shown(named(`rom${chip}`), `out ${told(out)}, in ${told(read)}`, `rom${chip}`)),
+    ...rams.map(({ name, out }) => shown(named(`ram${name}`), `out ${told(out)}`, `ram${name}`)),
+    ...chains.map((bits, at) => shown(named(`chain${at}`), bits, `chain${at}`)),
     ...sources.map((source) => sourceOf(source)),
   ];
 }
@@ -121,7 +150,7 @@ function lamps({ session, face, board }) {
   const marks = readMarks(session.debugger.session.ask("lamps\n")[0]).join("");
   return board.lamps.map((line, at) => {
     const name = (face.lamps.get(at) || { text: "" }).text.replace(/_/g, " ");
-    return { ...variable(name || `lamp ${at}`, say.lampIs(marks[at] === "*")), evaluateName: `lamp ${at}` };
+    return shown(name || `lamp ${at}`, say.lampIs(marks[at] === "*"), `lamp ${at}`);
   });
 }
 
@@ -180,9 +209,17 @@ export class Scopes {
   /**
    * What is inside a reference; null where there is none of this number.
    * @param {number} reference
+   * @param {Base} [base] of numbers
    * @returns {Variable[] | null}
    */
-  variables(reference) {
+  variables(reference, base = "usual") {
+    const all = this.inside(reference);
+    return all && all.map((each) => (
+      { ...each, value: each.isDecimal ? numberInBase(Number(each.value), base) : inBase(each.value, base) }));
+  }
+
+  /** @param {number} reference */
+  inside(reference) {
     const { seen } = this;
     if (Object.prototype.hasOwnProperty.call(SCOPES, reference)) return SCOPES[reference].of(seen);
     if (reference >= BANK && reference < BANK + 8) return registersOfBank(seen, reference - BANK);
@@ -195,13 +232,14 @@ export class Scopes {
    * @param {number} reference
    * @param {string} name
    * @param {string} value
+   * @param {Base} base of numbers
    */
-  async set(reference, name, value) {
+  async set(reference, name, value, base) {
     const found = (this.variables(reference) || []).find((each) => each.name === name);
     if (!found) throw new Error(say.noneHere(name));
     if (found.place === "") throw new Error(say.nothingSets(name));
     await setPlace(this.session, found.place, value);
-    const now = (this.variables(reference) || []).find((each) => each.name === name);
+    const now = (this.variables(reference, base) || []).find((each) => each.name === name);
     return now ? now.value : value;
   }
 }

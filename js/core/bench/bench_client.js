@@ -23,6 +23,13 @@ import { WorkerDied, unpackFault } from "./faults.js";
  * @typedef {{ frame: (frame: Frame) => void, failed: (fault: Error) => void, died: () => void }} Listener
  */
 
+/**
+ * What makes the requests of some parts: each user declares the parts that it needs.
+ * @template Part
+ * @typedef {{ call<Name extends CallName & keyof Part>(call: Name, words: Parameters<Requests[Name]>, ways?: Ways):
+ *   Promise<Awaited<ReturnType<Requests[Name]>>> }} Caller
+ */
+
 /** A worker is asked for a sign of life so often, in milliseconds, while it owes something. */
 const WATCH_TIME = 1000;
 /** After so many times without one it counts as dead. */
@@ -48,6 +55,8 @@ export class Bench {
     this.silent = 0;
     /** Whether frames come without being asked for. */
     this.isRunning = false;
+    /** Whether its worker may be silent for as long as it likes: a question to the prover is one piece. */
+    this.isPatient = false;
     /** How many bytes a session file has. */
     this.size = 0;
     /** @type {ArrayBuffer[]} arrays that files came in, which go back with the next request */
@@ -148,7 +157,7 @@ export class Bench {
 
   /** Looks whether a worker that owes something still lives. Counted in looks, not in time: a machine may sleep. */
   watch() {
-    if (this.waiting.size === 0 && !this.isRunning) {
+    if (this.isPatient || (this.waiting.size === 0 && !this.isRunning)) {
       this.silent = 0;
       return;
     }

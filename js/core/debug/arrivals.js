@@ -16,8 +16,10 @@ import { cyclesOfLine } from "./ahead.js";
  * @typedef {{ id: number, cycles: number, words: string }} Logged a note, after so many cycles
  *
  * What was seen ahead: after how many cycles a breakpoint stops, and which one; -1 where none does. The hits of each breakpoint, the
- * notes, at most the last ones, and how many there were.
- * @typedef {{ cycles: number, id: number, hits: Map<number, number>, notes: Logged[], noted: number }} Seen
+ * notes, at most the last ones, and how many there were. `why` is "watch" where a change of a place stops, which `change` has in words;
+ * `changes` counts the changes of each (data_watches.js).
+ * @typedef {{ cycles: number, id: number, hits: Map<number, number>, notes: Logged[], noted: number, why: "break" | "watch",
+ *   change: string, changes: Map<number, number> }} Seen
  */
 
 /** So many runs are asked for at once. */
@@ -27,7 +29,7 @@ export const MOST_NOTES = 200;
 
 /** @returns {Seen} */
 export function nothingSeen() {
-  return { cycles: -1, id: 0, hits: new Map(), notes: [], noted: 0 };
+  return { cycles: -1, id: 0, hits: new Map(), notes: [], noted: 0, why: "break", change: "", changes: new Map() };
 }
 
 export class Arrivals {

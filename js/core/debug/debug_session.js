@@ -38,7 +38,7 @@ import * as say from "../../words/debug.js";
 
 const FIRST_PIECE = 50000;
 /** What is done again for a step back is no more than a piece (engine/timeline.js). */
-const LARGEST_PIECE = 500000;
+export const LARGEST_PIECE = 500000;
 
 /** @type {GoesOn} */
 const always = async () => true;
@@ -141,8 +141,8 @@ export class DebugSession {
     const { found, tally } = await debug.goOn(goal, nearOf(goal), goesOn);
     this.breakpoints.count(tally.hits);
     if (debug.isMoving) return this.runOn(goal, goesOn);
-    const { cycles, isReached, end, id, returns } = found;
-    return this.stopped(goal, { why: isReached ? "goal" : end, cycles, id, returns }, tally);
+    const { cycles, isReached, end, id, returns, change } = found;
+    return this.stopped(goal, { why: isReached ? "goal" : end, cycles, id, returns, change }, tally);
   }
 
   /**
@@ -188,7 +188,8 @@ export class DebugSession {
    * @returns {Stopped}
    */
   stopped(goal, stop, tally) {
-    return { ...stop, words: wordsOfStop(goal, stop, this.counterWords, this.wordsOfBreakpoint(stop.id)), tally };
+    const when = stop.why === "break" ? this.wordsOfBreakpoint(stop.id) : "";
+    return { ...stop, words: wordsOfStop(goal, stop, this.counterWords, when), tally };
   }
 
   /**
@@ -229,12 +230,13 @@ export class DebugSession {
   /**
    * Serves lines that were typed; a run among them ends at each breakpoint that it comes to. `words` say so where one ended the last line.
    * @param {string} lines
+   * @param {(done: number) => Promise<boolean>} [goesOn] is told how many characters are done, and says whether to go on: else nothing is
    */
-  async serve(lines) {
-    const { told, typed: { id, cut, cycles, tally } } = await this.debugger.serveTyped(lines, always);
+  async serve(lines, goesOn = always) {
+    const { told, typed: { id, why, change, cut, cycles, tally } } = await this.debugger.serveTyped(lines, goesOn);
     this.breakpoints.count(tally.hits);
     if (id === 0) return { ...told, tally, words: "" };
-    const { words } = this.stopped(null, { why: "break", id, cycles, returns: false }, tally);
+    const { words } = this.stopped(null, { why, id, cycles, returns: false, change }, tally);
     return { ...told, tally, words: say.lineEnded(words, cut) };
   }
 

@@ -24,8 +24,9 @@ import { CYCLES_PER_SECOND } from "../time/mcs4_time.js";
 import { cyclesToGoal, seek, linesUpTo } from "./ahead.js";
 import { Arrivals, MOST_NOTES, nothingSeen } from "./arrivals.js";
 import { askedOf } from "./becoming.js";
+import { DataWatches, SoftStops, readWatches } from "./data_watches.js";
 import { counterOf, watcherOf } from "./goals.js";
-import { lastArrival } from "./last_arrival.js";
+import { lastArrival, lastCall } from "./last_arrival.js";
 import { isSoft, softBreakpointOf } from "./soft_breakpoints.js";
 import { planTyped } from "./typed_lines.js";
 import { UsualFaults } from "./usual_faults.js";
@@ -34,6 +35,7 @@ import { UsualFaults } from "./usual_faults.js";
  * @typedef {import("./arrivals.js").Logged} Logged
  * @typedef {import("./arrivals.js").Seen} Seen
  * @typedef {import("./arrivals.js").SoftBreakpoint} SoftBreakpoint
+ * @typedef {import("./data_watches.js").WantedWatch} WantedWatch
  * @typedef {import("../conditions/condition_language.js").Names} Names
  * @typedef {import("./goals.js").Found} Found
  * @typedef {import("./goals.js").Goal} Goal
@@ -49,18 +51,19 @@ import { UsualFaults } from "./usual_faults.js";
  * @typedef {(done: number, tally?: Tally) => Promise<boolean>} GoesOn is told how many cycles were looked through, or, of time that runs,
  *   passed, with what breakpoints did in the last of them; it says whether to go on
  *
- * Why time stopped: at its goal, or by the word of an answer ("break", "watch", "code", a refusal). `id`: of the breakpoint, 0 for none;
- * `cycles`: since the move began, or since time runs.
- * @typedef {{ why: string, id: number, cycles: number, returns: boolean }} Stop
+ * Why time stopped: at its goal, or by the word of an answer ("break", "watch", "code", a refusal). `id`: of the breakpoint, or of the
+ * watched place, 0 for none; `change`: what changed there, in words; `cycles`: since the move began, or since time runs.
+ * @typedef {{ why: string, id: number, cycles: number, returns: boolean, change?: string }} Stop
  *
  * What breakpoints did: hits by their ids since it was told last, notes, and how many notes there were; and faults that everyone makes
  * once, as they happened (usual_faults.js).
  * @typedef {{ hits: [number, number][], notes: Logged[], noted: number, usual: UsualFault[] }} Tally
- * Of lines that were typed: where a breakpoint ended the last one, its id and the line, else 0 and ""; the cycles, what breakpoints did.
- * @typedef {{ id: number, cut: string, cycles: number, tally: Tally }} Typed
+ * Of lines that were typed: where a breakpoint ended the last one, its id and the line, else 0 and "", with what Stop has of it; the
+ * cycles, what breakpoints did.
+ * @typedef {{ id: number, why: string, change: string, cut: string, cycles: number, tally: Tally }} Typed
  * @typedef {Frame & { stop: Stop | null, tally: Tally }} DebugFrame
- * @typedef {{ found: Found & { id: number, returns: boolean }, told: (Told & { look: string[] }) | null, tally: Tally }} Went nothing was
- *   told where nothing was done
+ * @typedef {{ found: Found & { id: number, returns: boolean, change?: string }, told: (Told & { look: string[] }) | null,
+ *   tally: Tally }} Went nothing was told where nothing was done
  * @typedef {Omit<Aim, "moment" | "present"> & { isDone: boolean, wires: boolean, cycles: number }} WentBack
  * @typedef {Omit<Aim, "moment" | "present"> & { isFound: boolean, cycles: number, address: number }} LastChange
  */
@@ -101,7 +104,8 @@ export class Debugger {
   /** @param {WorkerSession} session */
   constructor(session) {
     this.session = session;
-    this.arrivals = new Arrivals([]);
+    this.watches = new DataWatches([]);
+    this.arrivals = this.softStops([]);
     this.usual = new UsualFaults(session);
     /** @type {import("../engine/key_queue.js").PlannedLine[] | null} those that are done, and not looked at for faults yet */
     this.unlooked = null;
@@ -140,9 +144,27 @@ export class Debugger {
       return soft;
     });
     this.names = names;
-    this.arrivals = new Arrivals(softs);
+    this.arrivals = this.softStops(softs);
     this.hard = new Map(placed.filter((each) => !isSoft(each)).map(({ id, address }) => [address, id]));
     return { lines: this.breakLines(), faults };
+  }
+
+  /** @param {SoftBreakpoint[]} breakpoints */
+  softStops(breakpoints) {
+    return new SoftStops(new Arrivals(breakpoints), this.watches, () => this.session.codes);
+  }
+
+  /**
+   * The places whose changes stop time from here on, beside the characters that the bench watches; gives why some do not, by their ids.
+   * @param {WantedWatch[]} wanted
+   * @param {Names} names
+   */
+  setWatches(wanted, names) {
+    const hits = new Map(this.watches.watches.map((watch) => [watch.id, watch.hits]));
+    const { watches, faults } = readWatches(wanted, names);
+    this.watches = new DataWatches(watches.map((watch) => ({ ...watch, hits: hits.get(watch.id) || 0 })));
+    this.arrivals = new SoftStops(this.arrivals.arrivals, this.watches, () => this.session.codes);
+    return faults;
   }
 
   /** The lines by which the bench has the breakpoints that always stop, and no other. */
@@ -239,7 +261,9 @@ export class Debugger {
     const cycles = this.session.count.total - this.begun;
     const returns = this.watcher !== null && this.watcher.returns;
     if (toGoal >= 0 && frame.cycles === toGoal) return { why: "goal", id: 0, cycles, returns };
-    if (seen.cycles >= 0 && frame.cycles === seen.cycles) return { why: "break", id: seen.id, cycles, returns: false };
+    if (seen.cycles >= 0 && frame.cycles === seen.cycles) {
+      return { why: seen.why, id: seen.id, cycles, returns: false, change: seen.change };
+    }
     if (!frame.end) return null;
     const run = readRun(frame.end);
     return { why: run ? run.end : frame.end, id: this.idOfStop(run ? run.end : ""), cycles, returns: false };
@@ -301,7 +325,8 @@ export class Debugger {
       this.watcher = watcher;
       return { found: sought, told: null, tally: NO_TALLY };
     }
-    const found = seen.cycles < 0 ? sought : { cycles: seen.cycles, isReached: false, end: "break", id: seen.id, returns };
+    const { cycles, id, change } = seen;
+    const found = cycles < 0 ? { ...sought, change: "" } : { cycles, isReached: false, end: seen.why, id, returns, change };
     const told = await session.serve(runLines(Math.max(1, found.cycles)), async () => true);
     this.arrivals.count(seen);
     if (!found.isReached && found.id === 0) found.id = this.idOfStop(found.end);
@@ -325,7 +350,8 @@ export class Debugger {
       for (const [id, hits] of seen.hits) all.hits.set(id, (all.hits.get(id) || 0) + hits);
       all.notes = [...all.notes, ...seen.notes.map((note) => ({ ...note, cycles: note.cycles + done }))];
       all.noted += seen.noted;
-      if (seen.cycles >= 0) return { ...all, cycles: done + seen.cycles, id: seen.id };
+      for (const [id, hits] of seen.changes) all.changes.set(id, (all.changes.get(id) || 0) + hits);
+      if (seen.cycles >= 0) return { ...seen, ...all, cycles: done + seen.cycles, id: seen.id, why: seen.why, change: seen.change };
       engine.serve(copy, runLines(piece), copy);
       done += piece;
       if (done < cycles && !(await goesOn(done))) break;
@@ -344,11 +370,11 @@ export class Debugger {
     const before = session.count.total;
     const hits = arrivals.hits;
     try {
-      const { lines: served, runs, id, cut } = await planTyped(session.engine, session.file, arrivals, lines, goesOn);
+      const { lines: served, runs, ...stop } = await planTyped(session.engine, session.file, arrivals, lines, goesOn);
       const told = await session.serve(served, goesOn);
       this.usual.forget();
       const tallies = runs.map(({ seen, done }) => this.tallyOf(seen, null, before + done));
-      return { told, typed: { id, cut, cycles: session.count.total - before, tally: tallies.reduce(bothTallies, NO_TALLY) } };
+      return { told, typed: { ...stop, cycles: session.count.total - before, tally: tallies.reduce(bothTallies, NO_TALLY) } };
     } catch (fault) {
       arrivals.takeBack(hits);
       throw fault;
@@ -379,12 +405,23 @@ export class Debugger {
   async goBack(goal, goesOn) {
     this.begin();
     const { session } = this;
-    const { moment, present: found, ...told } = goal.kind === "arrival" ? await lastArrival(session, this.stopping(), goal.place, goesOn)
-      : await aimBack(session.engine, session, this.readGoal(goal), goesOn);
+    const { moment, present: found, ...told } = await this.aimBack(goal, goesOn);
     if (!moment) return { ...told, isDone: false, wires: false, cycles: 0 };
     const present = found || await session.timeline.at(session.engine, moment, goesOn);
     session.timeline.goBack(moment, session);
     return { ...told, ...this.become(present) };
+  }
+
+  /**
+   * @param {BackGoal} goal
+   * @param {(done?: number) => Promise<boolean>} goesOn
+   * @returns {Promise<Aim>}
+   */
+  async aimBack(goal, goesOn) {
+    const { session, watches } = this;
+    if (goal.kind === "call") return lastCall(session, goal.call, goal.returns, goesOn);
+    if (goal.kind === "arrival") return lastArrival(session, this.stopping(), { place: goal.place, watches }, goesOn);
+    return aimBack(session.engine, session, this.readGoal(goal), goesOn);
   }
 
   /**
@@ -394,7 +431,8 @@ export class Debugger {
   stopping() {
     const hard = this.hard || new Map(this.session.breaks.map((address) => [address, 0]));
     const always = { from: 1, hits: 0, places: [], holds: () => true, words: null };
-    return [...[...hard].map(([address, id]) => ({ ...always, id, address })), ...this.arrivals.breakpoints.filter(({ words }) => !words)];
+    const softs = this.arrivals.arrivals.breakpoints.filter(({ words }) => !words);
+    return [...[...hard].map(([address, id]) => ({ ...always, id, address })), ...softs];
   }
 
   /**

@@ -1,5 +1,6 @@
 // The last arrival at a breakpoint before the present, or the last change of what is watched: the past is done again, block by block, on a
-// copy that has the breakpoints of now. A breakpoint with a note stops nothing; how many hits it is to have is not asked.
+// copy that has the breakpoints of now. A breakpoint with a note stops nothing; how many hits it is to have is not asked. Likewise the last
+// call of a subroutine that is open.
 
 import { readMarks, watchedPlaces } from "../bench/answers.js";
 import { aim, changeFinder, lastInPast } from "../engine/going_back.js";
@@ -18,6 +19,8 @@ import { counterOf } from "./goals.js";
  */
 
 const MARKS = /^(un)?(break|watch) /;
+/** A JMS takes so many cycles. */
+const JMS_CYCLES = 2;
 
 /** Finds the last arrival at a breakpoint whose condition holds. */
 class LastArrival {
@@ -32,6 +35,8 @@ class LastArrival {
     this.now = { total: session.count.total, counter: counterOf(session.ask("regs\n")[0]).counter };
     this.copy = new Uint8Array(0);
     this.total = 0;
+    /** How many cycles were counted where it found something last. */
+    this.foundAt = 0;
   }
 
   /** @param {Present} present */
@@ -64,7 +69,10 @@ class LastArrival {
       arrivals.run(engine, copy, { lines, count, cycles }, (_, row, ran) => {
         const held = arrivals.heldAt(row);
         const isNow = before + ran === now.total && held !== null && held.address === now.counter;
-        if (held && !isNow) found = aim({ moment: { ...moment, cycles: moment.cycles + ran }, end: "break", id: held.id });
+        if (held && !isNow) {
+          found = aim({ moment: { ...moment, cycles: moment.cycles + ran }, end: "break", id: held.id });
+          this.foundAt = before + ran;
+        }
         return false;
       });
       [lines, count] = ["", 0];
@@ -100,22 +108,45 @@ function lastOf(finders) {
 }
 
 /**
+ * What is watched beside what the bench watches: a place, "" for none, and those of data_watches.js.
+ * @typedef {{ place: string, watches?: import("./data_watches.js").DataWatches }} Beside
+ */
+
+/**
  * @param {WorkerSession} session
  * @param {SoftBreakpoint[]} breakpoints those that stop
- * @param {string} place that is watched beside what the bench watches, "" for none
+ * @param {Beside} beside
  * @param {GoesOn} goesOn
  * @returns {Promise<Aim>} the beginning of what is remembered, where nothing else is before now
  */
-export async function lastArrival(session, breakpoints, place, goesOn) {
+export async function lastArrival(session, breakpoints, { place, watches }, goesOn) {
   const { engine, file, timeline } = session;
   const places = [...watchedPlaces(session.ask("watches\n")[0]), ...(place === "" ? [] : [place])];
   const changes = places.map((each) => changeFinder(engine, file, each));
   if (changes.some((each) => each === null)) return aim({ why: "lacks", place });
-  const finders = changes.flatMap((each) => (each ? [each] : []));
+  const finders = [...changes.flatMap((each) => (each ? [each] : [])), ...(watches ? watches.finders(engine) : [])];
   const all = lastOf([...(breakpoints.length > 0 ? [new LastArrival(session, breakpoints)] : []), ...finders]);
   const { found, beginning } = await lastInPast(engine, timeline, all, goesOn);
   if (found) return found;
   const { end } = timeline;
   const isHere = beginning.segment === end.segment && end.entry === 0;
   return isHere ? aim({ why: "short" }) : aim({ moment: beginning, end: "beginning" });
+}
+
+/**
+ * The moment after the JMS that called a subroutine which is open, so that its first instruction comes next.
+ * @param {WorkerSession} session
+ * @param {number} call the address of the JMS
+ * @param {string[]} returns the return addresses that waited when it was done, the newest first
+ * @param {GoesOn} goesOn
+ * @returns {Promise<Aim>}
+ */
+export async function lastCall(session, call, returns, goesOn) {
+  const holds = (/** @type {string[]} */ [told]) => returns.every((each, at) => told.split(",")[at] === each);
+  const finder = new LastArrival(session, [{ id: 0, address: call, from: 1, hits: 0, places: ["ret"], holds, words: null }]);
+  const { found } = await lastInPast(session.engine, session.timeline, finder, goesOn);
+  const back = session.count.total - finder.foundAt - JMS_CYCLES;
+  if (!found || back < 0) return aim({ why: "short" });
+  const moment = back === 0 ? session.timeline.end : session.timeline.before(back);
+  return moment ? aim({ moment }) : aim({ why: "short" });
 }

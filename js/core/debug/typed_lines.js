@@ -10,12 +10,12 @@ import { LONGEST_RUN } from "../engine/key_queue.js";
 /**
  * @typedef {import("../bench/inputs.js").Input} Input
  * @typedef {import("../engine/engine_host.js").EngineHost} Engine
- * @typedef {import("./arrivals.js").Arrivals} Arrivals
+ * @typedef {import("./data_watches.js").SoftStops} SoftStops
  * @typedef {import("./arrivals.js").Seen} Seen
  *
  * The lines as they are to be served; what breakpoints do in each run, and how many cycles are done before it; and where a breakpoint ends
- * the last line, the id of that and the line as it was typed, else 0 and "".
- * @typedef {{ lines: string, runs: { seen: Seen, done: number }[], id: number, cut: string }} Planned
+ * the last line, the id of that and the line as it was typed, else 0 and "", with what Seen has of it.
+ * @typedef {{ lines: string, runs: { seen: Seen, done: number }[], id: number, cut: string, why: string, change: string }} Planned
  */
 
 /**
@@ -30,14 +30,14 @@ function cyclesOf(input) {
 /**
  * @param {Engine} engine
  * @param {Uint8Array} file is left as it is
- * @param {Arrivals} arrivals count what they see
+ * @param {SoftStops} arrivals count what they see
  * @param {string} lines
  * @param {(done: number) => Promise<boolean>} goesOn is told how many characters are looked through, and says whether to go on
  * @returns {Promise<Planned>}
  */
 export async function planTyped(engine, file, arrivals, lines, goesOn) {
   /** @type {Planned} */
-  const plan = { lines: "", runs: [], id: 0, cut: "" };
+  const plan = { lines: "", runs: [], id: 0, cut: "", why: "", change: "" };
   if (arrivals.isEmpty || !/\brun\b/.test(lines)) return { ...plan, lines };
   const copy = file.slice();
   let [waiting, done] = ["", 0];
@@ -52,7 +52,9 @@ export async function planTyped(engine, file, arrivals, lines, goesOn) {
       const before = waiting.slice(0, -served.length);
       if (before) engine.serve(copy, before, copy);
       const seen = arrivals.look(engine, copy, [{ line: `run ${cycles}`, change: null }]);
-      if (seen.cycles >= 0) [served, plan.id, plan.cut] = [`run ${seen.cycles}\n`, seen.id, input.line.trim()];
+      const { id, why, change } = seen;
+      if (seen.cycles >= 0) [served, plan.cut] = [`run ${seen.cycles}\n`, input.line.trim()];
+      if (seen.cycles >= 0) Object.assign(plan, { id, why, change });
       arrivals.count(seen);
       plan.runs.push({ seen, done });
       const run = readRun(engine.serve(copy, served, copy).answers[0]);

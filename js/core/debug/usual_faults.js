@@ -9,6 +9,7 @@
 
 import { readBoard } from "../bench/answers.js";
 import { hex } from "../bench/numbers.js";
+import { Probes } from "../conditions/probes.js";
 import { areLive, callBefore } from "../machine/returns.js";
 import { isCall, isReturn, romCodes } from "../engine/rom_codes.js";
 import { Answers, valuesOf } from "../engine/tracing.js";
@@ -23,8 +24,10 @@ import * as say from "../../words/debug.js";
  * @typedef {import("../engine/worker_session.js").WorkerSession} WorkerSession
  * @typedef {"calls" | "return" | "lines" | "chip" | "bytes" | "source"} Kind
  *
- * A fault: the address of the instruction that is about to make it, after so many cycles of the lines, and what it is, in words.
- * @typedef {{ kind: Kind, address: number, cycles: number, words: string }} UsualFault
+ * A fault: the address of the instruction that is about to make it, after so many cycles of the lines, and what it is, in words. `isAgain`:
+ * one of its kind was reported before.
+ * @typedef {{ kind: Kind, address: number, cycles: number, words: string, isAgain?: boolean }} UsualFault
+ * @typedef {import("../conditions/condition_language.js").Condition} Condition
  * @typedef {{ faults: UsualFault[], stop: number }} Looked
  */
 
@@ -34,7 +37,7 @@ const LOOKED_CYCLES = 50000;
 const SAMPLE = 16;
 const SAMPLE_CYCLES = 2000;
 /** Lines of more cycles are those of full speed, of which no more are looked at: a look takes as long as some millions of them. */
-const CYCLES_OF_CALL = 10000;
+export const CYCLES_OF_CALL = 10000;
 
 /** @type {Looked} */
 const NOTHING = { faults: [], stop: -1 };
@@ -45,6 +48,8 @@ export class UsualFaults {
     this.session = session;
     /** @type {Set<Kind>} at which time stops */
     this.stops = new Set();
+    /** @type {Map<Kind, Condition>} where time stops at a kind only if a condition holds before the instruction */
+    this.conditions = new Map();
     /** @type {SourceMap | null} the program, where it is what stands in ROM */
     this.map = null;
     /** @type {Uint8Array | null} what stands in ROM, where that was read */
@@ -81,12 +86,30 @@ export class UsualFaults {
    */
   look(planned, file = this.session.file) {
     const most = this.mostOf(planned);
-    if (most === 0 || this.told.size === ALL) return NOTHING;
-    const faults = this.faultsIn(linesUpTo(planned, most), file);
-    const last = faults.find(({ kind }) => this.stops.has(kind));
+    if (most === 0 || (this.told.size === ALL && this.conditions.size === 0)) return NOTHING;
+    const all = this.faultsIn(linesUpTo(planned, most), file);
+    const last = all.find((fault) => this.isStop(fault, planned, file));
+    const faults = all.filter(({ isAgain }) => !isAgain);
     if (!last) return { faults, stop: -1 };
     this.stopped = last.address;
     return { faults: faults.filter((fault) => fault.cycles <= last.cycles), stop: last.cycles };
+  }
+
+  /**
+   * Whether time stops at a fault.
+   * @param {UsualFault} fault
+   * @param {PlannedLine[]} planned the lines in which it is
+   * @param {Uint8Array} file before them
+   */
+  isStop({ kind, cycles }, planned, file) {
+    if (!this.stops.has(kind)) return false;
+    const condition = this.conditions.get(kind);
+    if (!condition) return true;
+    const before = linesUpTo(planned, cycles);
+    const probes = new Probes(condition.places);
+    const answers = new Answers(this.session.engine.ask(file, before.map(({ line }) => `${line}\n`).join("") + probes.lines).answers);
+    answers.skip(before.length);
+    return condition.holds(probes.take(answers));
   }
 
   /**
@@ -179,9 +202,11 @@ export class UsualFaults {
   tell(faults, address, cycles, fault) {
     const isSkipped = cycles === 0 && address === this.skipped;
     if (cycles === 0) this.skipped = -1;
-    if (!fault || isSkipped || this.told.has(fault.kind)) return;
+    if (!fault || isSkipped) return;
+    const isAgain = this.told.has(fault.kind);
+    if (isAgain && !this.conditions.has(fault.kind)) return;
     this.told.add(fault.kind);
-    faults.push({ ...fault, address, cycles });
+    faults.push({ ...fault, address, cycles, ...(isAgain ? { isAgain } : {}) });
   }
 
   /**

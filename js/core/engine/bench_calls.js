@@ -5,6 +5,7 @@ import { BreakpointRequests } from "./breakpoint_requests.js";
 import { FileRequests } from "./file_requests.js";
 import { OutputRequests } from "./output_requests.js";
 import { ProgramRequests } from "./program_requests.js";
+import { ProofRequests } from "./proof_requests.js";
 import { RecordingRequests } from "./recording_requests.js";
 import { SessionRequests } from "./session_requests.js";
 import { TimeRequests } from "./time_requests.js";
@@ -16,13 +17,14 @@ import { OpenBench } from "./open_bench.js";
  * All requests, by their names.
  * @typedef {Omit<FileRequests
  *   & TrialRequests
+ *   & ProofRequests
  *   & SessionRequests
  *   & ProgramRequests
  *   & BreakpointRequests
  *   & TravelRequests
  *   & RecordingRequests
  *   & TimeRequests
- *   & OutputRequests, "bench" | "exploring">} Requests
+ *   & OutputRequests, "bench" | "exploring" | "proving">} Requests
  */
 
 export class BenchCalls {
@@ -33,6 +35,7 @@ export class BenchCalls {
     const parts = [
       new FileRequests(bench),
       new TrialRequests(bench),
+      new ProofRequests(bench),
       new SessionRequests(bench),
       new ProgramRequests(bench),
       new BreakpointRequests(bench),

@@ -12,7 +12,8 @@ import { BenchRefusal, BenchTrap, NO_MEMORY } from "../bench/faults.js";
  *   Serving
  * @typedef {{ memory: WebAssembly.Memory, page_file_size: () => bigint, page_buffer: (count: bigint) => bigint,
  *   page_buffer_back: (offset: bigint) => void, page_begin: (file: bigint, size: bigint) => number,
- *   page_serve_and_settle: Serving, page_ask: Serving }} Calls what the module exports
+ *   page_serve_and_settle: Serving, page_ask: Serving,
+ *   page_prove: (question: bigint, size: bigint, answers: bigint, room: bigint, told: bigint) => number }} Calls what the module exports
  */
 
 const ROOM_AT_FIRST = 1 << 20;
@@ -177,6 +178,32 @@ export class Engine {
    */
   ask(file, lines) {
     return this.answersOf("page_ask", file, lines);
+  }
+
+  /**
+   * Answers a question to the prover, as the program mcs4-prove does: returns the line that it prints. It can take hours.
+   * @param {string} question
+   */
+  prove(question) {
+    const { instance } = this;
+    const size = instance.takeLines(question, this.encoder);
+    let { isDone, number, count } = this.tryToProve(size);
+    if (!isDone && number === 0) {
+      instance.answers = instance.larger(instance.answers, count);
+      ({ isDone, number, count } = this.tryToProve(size));
+    }
+    return isDone ? this.decoder.decode(instance.view(instance.answers, count)) : `no ${number}`;
+  }
+
+  /**
+   * One call. If the answer has no room, the number is 0, and the count is that of the bytes that it needs.
+   * @param {number} size of the question
+   */
+  tryToProve(size) {
+    const { instance } = this;
+    const { input, answers, told } = instance;
+    const isDone = this.call((calls) => calls.page_prove(input.offset, BigInt(size), answers.offset, BigInt(answers.room), told.offset));
+    return { isDone, ...instance.readTold() };
   }
 
   /** A call takes the bytes of a state as fast as any other one. */

@@ -18,8 +18,10 @@ import { cyclesOf, piecesOf, unitsBetween } from "./units.js";
  * @typedef {import("./timeline.js").Timeline} Timeline
  * @typedef {import("./units.js").Unit} Unit
  * @typedef {{ kind: "stop" } | { kind: "instruction" } | { kind: "change", place: string } | { kind: "arrival", place: string }
- *   | { kind: "when", condition: string, asked?: import("../debug/becoming.js").Asked }} BackGoal an arrival at a breakpoint, or before a
- *   change of what is watched, `place` too, "" for none; or before a condition becomes true, which the debugger has read as `asked`
+ *   | { kind: "when", condition: string, asked?: import("../debug/becoming.js").Asked }
+ *   | { kind: "call", call: number, returns: string[] }} BackGoal an arrival at a breakpoint, or before a change of what is watched,
+ *   `place` too, "" for none; before a condition becomes true, which the debugger has read as `asked`; or the beginning of a subroutine
+ *   that is open, by the address of its JMS and the return addresses that waited then
  *
  * The moment, or null and why there is none: the past does not reach so far, or the board lacks the place. Of a change, its place, what it
  * was from and to, and the command that made it, "" where an instruction did. Of an arrival, what is there: a breakpoint, with its id, a
@@ -177,7 +179,7 @@ export function changeFinder(engine, file, name) {
 /**
  * @param {Engine} engine
  * @param {{ timeline: Timeline, file: Uint8Array }} session
- * @param {Exclude<BackGoal, { kind: "arrival" }>} goal
+ * @param {Exclude<BackGoal, { kind: "arrival" | "call" }>} goal
  * @param {GoesOn} goesOn
  * @returns {Promise<Aim>}
  */

@@ -49,6 +49,14 @@ export function hasWays(code) {
 }
 
 /**
+ * Whether an instruction surely goes on elsewhere: JUN, BBL and JIN do.
+ * @param {number} code
+ */
+export function neverContinues(code) {
+  return code >> 4 === 0x4 || isReturn(code) || (code >> 4 === 0x3 && code % 2 === 1);
+}
+
+/**
  * Returns how many words an instruction has: JUN, JMS, JCN, ISZ and FIM have two.
  * @param {number} code
  */

@@ -65,7 +65,7 @@ export class SessionRequests {
    * @returns {Promise<TypedLines>}
    */
   async serveTyped(lines) {
-    const typed = { id: 0, cut: "", cycles: 0, tally: NO_TALLY };
+    const typed = { id: 0, why: "", change: "", cut: "", cycles: 0, tally: NO_TALLY };
     const told = await this.bench.served(async () => {
       const served = await this.bench.debugger.serveTyped(lines, (done) => this.bench.goesOn(done, lines.length));
       Object.assign(typed, served.typed);

@@ -236,6 +236,12 @@ const SETTINGS = {
 };
 
 /**
+ * Whether a line of properties says what may change, and not what must hold.
+ * @param {string} line without blanks before it
+ */
+export const isSetting = (line) => Object.prototype.hasOwnProperty.call(SETTINGS, line.split(/\s/)[0]);
+
+/**
  * Returns the places of `trace` that a word names.
  * @param {Reader} reader
  * @param {string} word

@@ -5,8 +5,8 @@
 //     const exploring = new Exploring(engine, texts, readable, { seed: 1, seconds: 20 }, async () => {});
 //     const { report, found, isDone } = await exploring.goOn(200);
 
+import { isConfirmed } from "../testing/confirming.js";
 import { prepare } from "../testing/prepared.js";
-import { runTests } from "../testing/test_suite.js";
 import { begun, testsThatLead } from "./beginning.js";
 import { CampaignRun, patienceOf } from "./campaign_run.js";
 import { readCampaign } from "./campaign.js";
@@ -35,13 +35,14 @@ const SLICE = 50;
  * A text of properties with what it is for, or what is wrong with any of the texts.
  * @param {Engine} engine
  * @param {ExploredTexts} texts
+ * @param {boolean} [needsInputs] whether it is an error that nothing can change
  * @returns {{ read: (Readable & { prepared: Prepared }) | null, faults: TextFault[] }}
  */
-export function readExplored(engine, { boardText, programText, testText, propertiesText }) {
+export function readExplored(engine, { boardText, programText, testText, propertiesText }, needsInputs = true) {
   const { prepared, faults } = prepare(engine, { boardText, programText });
   if (!prepared) return { read: null, faults };
   const subject = subjectOf(engine, boardText, programText);
-  const { campaign, faults: wrong } = readCampaign(propertiesText, subject);
+  const { campaign, faults: wrong } = readCampaign(propertiesText, subject, needsInputs);
   const { from } = campaign;
   if (from) {
     const { words } = testsThatLead(prepared.names, testText, from.state);
@@ -81,25 +82,9 @@ export class Exploring {
    * @param {() => Promise<void>} breathe lets others in, while a find is made shorter
    */
   constructor(engine, texts, { subject, campaign }, { seed, seconds }, breathe) {
-    this.engine = engine;
-    this.texts = texts;
-    this.breathe = breathe;
-    const confirm = (/** @type {string} */ test, /** @type {boolean} */ isGoal) => this.confirms(test, isGoal);
+    // A find counts only once its test was seen to fail (that of a goal: to pass).
+    const confirm = (/** @type {string} */ test, /** @type {boolean} */ isGoal) => isConfirmed(engine, texts, test, isGoal, breathe);
     this.run = new CampaignRun(subject, campaign, seed, confirm, patienceOf(seconds), null, breathe);
-  }
-
-  /**
-   * A find counts only once its test was seen to fail (that of a goal: to pass).
-   * @param {string} test
-   * @param {boolean} isGoal
-   */
-  async confirms(test, isGoal) {
-    const { boardText, programText } = this.texts;
-    const { faults, outcomes } = await runTests(this.engine, { boardText, programText, testText: test }, async () => {
-      await this.breathe();
-      return true;
-    });
-    return faults.length === 0 && outcomes.every(({ failure }) => (failure === null) === isGoal);
   }
 
   /**

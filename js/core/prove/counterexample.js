@@ -1,5 +1,6 @@
 // A way that the prover found as a counterexample: it is run on the bench, made short, and written as a test.
 
+import { readCounter } from "../bench/answers.js";
 import { LONGEST_RUN } from "../engine/key_queue.js";
 import { linesOfFind, testOf } from "../explore/find_test.js";
 import { Shortening } from "../explore/shortening.js";
@@ -15,8 +16,9 @@ import { allInputs, wayOf } from "./way.js";
  * @typedef {import("../explore/subject.js").Subject} Subject
  * @typedef {import("../explore/walks.js").WalkStep} WalkStep
  *
- * `isAllowed`: the text of properties allows these inputs; `text` is a test, or lines of a session if a key that is pressed has no name.
- * @typedef {{ steps: number, cycles: number, isAllowed: boolean, isTest: boolean, text: string }} Counterexample
+ * `isAllowed`: the text of properties allows these inputs; `text` is a test, or lines of a session if a key that is pressed has no name;
+ * `before` are the lines of a session after which the next step breaks the property.
+ * @typedef {{ steps: number, cycles: number, isAllowed: boolean, isTest: boolean, text: string, before: string }} Counterexample
  */
 
 /** So many cycles are looked at to make it short. */
@@ -151,7 +153,20 @@ class Replay {
     const isTest = find.steps.every(({ kind, input }) => kind === "none" || !/^press \d+ \d+$/.test(free.inputs[input].downWords));
     const text = isTest ? testOf(subject, subject.file, free, find) : linesOfFind(free, find);
     const steps = find.steps.filter(({ kind }) => kind !== "none").length;
-    return { steps, cycles: find.time, isAllowed: this.isAllowed(find), isTest, text };
+    return { steps, cycles: find.time, isAllowed: this.isAllowed(find), isTest, text, before: this.linesBefore(find) };
+  }
+
+  /**
+   * Returns the lines after which the next step breaks the property: an instruction, or what is left of one if an input changes within it.
+   * @param {Find} find
+   */
+  linesBefore(find) {
+    const { subject: { engine, file }, free } = this;
+    const changed = find.steps.reduce((sum, { wait }) => sum + wait, 0);
+    const linesTo = (/** @type {number} */ time) => linesOfFind(free, { ...find, time: Math.max(changed, time) });
+    const { answers } = engine.ask(file, `${linesTo(find.time - 1)}regs\n`);
+    const { owed } = readCounter(answers[answers.length - 1]);
+    return linesTo(find.time - (owed === "1" ? 2 : 1));
   }
 }
 

@@ -1,6 +1,7 @@
 // Requests, answers and notifications over a stream, in the order of the protocol: first `initialize`, last `shutdown` and `exit`.
 
-import { MessageReader, StreamLost, fieldOf, framed } from "./framing.js";
+import { fieldOf } from "./framing.js";
+import { MessageStream } from "./message_stream.js";
 import {
   CANCELLED, INTERNAL_ERROR, INVALID_REQUEST, METHOD_NOT_FOUND, NOT_INITIALIZED, PARSE_ERROR, ProtocolError,
 } from "./lsp_protocol.js";
@@ -9,7 +10,10 @@ import * as say from "../../words/server.js";
 
 /**
  * @typedef {number | string | null} Id
- * @typedef {(params: any) => unknown} Act gives the result, or a promise of it
+ *
+ * A request that is not answered yet. A client that cancels it is answered at once; the work looks at `isCancelled` and ends.
+ * @typedef {{ isCancelled: boolean }} Asked
+ * @typedef {(params: any, asked: Asked) => unknown} Act gives the result, or a promise of it
  *
  * What is served: requests and notifications by their methods, and what is done at the end.
  * @typedef {{ requests: Record<string, Act>, notifications: Record<string, Act> }} Served
@@ -24,49 +28,30 @@ function isId(id) {
   return typeof id === "string" || typeof id === "number" || id === null;
 }
 
-export class Connection {
+/** @type {Asked} of what no request asks for */
+const NOBODY = { isCancelled: false };
+
+export class Connection extends MessageStream {
   /**
    * @param {(bytes: Uint8Array) => void} write
    * @param {(status: number) => void} end the process
    */
   constructor(write, end) {
-    this.write = write;
+    super(write);
     this.end = end;
-    this.reader = new MessageReader();
     /** @type {Served} */
     this.served = { requests: {}, notifications: {} };
     /** @type {"new" | "open" | "shut"} */
     this.state = "new";
-    /** @type {Set<Id>} requests that are not answered yet */
-    this.waiting = new Set();
+    /** @type {Map<Id, Asked>} requests that are not answered yet */
+    this.waiting = new Map();
     /** How often something was asked of the client. */
     this.asked = 0;
   }
 
-  /**
-   * Takes bytes of the stream. It throws a StreamLost if no message can follow, after the client has got the error.
-   * @param {Uint8Array} bytes
-   */
-  take(bytes) {
-    try {
-      for (const received of this.reader.take(bytes)) {
-        if ("text" in received) this.takeText(received.text);
-        else this.refuse(null, new ProtocolError(INVALID_REQUEST, say.messageTooLong(received.tooLong)));
-      }
-    } catch (thrown) {
-      if (thrown instanceof StreamLost) this.refuse(null, new ProtocolError(INVALID_REQUEST, thrown.message));
-      throw thrown;
-    }
-  }
-
-  /**
-   * Reports that the rest of a message does not come; returns the words, "" if none has begun.
-   * @returns {string}
-   */
-  refuseIncomplete() {
-    const { incomplete } = this.reader;
-    if (incomplete !== "") this.refuse(null, new ProtocolError(INVALID_REQUEST, incomplete));
-    return incomplete;
+  /** @param {string} words */
+  refuseStream(words) {
+    this.refuse(null, new ProtocolError(INVALID_REQUEST, words));
   }
 
   /** @param {string} text */
@@ -107,20 +92,41 @@ export class Connection {
   async request(id, method, params) {
     const fault = this.faultOfOrder(method);
     const act = Object.prototype.hasOwnProperty.call(this.served.requests, method) && this.served.requests[method];
-    if (fault || !act) {
-      this.refuse(id, fault || new ProtocolError(METHOD_NOT_FOUND, say.noMethod(method)));
+    if (fault || !act || this.waiting.has(id)) {
+      const other = act ? new ProtocolError(INVALID_REQUEST, say.idWaits(id)) : new ProtocolError(METHOD_NOT_FOUND, say.noMethod(method));
+      this.refuse(id, fault || other);
       return;
     }
-    this.waiting.add(id);
+    const asked = { isCancelled: false };
+    this.waiting.set(id, asked);
     // What comes in the same chunk is served in its order, so the state changes before anything is awaited.
     if (method === "initialize") this.state = "open";
     if (method === "shutdown") this.state = "shut";
     try {
-      const result = await act(params);
-      if (this.waiting.delete(id)) this.send({ id, result: result === undefined ? null : result });
+      const result = await act(params, asked);
+      if (this.isDone(id, asked)) this.send({ id, result: result === undefined ? null : result });
     } catch (thrown) {
-      if (this.waiting.delete(id)) this.refuse(id, thrown);
+      if (this.isDone(id, asked)) this.refuse(id, thrown);
     }
+  }
+
+  /**
+   * Forgets a request that is about to be answered; returns whether it was not cancelled.
+   * @param {Id} id
+   * @param {Asked} asked
+   */
+  isDone(id, asked) {
+    if (asked.isCancelled) return false;
+    return this.waiting.delete(id);
+  }
+
+  /** @param {Id} id of the request that the client no longer wants */
+  cancel(id) {
+    const asked = this.waiting.get(id);
+    if (!asked) return;
+    asked.isCancelled = true;
+    this.waiting.delete(id);
+    this.refuse(id, new ProtocolError(CANCELLED, IT_WAS_CANCELLED));
   }
 
   /**
@@ -135,14 +141,13 @@ export class Connection {
       return;
     }
     if (method === "$/cancelRequest") {
-      const id = fieldOf(params, "id");
-      if (this.waiting.delete(id)) this.refuse(id, new ProtocolError(CANCELLED, IT_WAS_CANCELLED));
+      this.cancel(fieldOf(params, "id"));
       return;
     }
     const act = Object.prototype.hasOwnProperty.call(this.served.notifications, method) && this.served.notifications[method];
     if (this.state !== "open" || !act) return;
     try {
-      await act(params);
+      await act(params, NOBODY);
     } catch (thrown) {
       this.tell(`${method}: ${thrown instanceof Error ? thrown.message : String(thrown)}`);
     }
@@ -193,6 +198,6 @@ export class Connection {
 
   /** @param {object} message */
   send(message) {
-    this.write(framed({ jsonrpc: "2.0", ...message }));
+    this.writeMessage({ jsonrpc: "2.0", ...message });
   }
 }

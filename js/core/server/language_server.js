@@ -278,11 +278,12 @@ export class LanguageServer {
    * Runs a test and shows what came of it, also in its text.
    * @param {string} uri
    * @param {string} name
+   * @param {import("./connection.js").Asked} asked
    */
-  async runTest(uri, name) {
+  async runTest(uri, name, asked) {
     const text = this.textIn({ textDocument: { uri } });
     const { edits } = text.open;
-    const { words, hasPassed, failure } = await this.runs.run(text.open, name);
+    const { words, hasPassed, failure } = await this.runs.run(text.open, name, asked);
     this.connection.show(words, !hasPassed);
     if (failure && text.open.edits === edits && failure.uri === uri) {
       text.diagnostics = [...text.diagnostics, ...diagnosticsOf([failure.fault], true)];

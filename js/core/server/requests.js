@@ -66,7 +66,7 @@ export class Requests {
       "initialize": (params) => this.initialize(params),
       "shutdown": () => null,
       "workspace/symbol": (params) => workspaceSymbols(this.server, needText(fieldOf(params, "query"), "query")),
-      "workspace/executeCommand": (params) => this.execute(params),
+      "workspace/executeCommand": (params, asked) => this.execute(params, asked),
     };
   }
 
@@ -76,12 +76,15 @@ export class Requests {
     return { capabilities: capabilitiesFor(this.server.client), serverInfo: { name: "mcs4 lsp" } };
   }
 
-  /** @param {any} params */
-  execute(params) {
+  /**
+   * @param {any} params
+   * @param {import("./connection.js").Asked} asked
+   */
+  execute(params, asked) {
     const command = needText(fieldOf(params, "command"), "command");
     if (command !== RUN_TEST) throw new ProtocolError(INVALID_PARAMS, say.noCommand(command));
     const [uri, test] = needList(fieldOf(params, "arguments"), "arguments");
-    return this.server.runTest(needText(uri, "arguments[0]"), needText(test, "arguments[1]"));
+    return this.server.runTest(needText(uri, "arguments[0]"), needText(test, "arguments[1]"), asked);
   }
 
   // --- of a text

@@ -42,9 +42,10 @@ export class TestRuns {
   /**
    * @param {OpenText} open
    * @param {string} name of the test
+   * @param {import("./connection.js").Asked} asked which ends the run if it is cancelled
    * @returns {Promise<Ran>}
    */
-  async run({ uri, lines, text }, name) {
+  async run({ uri, lines, text }, name, asked) {
     this.begun += 1;
     const { begun } = this;
     const { board, program, tests } = this.besideOf(uri);
@@ -53,7 +54,7 @@ export class TestRuns {
     const sources = tests.map((each) => ({ name: each.uri, text: each.uri === uri ? text : each.text || "" }));
     const goesOn = async () => {
       await this.pause();
-      return begun === this.begun;
+      return begun === this.begun && !asked.isCancelled;
     };
     const texts = { boardText: board.text || "", programText: program.text || "", sources };
     const { faults, outcomes } = await this.outcomesOf(texts, goesOn, { name, source: uri });

@@ -4,7 +4,8 @@ import { wordsOfGone } from "../../words/stops.js";
 import * as say from "../../words/time.js";
 
 /**
- * @typedef {import("../bench/bench_client.js").Bench} Bench
+ * @typedef {import("../engine/travel_requests.js").TravelRequests} TravelRequests
+ * @typedef {import("../bench/bench_client.js").Caller<TravelRequests>} Bench
  * @typedef {import("../bench/bench_client.js").Ways} Ways
  * @typedef {import("../engine/going_back.js").BackGoal} BackGoal
  * @typedef {import("../bench/protocol.js").Stop} Stop

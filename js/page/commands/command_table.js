@@ -212,6 +212,7 @@ const TESTS = [
   pressing("tests.first", "tests", "first-test", "tests", say.HAS_TEXT),
   pressing("tests.clear", "tests", "clear-tests", "tests", say.NO_RESULTS),
   command("properties.search", "tests", (calls) => calls.send("properties"), { keys: ["Ctrl+Enter"], place: "properties" }),
+  pressing("properties.prove", "tests", "prove", "properties", "", { keys: ["Ctrl+Shift+Enter"], place: "properties" }),
   pressing("properties.first", "tests", "first-properties", "properties", say.HAS_TEXT),
   pressing("properties.clear", "tests", "clear-finds", "properties", say.NO_RESULTS),
 ];

@@ -24,8 +24,7 @@ import * as say from "../../words/drawing.js";
  * @property {(part: string) => void} find Shows the lines of a part in the text; the part is named as in the picture: `rom 1`.
  * @property {() => void} tidy Forgets how parts were moved, so each is where the picture puts it.
  * @property {() => void} scanKeys Inserts a routine that scans the keys into the source.
- * @property {(act: Act, point: Point | null) => void} drop Adds a part at a point of the sheet, or at its usual place for null, and gives it
- *   the keyboard there.
+ * @property {(act: Act, point: Point | null) => void} drop Adds a part at a point of the sheet, or at its usual place, and goes to it.
  */
 
 const WITH_DIGITS = new Set(["digit", "segments", "scanned"]);

@@ -6,6 +6,7 @@ import { BesideText } from "../text/beside_text.js";
 import { completeProperty, firstProperties, helpForProperty, propertyForms } from "../../core/text/property_words.js";
 import { wordsOfFaults } from "../../words/results.js";
 import { ExploreView } from "./explore_view.js";
+import { Proofs } from "../prove/proofs.js";
 import { markOfReport, wordsOfEnd, wordsSoFar } from "../../words/explored.js";
 import * as say from "../../words/explore.js";
 
@@ -16,6 +17,7 @@ import * as say from "../../words/explore.js";
  * @typedef {import("../../core/explore/exploring.js").Progress} Progress
  * @typedef {import("../../core/explore/report.js").Report} Report
  * @typedef {import("../../core/explore/explorer.js").Ended} Ended
+ * @typedef {import("../prove/proofs.js").ProofsCalls} ProofsCalls
  *
  * What was found in a session: the texts, how far it came, and the session of each find, by its property.
  * @typedef {{ texts: ExploredTexts, report: Report | null, files: Map<number, Uint8Array>, isStopped: boolean }} Explored
@@ -34,6 +36,8 @@ import * as say from "../../words/explore.js";
  * @property {(line: number) => void} goToSource Shows a line of the source, from 1.
  * @property {(name: string, file: Uint8Array, texts: ExploredTexts) => void} open Opens a session by its file as a new one, with the
  *   texts of the search.
+ * @property {ProofsCalls["prove"]} prove Proves properties.
+ * @property {ProofsCalls["open"]} openAfter Opens a session of the texts after lines.
  * @property {(test: string) => string} addTest Adds a test to those of the program. Returns the message about that.
  * @property {(words: string) => void} mark Shows a few words on the tab; "" for none.
  * @property {() => void} edited The text of properties was edited.
@@ -63,6 +67,7 @@ export class ExploreTab {
       faults: () => calls.faults(this.texts),
       counted: (count) => this.mark(count),
       send: () => this.exploreOrStop(),
+      prove: () => this.proofs.proveOrCancel(),
     });
     this.editor = this.beside.editor;
     this.view = new ExploreView({
@@ -82,6 +87,25 @@ export class ExploreTab {
     this.exploreButton = new Cell(button("explore"));
     this.exploreButton.set(say.EXPLORE);
     onClick(button("clear-finds"), () => this.clear());
+    /** How many errors the text has, as far as is known. */
+    this.faultCount = 0;
+    this.proofs = this.makeProofs();
+  }
+
+  /** @returns {Proofs} */
+  makeProofs() {
+    const { calls, editor } = this;
+    return new Proofs({
+      texts: () => this.texts,
+      prove: calls.prove,
+      goTo: (line) => editor.editor.select({ from: line, to: line }),
+      tell: (words) => editor.tell(words),
+      refuse: (faults) => this.refuse(faults),
+      open: calls.openAfter,
+      addTest: calls.addTest,
+      changed: () => this.showProofs(),
+      failed: calls.failed,
+    });
   }
 
   /** @returns {ExploredTexts} */
@@ -102,8 +126,9 @@ export class ExploreTab {
   /** @param {number} count how many faults the text has */
   mark(count) {
     const { shown } = this;
+    this.faultCount = count;
     if (count > 0) this.calls.mark(countOfFaults(count));
-    else this.calls.mark(shown && shown.report ? markOfReport(shown.report) : "");
+    else this.calls.mark((shown && shown.report ? markOfReport(shown.report) : "") || this.proofs.mark);
   }
 
   /**
@@ -115,14 +140,29 @@ export class ExploreTab {
     this.session = session;
     this.view.clear();
     this.show();
+    this.proofs.begin(session);
     this.look();
   }
 
+  /** Clears what was found, and what was proved. */
   clear() {
     this.stop();
     this.explored.delete(this.session);
     this.view.clear();
+    this.proofs.clear();
     this.show();
+  }
+
+  /** Shows what depends on proofs: the mark of the tab, and whether something can be cleared. */
+  showProofs() {
+    this.mark(this.faultCount);
+    this.offerClear();
+  }
+
+  /** What was found or proved can be cleared, once nothing is at work. */
+  offerClear() {
+    const { proofs } = this;
+    button("clear-finds").hidden = this.controller !== null || proofs.controller !== null || !(this.shown || proofs.shown);
   }
 
   /** Shows what was found so far in the session that is shown. */
@@ -130,7 +170,7 @@ export class ExploreTab {
     const { shown } = this;
     const goesOn = this.controller !== null;
     this.exploreButton.set(goesOn ? say.STOP : say.EXPLORE);
-    button("clear-finds").hidden = !shown || goesOn;
+    this.offerClear();
     if (shown && shown.report) this.view.show(shown.report, goesOn);
     this.mark(0);
     this.tell(this.wordsOf(shown, goesOn));

@@ -14,7 +14,8 @@ import { stoppedAt } from "../../words/stops.js";
  * @typedef {import("../../core/debug/debugger.js").Tally} Tally
  * @typedef {import("../../core/machine/source_map.js").SourceMap} SourceMap
  * @typedef {import("../ui/notice.js").Notice} Notice
- * @typedef {import("../../core/bench/bench_client.js").Bench} Bench
+ * @typedef {import("../../core/engine/session_requests.js").SessionRequests} SessionRequests
+ * @typedef {import("../../core/bench/bench_client.js").Caller<SessionRequests>} Bench
  * @typedef {import("../../core/bench/protocol.js").ServedLines} ServedLines
  * @typedef {import("../../core/bench/bench_client.js").Ways} Ways
  */

@@ -10,7 +10,8 @@ import { BreakpointsView } from "./breakpoints_view.js";
 import * as say from "../../words/machine.js";
 
 /**
- * @typedef {import("../../core/bench/bench_client.js").Bench} Bench
+ * @typedef {import("../../core/engine/breakpoint_requests.js").BreakpointRequests} BreakpointRequests
+ * @typedef {import("../../core/bench/bench_client.js").Caller<BreakpointRequests>} Bench
  * @typedef {import("../../core/bench/protocol.js").ServedLines} ServedLines
  * @typedef {import("../../core/debug/debugger.js").Tally} Tally
  * @typedef {import("../../core/debug/soft_breakpoints.js").Placed} Placed

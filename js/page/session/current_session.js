@@ -10,7 +10,9 @@ import * as say from "../../words/session.js";
 
 /**
  * @typedef {import("./locks.js").Release} Release
- * @typedef {import("../../core/bench/bench_client.js").Bench} Bench
+ * @typedef {import("../../core/engine/file_requests.js").FileRequests} FileRequests
+ * @typedef {import("../../core/engine/session_requests.js").SessionRequests} SessionRequests
+ * @typedef {import("../../core/bench/bench_client.js").Caller<FileRequests & SessionRequests>} Bench
  * @typedef {import("../../core/bench/ran.js").RanEntry} RanEntry
  * @typedef {import("./kept_past.js").KeptPast} KeptPast
  * @typedef {import("../../core/bench/protocol.js").Shown} Shown

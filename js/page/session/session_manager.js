@@ -10,7 +10,8 @@ import { NotKept, wordsOfStoreFault } from "./store.js";
 import * as say from "../../words/session.js";
 
 /**
- * @typedef {import("../../core/bench/bench_client.js").Bench} Bench
+ * @typedef {import("../../core/engine/file_requests.js").FileRequests} FileRequests
+ * @typedef {import("../../core/bench/bench_client.js").Caller<FileRequests> & { size: number }} Bench
  * @typedef {import("../../core/engine/examples.js").Example} Example
  * @typedef {import("./kept_session.js").KeptSession} KeptSession
  * @typedef {import("../ui/notice.js").NoticeAction} NoticeAction

@@ -12,7 +12,8 @@ import * as say from "../../words/session.js";
 
 /**
  * @typedef {import("../ui/ask_view.js").AskView} AskView
- * @typedef {import("../../core/bench/bench_client.js").Bench} Bench
+ * @typedef {import("../../core/engine/file_requests.js").FileRequests} FileRequests
+ * @typedef {import("../../core/bench/bench_client.js").Caller<FileRequests>} Bench
  * @typedef {import("../ui/notice.js").Notice} Notice
  * @typedef {import("./share_link.js").Texts} Texts
  * @typedef {import("../../core/bench/words.js").Words} Words

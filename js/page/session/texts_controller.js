@@ -17,6 +17,7 @@ import * as say from "../../words/session.js";
  * @property {() => KeptSession | null} session Returns the session that is shown; null if there is none.
  * @property {() => void} touch The user has done something in the session.
  * @property {() => Promise<string>} keep Keeps the session. Resolves to why it could not be kept, "" if it was.
+ * @property {() => void} edited A text was edited.
  * @property {(boardText: string) => void} named The names in the board's text may have changed.
  * @property {() => Promise<string>} source Resolves to a source text of the bytes in ROM. Rejects if the bench fails.
  * @property {(text: string) => Promise<boolean>} isNoProgram Resolves to whether each line of a text has an error, so that it is no
@@ -89,6 +90,7 @@ export class TextsController {
     record.testText = this.tests.text;
     record.propertiesText = this.properties.text;
     this.calls.touch();
+    this.calls.edited();
     clearTimeout(this.editing);
     this.editing = setTimeout(() => {
       this.calls.named(record.boardText);

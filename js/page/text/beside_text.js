@@ -20,6 +20,7 @@ import { COLOURS } from "../../core/text/test_colours.js";
  * @property {() => Promise<TextFault[]>} faults Resolves to the errors of all texts.
  * @property {(count: number) => void} counted Shows how many errors this text has.
  * @property {() => void} send Does what the first button of the tab does.
+ * @property {() => void} [prove] Proves the text, if it can be proved.
  */
 
 /**
@@ -64,6 +65,7 @@ export class BesideText {
     }, {
       edited: () => this.edited(),
       send: own.send,
+      prove: own.prove,
       toggleBreakpoint: () => {},
     });
     this.faults = new LiveFaults(() => this.find(), (faults) => this.showFaults(faults), calls.failed);

@@ -20,7 +20,10 @@ import { TOUR_BOARD } from "../../words/help.js";
 import * as say from "../../words/text.js";
 
 /**
- * @typedef {import("../../core/bench/bench_client.js").Bench} Bench
+ * @typedef {import("../../core/engine/file_requests.js").FileRequests} FileRequests
+ * @typedef {import("../../core/engine/program_requests.js").ProgramRequests} ProgramRequests
+ * @typedef {import("../../core/engine/session_requests.js").SessionRequests} SessionRequests
+ * @typedef {import("../../core/bench/bench_client.js").Caller<FileRequests & ProgramRequests & SessionRequests>} Bench
  * @typedef {import("../../core/help/manual.js").ManualSection} ManualSection
  * @typedef {import("../../core/text/program_faults.js").AllFaults} AllFaults
  * @typedef {import("../../core/debug/breakpoints.js").Edit} Edit

@@ -43,6 +43,7 @@ import * as say from "../../words/text.js";
  * @typedef {object} EditorCalls
  * @property {(edits: Edit[]) => void} edited The text was edited, by these edits in their order.
  * @property {() => void} send The text is to be sent to the bench.
+ * @property {() => void} [prove] The text is to be proved; left out if it cannot be.
  * @property {(line: number) => void} toggleBreakpoint The breakpoint of a line is to be set or removed.
  * @property {(line: number, what: BreakpointField) => void} [editBreakpoint] The words of a line's breakpoint are to be edited, from a
  *   field on. Missing in texts that have no breakpoints.
@@ -98,6 +99,7 @@ export class EditorView {
       ...editorKeys("text.assembleAndRun", () => this.calls.send()),
       ...Object.assign({}, ...acts.map(([name, act]) => (
         editorKeys(/** @type {import("../commands/command_table.js").CommandId} */ (`text.${name}`), act)))),
+      ...(this.calls.prove ? editorKeys("properties.prove", this.calls.prove) : {}),
       ...editorKeys("debug.breakpoint", () => this.toggleBreakpoint()),
       ...editorKeys("debug.condition", () => this.editBreakpoint("condition")),
     };

@@ -15,7 +15,11 @@ import * as say from "../../words/time.js";
  * @typedef {import("../../core/bench/protocol.js").Frame} Frame
  * @typedef {import("../../core/bench/protocol.js").Stop} Stop
  * @typedef {import("../../core/debug/goals.js").Goal} Goal
- * @typedef {import("../../core/bench/bench_client.js").Bench} Bench
+ * @typedef {import("../../core/engine/output_requests.js").OutputRequests} OutputRequests
+ * @typedef {import("../../core/engine/time_requests.js").TimeRequests} TimeRequests
+ * @typedef {import("../../core/engine/travel_requests.js").TravelRequests} TravelRequests
+ * @typedef {import("../../core/bench/bench_client.js").Caller<OutputRequests & TimeRequests & TravelRequests>} RunningCaller
+ * @typedef {RunningCaller & { isRunning: boolean }} Bench
  * @typedef {import("../session/current_session.js").CurrentSession} CurrentSession
  * @typedef {import("../../core/board/key_place.js").Key} Key
  * @typedef {import("../../core/time/speeds.js").Speed} Speed

@@ -1,0 +1,149 @@
+// What checks/debugging tries of messages that are wrong: frames that lie, requests out of order, unknown ones, and some 2,000 with wrong
+// arguments. Each is answered once, and the adapter goes on; or an error is printed and it ends. `ok WORDS` or `fault: WORDS` for each thing.
+import { Client } from "./dap_client.mjs";
+
+const TOP = new URL("../..", import.meta.url).pathname;
+const ADAPTER = `${TOP}mcs4`;
+const LOCK = { program: `${TOP}examples/lock/lock.asm`, board: `${TOP}examples/lock/board.toml` };
+const REQUESTS = 2000;
+const BATCH = 50;
+
+function verdict(is, wanted, words) {
+  const [one, other] = [JSON.stringify(is), JSON.stringify(wanted)];
+  console.log(one === other ? `ok ${words}` : `fault: ${words}: ${one}, not ${other}`);
+}
+
+const fits = (words, pattern, what) => console.log(pattern.test(words) ? `ok ${what}` : `fault: ${what}: ${words}`);
+
+// --- frames ---
+
+const framed = (text, size = Buffer.byteLength(text)) => `Content-Length: ${size}\r\n\r\n${text}`;
+const request = (seq, command, args) => JSON.stringify({ seq, type: "request", command, arguments: args });
+const INITIALIZE = framed(request(1, "initialize", {}));
+
+/** Bytes after which no message can follow, with what is printed; `isOpen`: no more bytes come, and the stream stays open. */
+const LOST = [
+  { name: "the rest of a message never comes", bytes: framed("{\"seq\":", 50), words: /^only 7 of the 50 bytes/, isOpen: true },
+  { name: "the rest of a head never comes", bytes: "Content-Le", words: /^only a part of the head/, isOpen: true },
+  { name: "a Content-Length that is too large", bytes: `${INITIALIZE}${framed("{}", 9)}`, words: /^only 2 of the 9 bytes/ },
+  { name: "a Content-Length that is too small", bytes: `${framed(request(1, "threads"), 20)}${INITIALIZE}`, words: /^a message begins with/ },
+  { name: "a Content-Length that is no number", bytes: "Content-Length: many\r\n\r\n{}", words: /^a message begins with/ },
+  { name: "a Content-Length below 0", bytes: "Content-Length: -2\r\n\r\n{}", words: /^a message begins with/ },
+  { name: "two of them", bytes: "Content-Length: 2\r\nContent-Length: 3\r\n\r\n{}", words: /^a message begins with/ },
+  { name: "a head that does not end", bytes: "x".repeat(5000), words: /^the head of a message has more than/ },
+  { name: "binary bytes", bytes: Buffer.from(Array.from({ length: 6000 }, (_, at) => (at * 7919) % 256)), words: /^the head|^a message begins/ },
+];
+
+/** The error is sent and printed, and the status is not 0. */
+async function tryLost({ name, bytes, words, isOpen = false }) {
+  const client = new Client(ADAPTER);
+  client.raw(bytes);
+  if (!isOpen) client.child.stdin.end();
+  const status = await client.ended;
+  const last = client.received.filter(({ type, success }) => type === "response" && !success).pop() || { message: "nothing was sent" };
+  verdict([status, client.told], [1, `dap: ${last.message}\n`], name);
+  fits(last.message, words, `${name}: what is said`);
+}
+
+// --- requests ---
+
+let state = 20261128;
+/** A number from 0 up to another one, which does not belong to it, by a seed. */
+function upTo(count) {
+  state = (Math.imul(state, 1664525) + 1013904223) >>> 0;
+  return Math.floor((state / 2 ** 32) * count);
+}
+const oneOf = (list) => list[upTo(list.length)];
+
+const COMMANDS = ["initialize", "launch", "attach", "configurationDone", "setBreakpoints", "setFunctionBreakpoints", "setInstructionBreakpoints",
+  "setDataBreakpoints", "dataBreakpointInfo", "setExceptionBreakpoints", "breakpointLocations", "continue", "next", "stepIn", "stepInTargets",
+  "stepOut", "stepBack", "reverseContinue", "restartFrame", "gotoTargets", "goto", "pause", "threads", "stackTrace", "scopes", "variables",
+  "setVariable", "setExpression", "evaluate", "completions", "disassemble", "readMemory", "writeMemory", "loadedSources", "source", "exceptionInfo",
+  "cancel", "restart", "pressKey", "releaseKey", "watchBoard", "changeKey", "modules", "terminateThreads", "toString", "__proto__", "", "a b", "\u0000"];
+const NAMES = ["threadId", "frameId", "variablesReference", "name", "value", "expression", "context", "format", "memoryReference", "offset", "count",
+  "data", "instructionOffset", "instructionCount", "source", "sourceReference", "line", "endLine", "column", "text", "targetId", "breakpoints", "lines",
+  "filters", "filterOptions", "requestId", "progressId", "start", "startFrame", "levels", "program", "board", "project", "session", "write", "load",
+  "cwd", "key", "place", "isDown", "arguments", "allowPartial", "granularity", "pathFormat"];
+const TEXTS = ["", "r4", "acc = 9", "r4 +", "((((", "ram.0.0x12", "ram 0", "0x000", "0x10000", "0x20000", "-1", "99999999999999999999", "show", "nowhere",
+  "press 5", "keys 12#", "run 100", "step", "back r4", "until show", "change lamps", "poke r4 7", "set r4 = ", "asm\n NOP\n.", "reset", "help", "repl",
+  "hover", "watch", "AAAA", "A", "=", "%%%", "lamp open on", "key 5 down", "display 4", "/dev/zero", "/dev/stdin", "/", ".", LOCK.program, LOCK.board,
+  ADAPTER, "\u0000\u0001\u001b[2J", "\ud800", "é".repeat(20), "{{}}", "x".repeat(65536), "(".repeat(3000), "r4 and ".repeat(2000), "calls", "chip"];
+
+function value(depth) {
+  const kinds = [() => oneOf(TEXTS), () => oneOf([0, 1, 2, 3, 100, 200, -1, 0.5, 1e9, 2 ** 53, -(2 ** 60), 4095, 4096, 65536]), () => oneOf([true, false, null]),
+    () => (depth > 2 ? [] : Array.from({ length: upTo(4) }, () => value(depth + 1))), () => (depth > 2 ? {} : given(depth + 1))];
+  return oneOf(kinds)();
+}
+
+function given(depth = 0) {
+  return Object.fromEntries(Array.from({ length: upTo(7) }, () => [oneOf(NAMES), value(depth)]));
+}
+
+/** Arguments that are nearly right, so that what is behind the first look at them is reached, too. */
+function nearlyRight(command) {
+  const right = { threadId: 1, frameId: 1, variablesReference: 1 + upTo(7), name: oneOf(["acc", "R4", "lamp 0"]), value: oneOf(TEXTS), expression: oneOf(TEXTS),
+    context: oneOf(["repl", "watch", "hover", "clipboard"]), memoryReference: oneOf(["0x000", "0x10000", "ram.0"]), offset: upTo(300) - 20, count: upTo(5000),
+    data: oneOf(["AAAA", "////", "AQID"]), instructionCount: upTo(300), instructionOffset: upTo(100) - 50, source: { path: LOCK.program }, line: upTo(120),
+    column: upTo(20), text: oneOf(TEXTS), targetId: upTo(4200), filters: ["calls"], filterOptions: [{ filterId: "chip", condition: oneOf(TEXTS) }],
+    breakpoints: [{ line: upTo(120), name: oneOf(TEXTS), dataId: oneOf(["r4", "acc", oneOf(TEXTS)]), instructionReference: oneOf(["0x02C", "show"]),
+      condition: oneOf(["", "r4 = 7", oneOf(TEXTS)]), hitCondition: oneOf(["", "3", oneOf(TEXTS)]) }], key: oneOf(["5", "#", "no"]), place: oneOf(["1 1", "9 9", "x"]) };
+  const all = Object.entries(right).map(([name, own]) => [name, upTo(9) === 0 ? value(0) : own]);
+  return command === "cancel" ? { requestId: upTo(2000) } : Object.fromEntries(all);
+}
+
+function argumentsFor(command) {
+  return oneOf([() => undefined, () => null, () => value(0), () => given(), () => nearlyRight(command), () => nearlyRight(command)])();
+}
+
+/** Sends requests in batches, without waiting within one; returns the numbers of those that were not answered just once. */
+async function sendAll(client, count) {
+  const answered = new Map();
+  for (let done = 0; done < count; done += BATCH) {
+    const batch = [];
+    for (let at = 0; at < BATCH; at++) {
+      const command = oneOf(COMMANDS);
+      client.number += 1;
+      batch.push(client.number);
+      client.send({ seq: client.number, type: "request", command, arguments: argumentsFor(command) });
+    }
+    // What runs is paused, so that the next batch finds time that stands.
+    await client.answer("pause", { threadId: 1 });
+    for (const seq of batch) {
+      await client.next((message) => message.type === "response" && message.request_seq === seq);
+      answered.set(seq, 1);
+    }
+    const more = client.received.filter(({ type, request_seq: seq }) => type === "response" && answered.has(seq));
+    for (const { request_seq: seq } of more) answered.set(seq, answered.get(seq) + 1);
+    client.received = [];
+  }
+  return [...answered].filter(([, times]) => times !== 1);
+}
+
+async function tryRequests() {
+  const client = new Client(ADAPTER);
+  verdict(await (async () => {
+    const told = new Set();
+    for (const command of COMMANDS.filter((each) => each !== "initialize")) told.add((await client.answer(command, given())).message);
+    return [...told];
+  })(), ["initialize comes first"], "all requests before initialize");
+  for (const message of [[], 7, "text", null, {}, { type: "request" }, { seq: "1", type: "request", command: "threads" },
+    { seq: 5, type: "request", command: 3 }, { seq: 1.5, type: "request", command: "threads" }]) {
+    client.send(message);
+    fits((await client.next(({ type, success }) => type === "response" && !success)).message, /^a message has a number seq/, JSON.stringify(message));
+  }
+  client.send({ seq: 1, type: "response", request_seq: 1, success: true, command: "runInTerminal" });
+  client.send({ seq: 1, type: "event", event: "nothing" });
+  await client.ask("initialize", { adapterID: "mcs4", supportsProgressReporting: true, supportsMemoryEvent: true });
+  verdict(await sendAll(client, REQUESTS / 4), [], "requests before launch are answered once");
+  client.received = [];
+  const { success } = await client.answer("launch", LOCK);
+  if (success) await client.ask("configurationDone");
+  verdict(await sendAll(client, REQUESTS), [], `${REQUESTS} requests with wrong arguments are answered once`);
+  verdict(client.faults, [], "each answer is as the protocol has it");
+  verdict((await client.ask("threads")).threads.length, 1, "the adapter goes on");
+  verdict([await client.end(), client.told], [0, ""], "and ends");
+}
+
+await Promise.all(LOST.slice(0, 3).map(tryLost));
+for (const each of LOST.slice(3)) await tryLost(each);
+await tryRequests();

@@ -1,0 +1,249 @@
+// What checks/debugging tries in the sequence of requests in which Visual Studio Code sends them: `ok WORDS` or `fault: WORDS` for each thing.
+// What the adapter answers is compared with what the program mcs4 answers on a session file of its own.
+import { execFileSync, spawn } from "node:child_process";
+import { chmodSync, copyFileSync, readFileSync, writeFileSync } from "node:fs";
+import { Client } from "./dap_client.mjs";
+
+const TOP = new URL("../..", import.meta.url).pathname;
+const ADAPTER = `${TOP}mcs4`;
+const [folder] = process.argv.slice(2);
+const BOARD = `${TOP}examples/lock/board.toml`;
+const PROGRAM = `${TOP}examples/lock/lock.asm`;
+const VSCODE = {
+  clientID: "vscode", clientName: "Visual Studio Code", adapterID: "mcs4", pathFormat: "path", linesStartAt1: true, columnsStartAt1: true,
+  supportsVariableType: true, supportsVariablePaging: true, supportsRunInTerminalRequest: true, locale: "en", supportsProgressReporting: true,
+  supportsInvalidatedEvent: true, supportsMemoryEvent: true, supportsArgsCanBeInterpretedByShell: true, supportsStartDebuggingRequest: true,
+  supportsANSIStyling: true,
+};
+
+function verdict(is, wanted, words) {
+  const [one, other] = [JSON.stringify(is), JSON.stringify(wanted)];
+  console.log(one === other ? `ok ${words}` : `fault: ${words}: ${one}, not ${other}`);
+}
+
+const fits = (words, pattern, what) => console.log(pattern.test(words) ? `ok ${what}` : `fault: ${what}: ${words}`);
+
+/** The answers of the program to lines on a copy of a session file. */
+function answersOf(file, input) {
+  copyFileSync(file, `${folder}/asked.mcs`);
+  chmodSync(`${folder}/asked.mcs`, 0o600);
+  return execFileSync(process.env.MCS4, ["open", `${folder}/asked.mcs`], { input, encoding: "utf8" }).split("\n").slice(1, -1);
+}
+
+/** A session file of the lock, by the program alone, with some lines done. */
+function sessionFile(name, lines) {
+  const file = `${folder}/${name}.mcs`;
+  const bare = (text, mark) => text.split("\n").map((line) => line.replace(new RegExp(`${mark}.*`), "").trimEnd()).join("\n");
+  const board = bare(readFileSync(BOARD, "utf8"), "#");
+  const program = bare(readFileSync(PROGRAM, "utf8"), ";");
+  execFileSync(process.env.MCS4, ["new", file], { input: `wire\n${board}.\nasm\n${program}.\n${lines}` });
+  return file;
+}
+
+/** What Visual Studio Code sends up to the first stop. */
+async function begin(client, command, args, { watches = [], filterOptions = [], functions = [] } = {}) {
+  const capabilities = await client.ask("initialize", VSCODE);
+  const launched = client.answer(command, { name: "MCS-4", type: "mcs4", request: command, __sessionId: "1", ...args });
+  await client.event("initialized");
+  await client.ask("setBreakpoints", { source: { name: "lock.asm", path: PROGRAM }, lines: [], breakpoints: [], sourceModified: false });
+  await client.ask("setFunctionBreakpoints", { breakpoints: functions });
+  const data = watches.length > 0 ? await client.ask("setDataBreakpoints", { breakpoints: watches }) : null;
+  const filters = await client.ask("setExceptionBreakpoints", { filters: [], filterOptions });
+  await client.ask("configurationDone");
+  verdict((await launched).success, true, `${command} is answered`);
+  return { capabilities, data, filters, stopped: (await client.event("stopped")).body };
+}
+
+/** What it asks at each stop. */
+async function look(client) {
+  await client.ask("threads");
+  const top = await client.ask("stackTrace", { threadId: 1, startFrame: 0, levels: 1 });
+  const rest = await client.ask("stackTrace", { threadId: 1, startFrame: 1, levels: 19 });
+  const frames = [...top.stackFrames, ...rest.stackFrames];
+  verdict(frames.length, top.totalFrames, "the frames come in two parts");
+  const { scopes } = await client.ask("scopes", { frameId: frames[0].id });
+  return { frames, scopes };
+}
+
+/** A session file that is attached to stays as it is, byte for byte, also if it is read-only. */
+async function tryAttach() {
+  const file = sessionFile("attached", "run 5000\npress 1 1\nbreak 0x031\n");
+  chmodSync(file, 0o444);
+  const before = readFileSync(file);
+  const [state] = answersOf(file, "state\n");
+  const client = new Client(ADAPTER);
+  const { stopped } = await begin(client, "attach", { session: file });
+  verdict([stopped.reason, (await client.ask("evaluate", { expression: "state", context: "repl" })).result], ["entry", state], "attach is where the file is");
+  await look(client);
+  const stepped = answersOf(file, "step\nstep\nstep\nstate\n").pop();
+  for (let step = 0; step < 3; step++) await client.move("stepIn", { granularity: "statement" });
+  verdict((await client.ask("evaluate", { expression: "state", context: "repl" })).result, stepped, "three steps after attach");
+  verdict(Buffer.compare(before, readFileSync(file)), 0, "the file stays as it is");
+  verdict(answersOf(file, "state\n")[0], state, "the program can open it meanwhile");
+  await client.move("restart", {});
+  verdict((await client.ask("evaluate", { expression: "state", context: "repl" })).result, state, "restart reads it again");
+  await client.ask("disconnect", { restart: false, terminateDebuggee: false });
+  verdict([await client.ended, Buffer.compare(before, readFileSync(file)), client.faults], [0, 0, []], "it ends, and the file is as it was");
+  chmodSync(file, 0o600);
+  const writer = new Client(ADAPTER);
+  await begin(writer, "attach", { session: file, write: true, program: PROGRAM, board: BOARD });
+  await writer.move("stepIn");
+  const { result } = await writer.ask("evaluate", { expression: "state", context: "repl" });
+  verdict(answersOf(file, "state\n")[0], result, "with write the file has what was done");
+  const other = new Client(ADAPTER);
+  await other.ask("initialize", VSCODE);
+  for (const args of [{ session: file }, { session: file, write: true }]) {
+    fits((await other.answer("attach", args)).message, /in use.*mcs4 open attached\.mcs \(process \d+\)/s, "who has the file is said");
+  }
+  await writer.end();
+  await other.ask("attach", { session: file });
+  await other.end();
+}
+
+/** A session file that another program has open is refused with that program, and others that are none are refused, too. */
+async function tryRefused() {
+  const file = sessionFile("held", "");
+  const holder = spawn(process.env.MCS4, ["open", file], { stdio: ["pipe", "pipe", "ignore"] });
+  await new Promise((resume) => holder.stdout.once("data", resume));
+  const client = new Client(ADAPTER);
+  await client.ask("initialize", VSCODE);
+  for (const command of ["attach", "launch"]) {
+    const { message } = await client.answer(command, { session: file });
+    fits(message, new RegExp(`in use.*mcs4 open held\\.mcs \\(process ${holder.pid}\\)`, "s"), `${command}: a session in use is refused with its holder`);
+  }
+  holder.stdin.end();
+  await new Promise((resume) => holder.on("close", resume));
+  writeFileSync(`${folder}/binary`, Buffer.from(Array.from({ length: 70000 }, (_, at) => (at * 7919) % 256)));
+  writeFileSync(`${folder}/text`, "x".repeat(65536));
+  writeFileSync(`${folder}/program.asm`, " NOP\n".repeat(13107));
+  execFileSync("sh", ["-c", "cd \"$0\"; ln -s /dev/zero zero; ln -s /dev/stdin stdin; mkfifo fifo; ln -s loop loop; mkdir folder", folder]);
+  for (const name of ["binary", "text", "zero", "stdin", "fifo", "loop", "folder", "nothing", "zero/x", "\u0000", "x".repeat(5000)]) {
+    for (const [command, key] of [["attach", "session"], ["launch", "session"], ["launch", "program"], ["launch", "board"], ["launch", "project"]]) {
+      const { success, message = "" } = await client.answer(command, { ...(key === "board" ? { program: PROGRAM } : {}), cwd: folder, [key]: name });
+      verdict([success, message.length > 5], [false, true], `${command}, ${key} ${JSON.stringify(name.slice(0, 20))}`);
+    }
+  }
+  fits((await client.answer("launch", { cwd: folder, program: "program.asm", board: BOARD })).message, /program\.asm/, "a program of 64 KB");
+  await client.ask("attach", { session: file });
+  await client.end();
+}
+
+/** Changes of places stop where the program's own trace has them. */
+async function tryWatches() {
+  const file = sessionFile("watched", "run 400\n");
+  for (const [dataId, probe] of [["r0", "r0"], ["acc", "acc"], ["chain0", "chain0"], ["rom0", "rom0"], ["cy", "cy"]]) {
+    const client = new Client(ADAPTER);
+    const { data } = await begin(client, "attach", { session: file }, { watches: [{ dataId, accessType: "write" }] });
+    verdict(data.breakpoints.map(({ verified }) => verified), [true], `${dataId} can be watched`);
+    const lines = answersOf(file, `trace 20000 ${probe} pc\n`);
+    let before = lines[0].split(" ").slice(-2)[0];
+    const wanted = lines.slice(1, -1).flatMap((line, at) => {
+      const after = line.split(" ")[2];
+      const isChange = after !== before;
+      before = after;
+      return isChange ? [`0x${lines[at + 2].split(" ")[1]}`] : [];
+    }).slice(0, 12);
+    const stops = [];
+    for (let stop = 0; stop < wanted.length; stop++) {
+      const { reason, hitBreakpointIds } = await client.move("continue");
+      const { stackFrames: [frame] } = await client.ask("stackTrace", { threadId: 1, startFrame: 0, levels: 1 });
+      stops.push(reason === "data breakpoint" && hitBreakpointIds[0] === data.breakpoints[0].id ? frame.instructionPointerReference : reason);
+    }
+    verdict(stops, wanted, `stops at changes of ${dataId}`);
+    await client.end();
+  }
+}
+
+/** Targets, frames, formats, memory and completion, beside the program. */
+async function tryRequests() {
+  const file = sessionFile("lock", "");
+  const client = new Client(ADAPTER);
+  const { capabilities, filters } = await begin(client, "launch", { program: PROGRAM, board: BOARD },
+    { functions: [{ name: "scan" }], filterOptions: [{ filterId: "calls" }, { filterId: "chip", condition: "r0 = 3" }] });
+  const named = ["supportsStepInTargetsRequest", "supportsRestartFrame", "supportsCancelRequest", "supportsValueFormattingOptions",
+    "supportsExceptionFilterOptions", "supportsDataBreakpoints", "supportsCompletionsRequest", "supportsReadMemoryRequest", "supportsWriteMemoryRequest"];
+  verdict(named.filter((name) => capabilities[name] !== true), [], "what the adapter can is announced");
+  verdict(filters.breakpoints.map(({ verified }) => verified), [true, true], "filters with options");
+  const begun = await look(client);
+  const { targets } = await client.ask("stepInTargets", { frameId: begun.frames[0].id });
+  verdict(targets, [], "a jump is no call");
+  await client.move("stepIn");
+  const ahead = await client.ask("stepInTargets", { frameId: 1 });
+  verdict(ahead.targets.map(({ line }) => line), [29, 31], "the calls that come next");
+  await client.move("stepIn", { targetId: ahead.targets[0].id });
+  const { frames } = await look(client);
+  verdict([frames[0].name, frames.length], ["show", 2], "a step into the one that is chosen");
+  await client.move("continue");
+  const scanning = await look(client);
+  const [depth] = [scanning.frames.length];
+  await client.ask("setFunctionBreakpoints", { breakpoints: [] });
+  for (let step = 0; step < 5; step++) await client.move("next");
+  const { reason } = await client.move("restartFrame", { frameId: 2 });
+  const again = await look(client);
+  verdict([reason, again.frames.length, again.frames[0].canRestart], ["restart", depth - 1, true], "a frame that begins again");
+  const address = Number(again.frames[0].instructionPointerReference);
+  const call = Number(again.frames[1].instructionPointerReference);
+  const [listed] = answersOf(file, `list ${call} 1\n`);
+  fits(listed, new RegExp(`JMS 0x${again.frames[0].instructionPointerReference.slice(2)}$`), `it begins at ${address}, where the JMS leads`);
+  const registers = again.scopes.find(({ name }) => name === "Registers").variablesReference;
+  const values = async (format) => (await client.ask("variables", { variablesReference: registers, format })).variables.map(({ value }) => value);
+  const [hex, decimal] = [await values({ hex: true }), await values({ hex: false })];
+  verdict(hex.map(Number), decimal.map(Number), "hexadecimal and decimal are the same numbers");
+  verdict([hex.every((value) => /^0x[0-9A-F]+$/.test(value)), decimal.every((value) => /^\d+$/.test(value))], [true, true], "each in its base");
+  const rom = Buffer.from((await client.ask("readMemory", { memoryReference: "0x000", offset: 0, count: 4096 })).data, "base64");
+  const bytes = Array.from({ length: 16 }, (_, page) => answersOf(file, `list ${256 * page} 256\n`)).flat();
+  const wrong = bytes.filter((line) => {
+    const [at, ...rest] = line.slice(0, 9).trim().split(/ +/);
+    return rest.some((byte, more) => rom[parseInt(at, 16) + more] !== parseInt(byte, 16));
+  });
+  verdict([bytes.length > 1000, wrong], [true, []], "ROM, as the program lists it");
+  await client.ask("writeMemory", { memoryReference: "0x10000", offset: 18, data: Buffer.from([1, 2, 3]).toString("base64") });
+  await client.event("memory");
+  const { result } = await client.ask("evaluate", { expression: "ram 0", context: "repl" });
+  const wanted = answersOf(file, "poke ram.0.18 1\npoke ram.0.19 2\npoke ram.0.20 3\nram 0\n").slice(3);
+  const ofRegister = (lines) => lines.find((line) => line.startsWith("0.0.1 ")).split(" ")[1];
+  verdict(ofRegister(result.split("\n")).slice(2, 5), ofRegister(wanted).slice(2, 5), "characters that are written");
+  const keys = await client.ask("completions", { frameId: 1, text: "press ", column: 7, line: 1 });
+  verdict(keys.targets.map(({ label }) => label).join(" "), "1 2 3 4 5 6 7 8 9 * 0 #", "keys after press");
+  verdict(client.faults, [], "each message is as the protocol has it");
+  verdict(await client.end(), 0, "it ends");
+}
+
+/** Long work is reported, and ends where the client cancels it. */
+async function tryLong() {
+  const program = `${folder}/long.asm`;
+  writeFileSync(program, " FIM P0, 0\nturn: ISZ R0, turn\n ISZ R1, turn\n JUN turn\n");
+  const client = new Client(ADAPTER);
+  await begin(client, "launch", { program, board: BOARD });
+  await client.ask("continue", { threadId: 1 });
+  const { body: { progressId } } = await client.event("progressStart");
+  await client.event("progressUpdate");
+  await client.ask("cancel", { progressId });
+  await client.event("progressEnd");
+  verdict((await client.event("stopped")).body.reason, "pause", "a long run is reported, and pauses where it is cancelled");
+  const { result: before } = await client.ask("evaluate", { expression: "seq", context: "repl" });
+  // A search for what never was, through all that was done.
+  await client.ask("evaluate", { expression: "back r9 = 9", context: "repl" });
+  verdict((await client.event("stopped")).body.reason !== "", true, "a search in the past ends");
+  const lines = `poke r4 7\n${"run 100000\n".repeat(990)}`;
+  client.number += 1;
+  const seq = client.number;
+  client.send({ seq, type: "request", command: "evaluate", arguments: { expression: lines, context: "repl" } });
+  const isAnswer = (message) => message.type === "response" && message.request_seq === seq;
+  // The request has begun where its progress is reported; a fast machine may be done before.
+  const first = await client.next((message) => isAnswer(message) || (message.type === "event" && message.event === "progressStart"));
+  const isDone = isAnswer(first);
+  if (!isDone) await client.ask("cancel", { requestId: seq });
+  const answer = isDone ? first : await client.next(isAnswer);
+  const { result: after } = await client.ask("evaluate", { expression: "seq", context: "repl" });
+  verdict([answer.message || "done", after === before], answer.success ? ["done", false] : ["cancelled", true], "a line that is cancelled does nothing");
+  await client.ask("continue", { threadId: 1 });
+  await client.ask("disconnect", { terminateDebuggee: true });
+  verdict(await client.ended, 0, "it ends while time runs");
+}
+
+await tryAttach();
+await tryRefused();
+await tryWatches();
+await tryRequests();
+await tryLong();

@@ -1,0 +1,140 @@
+// The memory that clients read and write. Each place has one number, so that any client can count with a reference: ROM has its addresses,
+// the RAM character of bank B at SRC byte S has 0x10000 + 0x100 * B + S, and status character K of register H of that bank has
+// 0x20000 + 0x100 * B + 4 * H + K.
+
+import { readRam, refusalOf } from "../bench/answers.js";
+import { LAST_ADDRESS, hex, numberOf } from "../bench/numbers.js";
+import { STATUS, placeOf } from "../conditions/places.js";
+import { romBytes } from "./disassembly.js";
+import { fail, flagOf, needNumber, needText } from "./dap_protocol.js";
+import * as say from "../../words/adapter.js";
+
+/**
+ * @typedef {import("../debug/debug_session.js").DebugSession} DebugSession
+ *
+ * A stretch of memory: the number of its first place, what it holds, and the place of `poke` of each.
+ * @typedef {{ begin: number, bytes: Uint8Array, place: (at: number) => string }} Area
+ *
+ * What a request names: a stretch, and a place in it, which may be outside.
+ * @typedef {{ area: Area, from: number }} Spot
+ */
+
+const [CHARACTERS_AT, STATUS_AT, BANK_SIZE] = [0x10000, 0x20000, 0x100];
+const BANKS = 8;
+
+/**
+ * @param {number} number of a place
+ * @returns {string}
+ */
+export function referenceOf(number) {
+  return number < 0 ? `-${referenceOf(-number)}` : `0x${hex(number, 3)}`;
+}
+
+/** @param {number} bank */
+export const referenceOfBank = (bank) => referenceOf(CHARACTERS_AT + BANK_SIZE * bank);
+
+/**
+ * Returns the number of a RAM character or a status character by its place; -1 for any other place.
+ * @param {string} name
+ */
+export function numberOfPlace(name) {
+  const place = placeOf(name);
+  const [, bank, byte] = /^ram\.(\d)\.(0x..)$/.exec(place ? place.name : "") || [];
+  if (bank) return CHARACTERS_AT + BANK_SIZE * Number(bank) + Number(byte);
+  const [, ofStatus, register, at] = /^st\.(\d)\.(\d+)\.(\d)$/.exec(place ? place.name : "") || [];
+  return ofStatus ? STATUS_AT + BANK_SIZE * Number(ofStatus) + STATUS * Number(register) + Number(at) : -1;
+}
+
+/**
+ * Returns the number that a reference names: a number, a bank as `ram.0`, a character of RAM, or what names an address.
+ * @param {string} reference
+ * @param {(reference: string) => number} addressOf
+ */
+function numberOfReference(reference, addressOf) {
+  const [, bank] = /^ram\.([0-7])$/.exec(reference) || [];
+  if (bank) return CHARACTERS_AT + BANK_SIZE * Number(bank);
+  const [own, number] = [numberOf(reference), numberOfPlace(reference)];
+  if (number >= 0) return number;
+  return own >= CHARACTERS_AT ? own : addressOf(reference);
+}
+
+/**
+ * Returns the stretch of memory around a place; null where the board has none.
+ * @param {DebugSession} session
+ * @param {number} number
+ * @returns {Area | null}
+ */
+function areaAt(session, number) {
+  if (number <= LAST_ADDRESS) return { begin: 0, bytes: romBytes(session), place: (at) => `rom.${at}` };
+  const isStatus = number >= STATUS_AT;
+  const bank = Math.floor((number - (isStatus ? STATUS_AT : CHARACTERS_AT)) / BANK_SIZE);
+  if (bank < 0 || bank >= BANKS) return null;
+  const { registers } = readRam(session.debugger.session.ask(`ram ${bank}\n`));
+  if (registers.size === 0) return null;
+  const digits = [...registers.values()].map(({ characters, status }) => (isStatus ? status : characters)).join("");
+  const bytes = Uint8Array.from(digits, (digit) => parseInt(digit, 16));
+  const begin = (isStatus ? STATUS_AT : CHARACTERS_AT) + BANK_SIZE * bank;
+  const place = (/** @type {number} */ at) => (
+    isStatus ? `st.${bank}.${Math.floor(at / STATUS)}.${at % STATUS}` : `ram.${bank}.${at}`);
+  return { begin, bytes, place };
+}
+
+/**
+ * @param {any} args
+ * @param {DebugSession} session
+ * @param {(reference: string) => number} addressOf
+ * @returns {Spot}
+ */
+function spotOf(args, session, addressOf) {
+  const reference = needText(args, "memoryReference").trim();
+  const number = numberOfReference(reference, addressOf);
+  const area = areaAt(session, number) || fail(say.boardHasNo(reference));
+  return { area, from: number - area.begin + needNumber(args, "offset", 0) };
+}
+
+/**
+ * Serves the request `readMemory`.
+ * @param {any} args
+ * @param {DebugSession} session
+ * @param {(reference: string) => number} addressOf
+ */
+export function readMemory(args, session, addressOf) {
+  const { area: { begin, bytes }, from } = spotOf(args, session, addressOf);
+  const count = needNumber(args, "count");
+  if (count < 0) fail(say.COUNT_IS);
+  const address = referenceOf(begin + from);
+  if (from < 0 || from >= bytes.length) return { address, unreadableBytes: count };
+  const read = bytes.subarray(from, Math.min(bytes.length, from + count));
+  const unread = count - read.length;
+  return { address, data: btoa(String.fromCharCode(...read)), ...(unread > 0 ? { unreadableBytes: unread } : {}) };
+}
+
+/**
+ * Serves the request `writeMemory`: all of the bytes, or none if one is refused. With `allowPartial` those outside of memory are left out.
+ * @param {any} args
+ * @param {DebugSession} session
+ * @param {(reference: string) => number} addressOf
+ * @returns {Promise<{ offset: number, bytesWritten: number }>}
+ */
+export async function writeMemory(args, session, addressOf) {
+  const { area: { bytes, place }, from } = spotOf(args, session, addressOf);
+  const data = bytesOfBase64(needText(args, "data"));
+  const [first, end] = [Math.max(0, from), Math.min(bytes.length, from + data.length)];
+  const isWhole = first === from && end === from + data.length;
+  if (!isWhole && !flagOf(args, "allowPartial", false)) fail(say.OUTSIDE_OF_MEMORY);
+  const given = end > first ? data.subarray(first - from, end - from) : new Uint8Array(0);
+  const lines = [...given].map((byte, at) => `poke ${place(first + at)} ${byte}\n`).join("");
+  const bench = session.debugger.session;
+  // All of them are tried before the first one is written.
+  const tried = lines === "" ? [] : bench.ask(lines);
+  const refused = tried.findIndex((answer) => refusalOf(answer));
+  if (refused >= 0) fail(say.benchAnswered(lines.split("\n")[refused], tried[refused]));
+  if (lines !== "") await bench.serve(lines, async () => true);
+  return { offset: first - from, bytesWritten: given.length };
+}
+
+/** @param {string} text */
+function bytesOfBase64(text) {
+  if (!/^[A-Za-z0-9+/]*={0,2}$/.test(text) || text.length % 4 !== 0) fail(say.BASE_64);
+  return Uint8Array.from(atob(text), (letter) => letter.charCodeAt(0));
+}

@@ -1,0 +1,52 @@
+// How numbers are shown: as usual (places of the machine by their hexadecimal digits, sums in decimal), or all of them in one base, if the
+// client asks for it (`format.hex`).
+
+import { fieldOf } from "../server/framing.js";
+import { fail, flagOf } from "./dap_protocol.js";
+import * as say from "../../words/adapter.js";
+
+/** @typedef {"usual" | "hex" | "decimal"} Base */
+
+/**
+ * Returns what the arguments of a request ask for.
+ * @param {any} args
+ * @param {"hex" | "line"} name
+ * @returns {boolean | null} null where they do not say
+ */
+export function formatOf(args, name) {
+  const format = fieldOf(args, "format");
+  if (format === undefined || format === null) return null;
+  if (typeof format !== "object" || Array.isArray(format)) return fail(say.FORMAT_IS);
+  return fieldOf(format, name) === undefined ? null : flagOf(format, name, false);
+}
+
+/**
+ * @param {any} args
+ * @returns {Base}
+ */
+export function baseOf(args) {
+  const isHex = formatOf(args, "hex");
+  if (isHex === null) return "usual";
+  return isHex ? "hex" : "decimal";
+}
+
+/**
+ * Returns a value in which numbers begin with 0x; a name of the program is shown in both bases, `0x1F, 31`.
+ * @param {string} text
+ * @param {Base} base
+ */
+export function inBase(text, base) {
+  if (base === "usual") return text;
+  const own = text.replace(/^(0x[0-9A-F]+), \d+$/, "$1");
+  return base === "hex" ? own : own.replace(/\b0x[0-9A-F]+\b/g, (digits) => String(Number(digits)));
+}
+
+/**
+ * Returns a number that is usually decimal.
+ * @param {number} number
+ * @param {Base} base
+ */
+export function numberInBase(number, base) {
+  if (base !== "hex") return String(number);
+  return `${number < 0 ? "-" : ""}0x${Math.abs(number).toString(16).toUpperCase()}`;
+}

@@ -1,0 +1,91 @@
+// Long work that the client shows (`progressStart`, `progressUpdate`, `progressEnd`), if it can, and that its user can stop.
+
+import { AdapterError } from "./dap_protocol.js";
+import * as say from "../../words/adapter.js";
+
+/** Work is reported after so many milliseconds, and then again each time that so many have passed. */
+const REPORTED_AFTER = 1000;
+const REPORTED_EVERY = 500;
+
+/** A piece of long work. */
+class Work {
+  /**
+   * @param {Progress} progress
+   * @param {string} title
+   * @param {() => void} stop ends it early
+   */
+  constructor(progress, title, stop) {
+    this.progress = progress;
+    this.title = title;
+    this.stop = stop;
+    this.id = "";
+    this.due = performance.now() + progress.after;
+  }
+
+  /**
+   * Reports that the work goes on, if it is time to.
+   * @param {() => string} message how far it has come
+   */
+  passed(message) {
+    const now = performance.now();
+    if (!this.progress.isOn || now < this.due) return;
+    this.due = now + REPORTED_EVERY;
+    if (this.id === "") this.id = this.progress.start(this, message());
+    else this.progress.tell("progressUpdate", { progressId: this.id, message: message() });
+  }
+
+  end() {
+    if (this.id !== "") this.progress.end(this.id);
+    this.id = "";
+  }
+}
+
+export class Progress {
+  /** @param {(event: string, body: object) => void} tell sends an event */
+  constructor(tell) {
+    this.tell = tell;
+    /** Whether the client shows it. */
+    this.isOn = false;
+    this.after = REPORTED_AFTER;
+    this.made = 0;
+    /** @type {Map<string, Work>} the work that is reported, by its id */
+    this.works = new Map();
+  }
+
+  /**
+   * Some work begins.
+   * @param {string} title
+   * @param {() => void} stop ends it early
+   */
+  begin(title, stop) {
+    return new Work(this, title, stop);
+  }
+
+  /**
+   * @param {Work} work
+   * @param {string} message
+   */
+  start(work, message) {
+    this.made += 1;
+    const progressId = `mcs4 ${this.made}`;
+    this.works.set(progressId, work);
+    this.tell("progressStart", { progressId, title: work.title, cancellable: true, message });
+    return progressId;
+  }
+
+  /** @param {string} progressId */
+  end(progressId) {
+    this.works.delete(progressId);
+    this.tell("progressEnd", { progressId });
+  }
+
+  /**
+   * Stops work that is reported.
+   * @param {string} progressId
+   */
+  stop(progressId) {
+    const work = this.works.get(progressId);
+    if (!work) throw new AdapterError(say.noProgress(progressId));
+    work.stop();
+  }
+}

@@ -1,0 +1,42 @@
+// Requests for proofs of properties, by the prover of the module.
+
+import { beginProving, judgedLine } from "../prove/bounded_proof.js";
+
+/**
+ * @typedef {import("./open_bench.js").OpenBench} OpenBench
+ */
+
+export class ProofRequests {
+  /** @param {OpenBench} bench */
+  constructor(bench) {
+    this.bench = bench;
+    /** @type {import("../prove/judging.js").Judging | null} the judgement that goes on */
+    this.proving = null;
+  }
+
+  /**
+   * Begins to prove properties; returns the errors of the texts, and the number of properties.
+   * @param {import("../explore/exploring.js").ExploredTexts} texts
+   * @param {number} most states that a question searches
+   */
+  prove(texts, most) {
+    const { bench } = this;
+    const { proving, faults } = beginProving(bench.engine, texts, most, {
+      seen: async (states) => {
+        await bench.goesOn(states, most);
+      },
+      breathe: async () => {
+        await bench.goesOn(0, most);
+      },
+    });
+    this.proving = proving;
+    return { faults, count: proving ? proving.all.length : 0 };
+  }
+
+  /** Judges the next property; returns null if all are judged. */
+  async proveNext() {
+    if (!this.proving) throw new Error("nothing is proved");
+    const judged = await this.proving.next();
+    return judged && judgedLine(judged);
+  }
+}

@@ -1,0 +1,19 @@
+// Whether a test that was written of a find is judged as the find says.
+
+import { runTests } from "./test_suite.js";
+
+/**
+ * Returns whether a test fails on a board and a program; of a goal, whether it passes.
+ * @param {import("../engine/engine_host.js").EngineHost} engine
+ * @param {import("./prepared.js").Texts} texts
+ * @param {string} test
+ * @param {boolean} isGoal
+ * @param {() => Promise<void>} breathe lets other work in
+ */
+export async function isConfirmed(engine, { boardText, programText }, test, isGoal, breathe) {
+  const { faults, outcomes } = await runTests(engine, { boardText, programText, testText: test }, async () => {
+    await breathe();
+    return true;
+  });
+  return faults.length === 0 && outcomes.every(({ failure }) => (failure === null) === isGoal);
+}

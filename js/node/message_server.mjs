@@ -1,0 +1,52 @@
+// What `mcs4 lsp` and `mcs4 dap` do alike with standard input and output: bytes go to a connection, and the process ends, with the reason on
+// standard error, once no message can follow.
+import { escaped } from "../core/text/escaped.js";
+
+/** For the rest of a message it waits so many milliseconds after each part. */
+const PATIENCE = 10000;
+
+/**
+ * Returns what ends the process once all that was written has gone.
+ * @param {string} name of the command
+ * @returns {(status: number, words?: string) => void}
+ */
+export function endOf(name) {
+  return (status, words = "") => {
+    if (words) process.stderr.write(`${name}: ${escaped(words)}\n`);
+    process.exitCode = status;
+    process.stdin.destroy();
+    process.stdout.end(() => process.exit(status));
+  };
+}
+
+/**
+ * Gives a connection the bytes of standard input.
+ * @param {import("../core/server/message_stream.js").MessageStream} connection
+ * @param {(words: string) => void} lost is called once, with the reason: the stream has ended ("" between messages), or no message can follow
+ */
+export function listen(connection, lost) {
+  let isLost = false;
+  let parts = 0;
+  /** @type {NodeJS.Timeout | undefined} */
+  let waiting;
+  const lose = (words) => {
+    clearTimeout(waiting);
+    if (!isLost) lost(words);
+    isLost = true;
+  };
+  // Where this process itself was stopped or busy, the rest is in the pipe, and is read before anything is refused.
+  const refuse = (seen) => setImmediate(() => seen === parts && !isLost && lose(connection.refuseIncomplete()));
+  process.stdin.on("data", (bytes) => {
+    if (isLost) return;
+    clearTimeout(waiting);
+    parts += 1;
+    try {
+      connection.take(bytes);
+    } catch (fault) {
+      lose(fault instanceof Error ? fault.message : String(fault));
+      return;
+    }
+    if (connection.reader.incomplete !== "") waiting = setTimeout(refuse, PATIENCE, parts);
+  });
+  process.stdin.on("end", () => !isLost && lose(connection.refuseIncomplete()));
+}

@@ -1,0 +1,101 @@
+// What comes of proving properties: a row for each of them, with its verdict, and how far the search is.
+
+import { Cell, Switch, below, block, buttonOf, element } from "../ui/dom.js";
+import { isRight, markOf, wordsOfVerdict, wordsSoFar } from "../../words/proved.js";
+import * as say from "../../words/prove.js";
+import { wordsOfLine } from "../../words/stops.js";
+
+/**
+ * @typedef {import("../../core/prove/counterexample.js").Counterexample} Counterexample
+ * @typedef {import("../../core/prove/prover.js").Progress} Progress
+ * @typedef {import("../../core/prove/bounded_proof.js").JudgedLine} JudgedLine
+ *
+ * @typedef {object} ProofCalls
+ * @property {(judged: JudgedLine) => void} goTo shows the line of a property in the text
+ * @property {(judged: JudgedLine, found: Counterexample) => void} open opens a counterexample in the debugger
+ * @property {(found: Counterexample) => void} add adds the test of a counterexample to those of the program
+ */
+
+/** The row of a property. Its verdict is put in once, so that nothing that is used there goes away under the hand. */
+class Row {
+  /**
+   * @param {JudgedLine} judged
+   * @param {ProofCalls} calls
+   */
+  constructor(judged, calls) {
+    this.judged = judged;
+    const { text, line, isGoal, verdict } = judged;
+    const mark = element("b", {});
+    const words = element("span", { className: "time" });
+    const name = buttonOf(text, () => calls.goTo(judged), { className: "name", title: wordsOfLine(line) });
+    this.node = element("li", {}, element("p", {}, mark, " ", name, " ", words));
+    this.mark = new Cell(mark);
+    this.words = new Cell(words);
+    this.isLit = new Switch((isOn) => mark.classList.toggle("lit", isOn));
+    this.isWrong = new Switch((isOn) => mark.classList.toggle("not-ok", isOn));
+    if (verdict.kind === "found") this.node.append(...this.partsOf(isGoal, verdict.found, calls));
+  }
+
+  /**
+   * @param {boolean} isGoal
+   * @param {Counterexample} found
+   * @param {ProofCalls} calls
+   */
+  partsOf(isGoal, found, calls) {
+    const { isTest, text } = found;
+    const [openWords, title] = isGoal ? [say.OPEN_WAY, say.BEFORE_GOAL] : [say.OPEN_FOUND, say.BEFORE_IT];
+    const add = isTest ? [buttonOf(say.ADD_TO_TESTS, () => calls.add(found), { title: say.AT_END })] : [];
+    const name = isTest ? say.ITS_TEST : say.ITS_LINES;
+    return [
+      element("details", {}, element("summary", {}, name), element("pre", { tabIndex: 0 }, text.trimEnd())),
+      element("p", { className: "bar" }, buttonOf(openWords, () => calls.open(this.judged, found), { title }), ...add),
+    ];
+  }
+
+  /** @param {boolean} stands whether the verdict is about the texts as they are */
+  show(stands) {
+    const { judged } = this;
+    this.mark.set(stands ? markOf(judged) : "");
+    this.words.set(stands ? wordsOfVerdict(judged) : say.CHANGED);
+    this.isLit.set(stands && judged.verdict.kind === "proved" && isRight(judged));
+    this.isWrong.set(stands && judged.verdict.kind !== "open" && !isRight(judged));
+  }
+}
+
+export class ProofsView {
+  /** @param {ProofCalls} calls */
+  constructor(calls) {
+    this.calls = calls;
+    this.block = block("proof-results");
+    this.list = block("proof-list");
+    this.progress = block("proof-progress");
+    this.bar = below(this.progress, "progress", HTMLProgressElement);
+    this.soFar = new Cell(below(this.progress, "span", HTMLElement));
+    /** @type {Row[]} */
+    this.rows = [];
+  }
+
+  clear() {
+    this.block.hidden = true;
+    this.rows = [];
+    this.list.replaceChildren();
+  }
+
+  /**
+   * @param {Progress} progress
+   * @param {number} most states that a question searches
+   * @param {boolean} goesOn whether properties are being judged
+   * @param {(judged: JudgedLine) => boolean} stands whether a verdict is about the texts as they are
+   */
+  show(progress, most, goesOn, stands) {
+    const more = progress.judged.slice(this.rows.length).map((judged) => new Row(judged, this.calls));
+    this.list.append(...more.map(({ node }) => node));
+    this.rows.push(...more);
+    for (const row of this.rows) row.show(stands(row.judged));
+    this.progress.hidden = !goesOn;
+    this.bar.max = most;
+    this.bar.value = progress.states;
+    this.soFar.set(goesOn ? wordsSoFar(progress) : "");
+    this.block.hidden = this.rows.length === 0 && !goesOn;
+  }
+}
