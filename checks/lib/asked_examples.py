@@ -10,7 +10,7 @@ from dataclasses import dataclass
 
 from assembler import assemble
 from board4004 import CODES, TWO_WORDS
-from second_search import Comparison, Question
+from second_search import MISTAKES, Comparison, Question
 
 EXAMPLE_FILES = pathlib.Path(__file__).resolve().parent.parent.parent / "examples"
 MOST_OF_MUTANTS, PAUSE_OF_MUTANTS = 120, 1000
@@ -118,6 +118,24 @@ def nevers_in(props: str) -> list[str]:
     """The nevers of a file of properties, but for those of a time and those behind a guard."""
     lines = (EXAMPLE_FILES / props).read_text().splitlines()
     return [line.removeprefix("never ") for line in lines if line.startswith("never ") and " for " not in line]
+
+
+# The program of each example makes no mistake, but for these. Lamps runs on through ROM that the board lacks, and its second WRR has no output line.
+MADE = {"lamps.txt": ("rom", "wrr")}
+MOST_OF_PROGRAMS, PAUSE_OF_PROGRAMS = 60, 1000
+
+
+def programs() -> list[str]:
+    """The examples with a program, as files or folders."""
+    texts = [path.name for path in EXAMPLE_FILES.glob("*") if path.suffix in (".txt", ".mcsp") and "asm" in path.read_text().splitlines()]
+    return sorted([*texts, *(path.parent.name for path in EXAMPLE_FILES.glob("*/board.toml"))])
+
+
+def mistakes_of(name: str, asked: tuple[str, ...] = MISTAKES) -> Question:
+    """The question whether the program of an example makes one of these mistakes."""
+    path = EXAMPLE_FILES / name
+    board, program = texts_of(f"{name}/{name}.props" if path.is_dir() else str(path.with_suffix(".props").name))
+    return Question(board, program, [[("mistake", *asked)]], MOST_OF_PROGRAMS, PAUSE_OF_PROGRAMS)
 
 
 def program_of(image: dict[int, int]) -> list[str]:

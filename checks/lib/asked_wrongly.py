@@ -9,15 +9,15 @@ BEGUN = ["most 9", "pause 9", *BOARD, *PROGRAM]
 NO_LINES = [
     "most", "most x", "most -1", "most 1 2", "most 4000000001", f"most {'9' * 5000}", "most 0x", "most 1.5", "Most 1", "pause", "pause 0", "pause 1000000001",
     "pause 0x", "wire", "wire x", "asm", "asm x", ".", "[[rom]]", "never x", "nevermore", "prove it", "proved", "\0", "most 1\0", "\x7f", "x" * 100000,
-    "in register 0 whole 0 0", "out register 0 whole 0 0"]
+    "in register 0 whole 0 0", "out register 0 whole 0 0", "mistake code"]
 # Comparisons that are none.
 NO_COMPARISONS = [
     "in", "in register 0 whole 0", "in register 0 whole 0 0 0", "at register 0 whole 0 0", "In register 0 whole 0 0", "in registers 0 whole 0 0",
     "in register 16 whole 0 0", "in character 2048 whole 0 0", "in status 512 whole 0 0", "in ramport 32 whole 0 0", "in romport 16 whole 0 0",
-    "in banksrc 8 whole 0 0", "in counter 13 whole 0 0", "in chain0 256 whole 0 0", "in chain4 0 whole 0 0", "in chain 0 whole 0 0",
+    "in banksrc 8 whole 0 0", "in counter 14 whole 0 0", "in chain0 256 whole 0 0", "in chain4 0 whole 0 0", "in chain 0 whole 0 0",
     "in register 65536 whole 0 0", "in register 4294967296 whole 0 0", "in register -1 whole 0 0", "in register x whole 0 0", "in register 0 line4 0 0",
     "in register 0 line 0 0", "in register 0 0 0 0", "in register 0 whole 256 0", "in register 0 whole 0 256", "in register 0 whole 0 99999999999",
-    "in register 0 whole 0x100 0", "in register 0 whole a b"]
+    "in register 0 whole 0x100 0", "in register 0 whole a b", "mistake", "mistake x", "mistake code x", "mistake code,call", "Mistake code", "mistakes code"]
 # A question, the status and the answer.
 ANSWERS: list[tuple[list[str], int, str]] = [
     ([], 2, "no question"), ([""], 2, "no question"), (["prove"], 2, "no question"), ([*BOARD, "prove"], 2, "no question"),
@@ -31,6 +31,9 @@ ANSWERS: list[tuple[list[str], int, str]] = [
     ([*BOARD, *PROGRAM, "prove"], 0, "too many"), ([*BEGUN, "most 0", "prove"], 0, "too many"), (["prove", *BEGUN], 2, "wrong line 2"),
     ([*BEGUN, "never", "in register 0 whole 9 3", "prove"], 0, "holds 1"), ([*BEGUN, "never", "out register 0 whole 9 3", "prove"], 0, "may fail"),
     ([*BEGUN, "never", "in chain3 255 line3 0x0 0xFF", "in character 2047 whole 0 0", "prove"], 0, "may fail"),
+    *(([*BEGUN, "never", f"mistake {kind}", "prove"], 0, "holds 1") for kind in ("code", "call", "return", "ram", "rom", "wrr", "code code")),
+    *(([*BEGUN, "never", line, "prove"], 0, "may fail") for line in ("mistake rdr", "mistake wrr code rdr")),
+    ([*BEGUN, "never", "mistake rdr", "in register 0 whole 1 1", "prove"], 0, "holds 1"),
     (["wire", "x", ".", *PROGRAM, "prove"], 3, "no 20"), (["wire", "[[rim]]", ".", *PROGRAM, "prove"], 3, "no 21"),
     (["wire", "[[rom]]", "chip = 0", ".", *PROGRAM, "prove"], 3, "no 22"),
     (["wire", "[[rom]]", "chip = 16", 'port = "0000"', ".", *PROGRAM, "prove"], 3, "no 23"),

@@ -13,10 +13,12 @@ from collections.abc import Callable, Iterable
 from dataclasses import dataclass, field
 
 import bench4004
-from board4004 import CODES, Board
+from board4004 import ADDRESSES, CODES, TWO_WORDS, Board
 
 # A comparison, in the words of a question: `in` or `out`, the list, the index, the part, the lowest and the highest number.
 Comparison = tuple[str, str, int, str, int, int]
+# Mistakes of which the next cycle makes one: `mistake` and their names.
+Mistakes = tuple[str, ...]
 # The keys that are down, by row and column, and the level of TEST.
 Levels = tuple[frozenset[tuple[int, int]], int]
 Condition = Callable[[Board], bool]
@@ -25,11 +27,11 @@ NO_LEVELS: Levels = (frozenset(), 1)
 
 @dataclass
 class Question:
-    """A board and a program, what is never to be met, all comparisons of a row at once, at most how many states, and where a stretch is cut."""
+    """A board and a program, what is never to be met, all conditions of a row at once, at most how many states, and where a stretch is cut."""
 
     board: list[str]
     program: list[str]
-    nevers: list[list[Comparison]] = field(default_factory=list)
+    nevers: list[list[Comparison | Mistakes]] = field(default_factory=list)
     most: int = 1000000
     pause: int = 1000000
 
@@ -76,21 +78,78 @@ def cell(board: Board, name: str, index: int) -> int:
         "romport": lambda: chips.rom_latch.get(index, 0),
         "banksrc": lambda: chips.bank_src[index],
         "register": lambda: board.r[index],
-        "counter": lambda: [board.acc, board.cy, board.dcl, board.owed, *addresses(board), chips.rom_src][index],
+        "counter": lambda: [board.acc, board.cy, board.dcl, board.owed, *addresses(board), chips.rom_src, calls_of(board)][index],
     }[name]()
 
 
-def is_met(board: Board, comparison: Comparison) -> bool:
-    """Whether a comparison is met."""
-    way, name, index, part, low, high = comparison
+# ---- mistakes, by the instruction table of the manual
+
+# At most so many calls are open: the processor keeps as many return addresses.
+OPEN_CALLS = 3
+# The instructions for a RAM chip: its characters, its status characters, and its port.
+FOR_RAM = {"WRM", "RDM", "ADM", "SBM", "WMP", *(f"{way}{k}" for way in ("WR", "RD") for k in range(4))}
+MISTAKES = ("code", "call", "return", "ram", "rom", "rdr", "wrr")
+# The calls that are open in a board.
+CALLS = "calls"
+
+
+def calls_of(board: Board) -> int:
+    """How many calls are open."""
+    return getattr(board, CALLS, 0)
+
+
+def set_calls(board: Board, calls: int) -> None:
+    """Makes so many calls open."""
+    setattr(board, CALLS, calls)
+
+
+def read_by(board: Board, name: str) -> list[int]:
+    """The addresses of the ROM words that the instruction at the counter reads: its own, and of FIN what it loads."""
+    behind = (board.pc + 1) % ADDRESSES
+    return [board.pc] + ([behind] if name in TWO_WORDS else []) + ([behind & 0xF00 | board.pair(0)] if name == "FIN" else [])
+
+
+def mistakes(board: Board) -> set[str]:
+    """The mistakes that the next cycle makes; none in the second cycle of an instruction."""
+    if board.owed:
+        return set()
+    if board.is_outside():
+        return {"code"}
+    name, chips = CODES[board.rom[board.pc]][0], board.chips
+    port = chips.masks.get(chips.rom_src >> 4, "")
+    return {each for each, is_made in {
+        "call": name == "JMS" and calls_of(board) == OPEN_CALLS,
+        "return": name == "BBL" and calls_of(board) == 0,
+        "ram": name in FOR_RAM and not chips.has_ram(board.dcl, chips.bank_src[board.dcl]),
+        "rom": any(address >> 8 not in chips.masks for address in read_by(board, name)),
+        "rdr": name == "RDR" and "i" not in port,
+        "wrr": name == "WRR" and port.strip("i") == "",
+    }.items() if is_made}
+
+
+def cycle(board: Board) -> None:
+    """One cycle, which may open a call or close one. A fourth call takes the place of the first."""
+    name = "" if board.owed else CODES[board.rom[board.pc]][0]
+    change = {"JMS": 1, "BBL": -1}.get(name, 0)
+    set_calls(board, min(max(calls_of(board) + change, 0), OPEN_CALLS))
+    board.cycle()
+
+
+# ---- conditions
+
+def is_met(board: Board, condition: Comparison | Mistakes) -> bool:
+    """Whether a condition is met."""
+    if condition[0] == "mistake":
+        return bool(mistakes(board) & set(condition[1:]))
+    way, name, index, part, low, high = condition
     number = cell(board, name, index)
     if part != "whole":
         number = number >> int(part[4:]) & 1
     return (low <= number <= high) == (way == "in")
 
 
-def condition_of(nevers: list[list[Comparison]]) -> Condition:
-    """Whether a row of comparisons is met all at once."""
+def condition_of(nevers: list[list[Comparison | Mistakes]]) -> Condition:
+    """Whether a row of conditions is met all at once."""
     return lambda board: any(all(is_met(board, each) for each in row) for row in nevers)
 
 
@@ -137,17 +196,18 @@ def values_read(board: Board) -> dict[int, Levels]:
 # ---- from state to state
 
 def saved(board: Board) -> tuple:
-    """All that a machine holds but its inputs."""
+    """All that a machine holds but its inputs, and how many calls are open."""
     chips = board.chips
     return (board.acc, board.cy, board.pc, board.dcl, board.owed, tuple(board.r), tuple(board.ret), chips.rom_src, tuple(chips.bank_src),
             tuple(chips.rom_latch.values()), tuple(chips.ram_latch.values()), tuple(map(tuple, chips.chains)),
-            tuple((bytes(chips.ram[bank]), *map(bytes, chips.status[bank])) for bank in sorted(chips.chips)))
+            tuple((bytes(chips.ram[bank]), *map(bytes, chips.status[bank])) for bank in sorted(chips.chips)), calls_of(board))
 
 
 def load(board: Board, state: tuple) -> None:
     """Makes a machine hold this."""
     chips = board.chips
-    board.acc, board.cy, board.pc, board.dcl, board.owed, r, ret, chips.rom_src, srcs, roms, rams, chains, banks = state
+    board.acc, board.cy, board.pc, board.dcl, board.owed, r, ret, chips.rom_src, srcs, roms, rams, chains, banks, calls = state
+    set_calls(board, calls)
     board.r, board.ret, chips.bank_src, chips.chains = list(r), list(ret), list(srcs), [list(chain) for chain in chains]
     chips.rom_latch, chips.ram_latch = dict(zip(chips.rom_latch, roms)), dict(zip(chips.ram_latch, rams))
     for bank, (characters, *status) in zip(sorted(chips.chips), banks):
@@ -162,7 +222,7 @@ def go_on(board: Board, levels: Levels, is_bad: Condition, pause: int) -> tuple[
         if not board.owed and board.is_outside():
             # Nothing changes any more.
             return cycles - 1, False
-        board.cycle()
+        cycle(board)
         if is_bad(board):
             return cycles, True
         if is_reading(board) or board.pc == at and saved(board) == state:
@@ -176,6 +236,7 @@ def power_on(question: Question) -> Board:
     board.wire("\n".join(question.board))
     bench4004.load(board, question.program)
     board.power_on()
+    set_calls(board, 0)
     return board
 
 
@@ -222,7 +283,7 @@ def is_met_when_driven(question: Question, chance: random.Random, cycles: int) -
         chips.down = {(row, column) for row in range(chips.keys["rows"]) for column in range(len(chips.columns)) if chance.random() < 0.1}
         board.test = chance.randrange(2)
         if board.owed or not board.is_outside():
-            board.cycle()
+            cycle(board)
     return is_bad(board)
 
 

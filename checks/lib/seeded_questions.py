@@ -1,5 +1,5 @@
 """Questions to mcs4-prove by a generator, the same from the same number: a seeded board (seeded_boards.py), a short program that reads keys and TEST in
-loops, and comparisons of what such a program changes; some of them are met, some never.
+loops, and comparisons of what such a program changes; some of them are met, some never. Some questions ask for mistakes, too.
 """
 
 from __future__ import annotations
@@ -9,12 +9,12 @@ from collections.abc import Iterator
 
 from assembler import ALONE
 from board4004 import Board
-from second_search import Comparison, Question, cell, go_on, power_on, values_read
+from second_search import MISTAKES, Comparison, Question, cell, go_on, power_on, values_read
 from seeded_boards import OUTSIDE, Program, Seeded, Wiring
 
 # Most of what is not done with a chip.
 HANDY = ["CLB", "CLC", "IAC", "CMC", "CMA", "RAL", "RAR", "TCC", "DAC", "TCS", "STC", "DAA", "KBP"]
-LENGTHS = {"character": 2048, "status": 512, "ramport": 32, "romport": 16, "banksrc": 8, "register": 16, "counter": 13,
+LENGTHS = {"character": 2048, "status": 512, "ramport": 32, "romport": 16, "banksrc": 8, "register": 16, "counter": 14,
            "chain0": 256, "chain1": 256, "chain2": 256, "chain3": 256}
 # How many states a walk that looks for numbers passes at most.
 WALK = 12
@@ -97,7 +97,7 @@ def walked(question: Question, chance: random.Random) -> Iterator[Board]:
 
 def cells_of(wiring: Wiring) -> list[tuple[str, int]]:
     """Cells that are worth a look: registers, ports, a few of RAM and chains; some of chips that are not there."""
-    cells = [("register", k) for k in range(16)] + [("counter", k) for k in range(13)]
+    cells = [("register", k) for k in range(16)] + [("counter", k) for k in range(14)]
     cells += [("romport", chip) for chip in wiring.ports] + [("banksrc", bank) for bank in wiring.banks]
     cells += [("ramport", 4 * bank + chip) for bank, chips in wiring.banks.items() for chip in range(chips)]
     cells += [("character", 256 * bank + src) for bank in wiring.banks for src in (0, 16, 64, 17)]
@@ -137,4 +137,7 @@ def seeded_question(seed: int, most: int) -> Question:
     cells = cells_of(wiring)
     boards = [{each: cell(board, *each) for each in cells} for board in walked(question, chance)]
     question.nevers = [[comparison(chance, wiring, boards) for _each in range(chance.choice([1, 2, 2, 3]))] for _row in range(chance.choice([0, 1, 1, 1, 2]))]
+    if chance.random() < 0.5:
+        asked = ("mistake", *chance.sample(MISTAKES, chance.choice([1, 1, 2, len(MISTAKES)])))
+        question.nevers.append([asked, *([comparison(chance, wiring, boards)] if chance.random() < 0.2 else [])])
     return question

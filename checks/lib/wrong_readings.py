@@ -182,14 +182,24 @@ def not_between(nevers: list[list[Comparison]]) -> Condition:
 
 def from_left(board: Board, comparison: Comparison) -> bool:
     """Line 0 of a number is its highest bit."""
+    if comparison[0] == "mistake":
+        return RIGHT_MET(board, comparison)
     way, name, index, part, low, high = comparison
     return RIGHT_MET(board, (way, name, index, part if part == "whole" else f"line{3 - int(part[4:])}", low, high))
 
 
+def never_closed(board: Board) -> None:
+    """Calls are opened, and none is closed."""
+    calls = second_search.calls_of(board)
+    RIGHT_CYCLE(board)
+    second_search.set_calls(board, max(calls, second_search.calls_of(board)))
+
+
 RIGHT_SAVED, RIGHT_VALUES, RIGHT_GO_ON = second_search.saved, second_search.values_read, second_search.go_on
 RIGHT_CONDITION, RIGHT_MET, RIGHT_BEGINS = second_search.condition_of, second_search.is_met, second_search.begins
+RIGHT_CYCLE, RIGHT_MISTAKES = second_search.cycle, second_search.mistakes
 PARTS = ("accumulator", "carry", "counter", "DCL", "owed cycle", "registers", "return addresses", "SRC of the ROMs", "SRC of the banks",
-         "ports of ROMs", "ports of RAM", "chains", "RAM")
+         "ports of ROMs", "ports of RAM", "chains", "RAM", "open calls")
 WRONG_SEARCHES: dict[str, Callable[[], AbstractContextManager]] = {
     **{f"a state without its {part}": method(second_search, "saved", without(place)) for place, part in enumerate(PARTS)},
     "a value is left out": method(second_search, "values_read", but_the_largest),
@@ -203,5 +213,9 @@ WRONG_SEARCHES: dict[str, Callable[[], AbstractContextManager]] = {
     "not looked at between two cycles": method(second_search, "condition_of", not_between),
     "one comparison of a row is enough": method(second_search, "condition_of", lambda nevers: RIGHT_CONDITION([[each] for row in nevers for each in row])),
     "lines count from the left": method(second_search, "is_met", from_left),
-    "out is in": method(second_search, "is_met", lambda board, words: RIGHT_MET(board, ("in", *words[1:]))),
+    "out is in": method(second_search, "is_met", lambda board, words: RIGHT_MET(board, words if words[0] == "mistake" else ("in", *words[1:]))),
+    "mistakes are looked at at reads": method(second_search, "mistakes", lambda board: RIGHT_MISTAKES(board) if second_search.is_reading(board) else set()),
+    "four calls may be open": method(second_search, "OPEN_CALLS", 4),
+    "a BBL leaves calls open": method(second_search, "cycle", never_closed),
+    **{f"no mistake {kind}": method(second_search, "mistakes", lambda board, kind=kind: RIGHT_MISTAKES(board) - {kind}) for kind in second_search.MISTAKES},
 }

@@ -2,6 +2,7 @@
 import { writeFileSync } from "node:fs";
 import { join } from "node:path";
 import { Judging } from "../core/prove/judging.js";
+import { allMistakes } from "../core/prove/mistakes.js";
 import { questionOf, readAnswer } from "../core/prove/question.js";
 import { readCampaign } from "../core/explore/campaign.js";
 import { grouped } from "../core/explore/report.js";
@@ -41,23 +42,22 @@ class Proving {
     const subject = subjectOf(engine, board.text, program.text, program.before);
     const { campaign, faults } = readCampaign(properties.text, subject, false);
     if (faults.length > 0) throw new CommandError(faults.map(({ line, words }) => `${properties.name}:${line}: ${words}`).join("\n"));
-    const judging = new Judging(subject, campaign, {
-      ask: (nevers) => this.ask(nevers),
+    return new Judging(subject, campaign, {
+      ask: (nevers) => this.ask(nevers, []),
       confirms: (found, isGoal) => this.confirms(found, isGoal),
       reason: (kind) => this.reasons[kind],
       breathe,
     });
-    if (judging.all.length === 0) throw new CommandError(`${properties.name} ${say.NOTHING_TO_PROVE}`);
-    return judging;
   }
 
   /**
    * Asks the prover; returns its answer.
    * @param {import("../core/prove/cells.js").All[]} nevers
+   * @param {string[]} mistakes their words
    */
-  async ask(nevers) {
+  async ask(nevers, mistakes) {
     const { board, program } = this.texts;
-    const question = questionOf({ board: board.text, program: program.text }, nevers, this.most);
+    const question = questionOf({ board: board.text, program: program.text }, nevers, this.most, mistakes);
     const { stdout, stderr, signal } = await runCommand(this.program, [], question);
     const answer = readAnswer(stdout);
     if (!answer) throw new CommandError(say.proverEnded([stdout.trim(), stderr.trim(), signal].filter(Boolean).join("; ")));
@@ -77,6 +77,22 @@ class Proving {
     const { status } = await runCommand(process.execPath, [process.argv[1], "test", ...names]);
     return status === (isGoal ? 0 : 1);
   }
+
+  /**
+   * Judges what every program is asked: all of it at once, and each alone if that decides nothing of it.
+   * @param {Judging} judging
+   */
+  async judgeMistakes(judging) {
+    const mistakes = allMistakes();
+    const together = await this.ask([], mistakes.map(({ word }) => word));
+    /** @type {import("../core/prove/verdicts.js").Judged[]} */
+    const judged = [];
+    for (const { property, word } of mistakes) {
+      const answer = together.kind === "fails" ? await this.ask([], [word]) : together;
+      judged.push({ property, verdict: await judging.verdictOf(property, answer, { ...judging.campaign, properties: [property] }, word) });
+    }
+    return judged;
+  }
 }
 
 /**
@@ -85,6 +101,7 @@ class Proving {
  * @param {number} most states
  */
 export async function proveTexts(texts, most) {
-  const judging = await new Proving(texts, most).begin();
-  return judging.judgeAll();
+  const proving = new Proving(texts, most);
+  const judging = await proving.begin();
+  return [...await judging.judgeAll(), ...await proving.judgeMistakes(judging)];
 }

@@ -8,6 +8,7 @@ import { subjectOf } from "../core/explore/subject.js";
 import { randomFrom } from "../core/explore/walks.js";
 import { counterexampleOf } from "../core/prove/counterexample.js";
 import { comparisonsOf } from "../core/prove/decided.js";
+import { allMistakes, cyclesToMistake } from "../core/prove/mistakes.js";
 import { askedOf, questionOf, readAnswer } from "../core/prove/question.js";
 import { statusOf, tapOf } from "../core/prove/verdicts.js";
 import { runTests } from "../core/testing/test_suite.js";
@@ -147,6 +148,13 @@ test("a question has its limits, both texts and what must never be", () => {
     "in register 1 whole 0 3", "out counter 1 whole 0 0", "never", "prove", ""]);
 });
 
+test("mistakes are one more thing that must never be", () => {
+  const question = questionOf({ board: "rom = []\n", program: "NOP" }, [["in register 1 whole 0 3"]], 77, ["code", "ram"]);
+  assert.deepEqual(question.split("\n").slice(8), ["never", "in register 1 whole 0 3", "never", "mistake code ram", "prove", ""]);
+  assert.deepEqual(allMistakes().map(({ word, property: { form } }) => `${word} ${form}`),
+    ["code code", "call calls", "return returns", "ram mistake", "rom mistake", "rdr mistake", "wrr mistake"]);
+});
+
 test("answers", () => {
   assert.deepEqual(readAnswer("holds 12\n"), { kind: "holds", states: 12 });
   assert.deepEqual(readAnswer("may fail\n"), { kind: "fails", values: [] });
@@ -185,6 +193,27 @@ test("inputs that the text of properties excludes are known as such", async () =
   assert.equal((await counterexample("press B\nnever lamp on on", LIGHTS)).found.isAllowed, false);
   assert.equal((await counterexample("press A\nheld at most 20\nnever lamp on on", LIGHTS)).found.isAllowed, false);
   assert.equal((await counterexample("press A\nbegin after 1 s\nnever lamp on on", LIGHTS)).found.isAllowed, false);
+});
+
+// Programs on the board above: after how many cycles the next instruction makes a mistake, by its word; the cycles are those of the table.
+const MAKES = [
+  { program: "FIM P1, 0x80\nSRC P1\nWR2", made: { ram: 3 } }, { program: "LDM 1\nDCL\nRDM", made: { ram: 2 } },
+  { program: "LDM 1\nDCL\nFIM P1, 0x40\nSRC P1\nLDM 0\nDCL\nRDM", made: {} },
+  { program: "FIM P1, 0x40\nSRC P1\nWMP\nFIM P1, 0xC0\nSRC P1\nSBM", made: { ram: 7 } },
+  { program: "JUN 0x2FF", made: { rom: 2 } }, { program: "FIM P0, 0x20\nJUN 0x1FF\nORG 0x1FF\nFIN P2", made: { rom: 4 } },
+  { program: "JUN 0x1FF\nORG 0x1FF\nDB 0x40", made: { rom: 2 } }, { program: "JUN 0x1FF\nORG 0x1FF\nCLB", made: { rom: 3 } },
+  { program: "RDR", made: { rdr: 0 } }, { program: "FIM P1, 0x20\nSRC P1\nWRR\nRDR", made: { wrr: 3, rdr: 4 } },
+  { program: "FIM P1, 0x10\nSRC P1\nWRR\nRDR", made: {} },
+];
+
+test("mistakes are seen before the instruction that makes them", () => {
+  for (const { program, made } of MAKES) {
+    const own = subjectOf(engine, BOARD, `${program}\n${program.includes("ORG") ? "" : "end: JUN end\n"}`);
+    for (const word of ["ram", "rom", "rdr", "wrr"]) {
+      assert.equal(cyclesToMistake(own, own.file, word, 20), made[word] === undefined ? -1 : made[word], `${program}: ${word}`);
+      if (made[word] > 0) assert.equal(cyclesToMistake(own, own.file, word, made[word] - 1), -1, `${program}: ${word}, too late`);
+    }
+  }
 });
 
 test("verdicts are TAP, and decide the exit status", () => {

@@ -78,6 +78,7 @@ export const NAMES = { board: "Board", program: "Source", properties: "Propertie
 // --- explore/find_test.js ---
 export const FOURTH_CALL = "the fourth call leads there, and the oldest return address is lost";
 export const BBL_LEADS = "a BBL leads there, and no call is open";
+export const MADE_THERE = "the instruction there makes the mistake";
 export const MORE_OFTEN = "it has come there more often than anything was pressed";
 
 // --- explore/properties.js ---

@@ -11,6 +11,18 @@ export const otherForm = (form) => `a property of the form "${form}" cannot be p
 export const HAS_GUARDS = "a property with a guard cannot be proved yet";
 export const BEGINS_LATER = "a proof begins at power-on, and the text begins elsewhere (from)";
 
+// --- prove/mistakes.js ---
+/** Each property of every program, by the word of its mistake in a question. */
+export const MISTAKES = {
+  code: "no code outside the instruction table",
+  call: "no fourth nested call",
+  return: "no BBL without a call",
+  ram: "no RAM that is absent",
+  rom: "no ROM that is absent",
+  rdr: "no RDR of a port without inputs",
+  wrr: "no WRR to a port without outputs",
+};
+
 // --- prove/judging.js ---
 /** @type {(steps: string) => string} */
 export const excluded = (steps) => `only inputs that the text excludes break it so far (${steps})`;
@@ -43,7 +55,6 @@ export const NO_MEMORY = "there is no memory for more states";
 export const GAVE_UP = "the prover gave up";
 /** @type {(words: string) => string} */
 export const proverEnded = (words) => `the prover ended without an answer: ${words}`;
-export const NOTHING_TO_PROVE = "has no property";
 
 // --- page/prove/proofs.js ---
 export const PROVE = "Prove";

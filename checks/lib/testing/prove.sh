@@ -6,6 +6,13 @@ if [ -z "$MCS4_PROVE" ]; then
     unset MCS4_PROVE
     echo "not run: mcs4 prove, in checks/testing (its program: tools/build mcs4_prove)"
 else
+    # Of the properties of a text, what is said of each. Those of every program begin with "no".
+    remarks() {
+        sed -n '/ok [0-9]* - no /d; s/^\(not \)\{0,1\}ok .*# //p; /^status/p' "$@"
+    }
+    of_every_program() {
+        sed -n 's/^\(not \)\{0,1\}ok [0-9]* - \(no .*\)/\1\2/p'
+    }
     # The die shows its six faces alone; two of three lines are proved.
     verdict "$(outcome ./mcs4 prove examples/die.txt examples/die.txt examples/die.props | results)" "$(
         sed -n 's/^never \(not .*\)/ok 1 - never \1 # proved for all inputs (13 states)/p' examples/die.props)
@@ -13,18 +20,25 @@ not ok 2 - never lamps none for 1 ms # TODO not decided: a property of the form 
 ok 3 - reach lamps ***.*** # reached, 1 step
   message: \"reached by 1 step, 91 cycles\"
   at: \"examples/die.props:10\"
+ok 4 - no code outside the instruction table # proved for all inputs (13 states)
+ok 5 - no fourth nested call # proved for all inputs (13 states)
+ok 6 - no BBL without a call # proved for all inputs (13 states)
+ok 7 - no RAM that is absent # proved for all inputs (13 states)
+ok 8 - no ROM that is absent # proved for all inputs (13 states)
+ok 9 - no RDR of a port without inputs # proved for all inputs (13 states)
+ok 10 - no WRR to a port without outputs # proved for all inputs (13 states)
 status 3" "the die"
     grep '^never not' examples/die.props > "$folder/faces.props"
-    verdict "$(outcome ./mcs4 prove examples/die.txt examples/die.txt "$folder/faces.props" | sed -n 's/.*# //p; /^status/p')" \
+    verdict "$(outcome ./mcs4 prove examples/die.txt examples/die.txt "$folder/faces.props" | remarks)" \
         "proved for all inputs (13 states)
 status 0" "all is proved"
-    verdict "$(outcome ./mcs4 prove examples/die.txt examples/die.txt "$folder/faces.props" --most 12 | sed -n 's/.*# //p; /^status/p')" \
+    verdict "$(outcome ./mcs4 prove examples/die.txt examples/die.txt "$folder/faces.props" --most 12 | remarks)" \
         "TODO not decided: more than 12 states; --most allows more
 status 3" "one state too few"
     # A face is wrong: the test that is printed fails, and only there.
     sed 's/DB 8, 1, 9, 3, 11, 7/DB 8, 1, 9, 2, 11, 7/' examples/die.txt > "$folder/wrong.txt"
     verdict "$(cmp -s examples/die.txt "$folder/wrong.txt" && echo the same)" "" "a program with a wrong face"
-    verdict "$(outcome ./mcs4 prove "$folder/wrong.txt" "$folder/wrong.txt" "$folder/faces.props" > "$folder/out"; sed -n 's/.*# //p; /^status/p' "$folder/out")" \
+    verdict "$(outcome ./mcs4 prove "$folder/wrong.txt" "$folder/wrong.txt" "$folder/faces.props" > "$folder/out"; remarks "$folder/out")" \
         "broken, 1 step
 status 1" "a wrong face"
     sed -n 's/^    //p' "$folder/out" > "$folder/found.test"
@@ -35,7 +49,7 @@ ok 1
 status 0" "its test"
     # Keys that the text excludes.
     printf 'press THROW\nheld at most 1\nnever lamps ***.***\n' > "$folder/held.props"
-    verdict "$(outcome ./mcs4 prove examples/die.txt examples/die.txt "$folder/held.props" | sed -n 's/.*# //p; /^status/p')" \
+    verdict "$(outcome ./mcs4 prove examples/die.txt examples/die.txt "$folder/held.props" | remarks)" \
         "TODO not decided: only inputs that the text excludes break it so far (1 step)
 status 3" "a key that is held for too long"
     # A program without a read, and a board without inputs.
@@ -45,21 +59,73 @@ status 3" "a key that is held for too long"
     refuses 1 "prove: $folder/empty.props:3: the program has no label no" \
         ./mcs4 prove "$folder/board.toml" "$folder/empty.asm" "$folder/empty.props"
     sed -i 3d "$folder/empty.props"
-    verdict "$(outcome ./mcs4 prove "$folder/board.toml" "$folder/empty.asm" "$folder/empty.props" | sed -n 's/.*# //p; /^status/p')" \
+    verdict "$(outcome ./mcs4 prove "$folder/board.toml" "$folder/empty.asm" "$folder/empty.props" | remarks)" \
         "proved for all inputs (1 state)
 broken, 0 steps
 status 1" "an empty program"
+    # A program that makes each mistake behind another key, and a text without a property. mcs4 prove has mcs4 test confirm each test.
+    cat > "$folder/wrong.toml" << 'END'
+# test: button WALK
+[[rom]]
+chip = 0
+port = "0000"
+[[rom]]
+chip = 1
+port = "iiii"
+[[ram]]
+bank = 0
+chips = 1
+END
+    cat > "$folder/wrong.asm" << 'END'
+        FIM P1, 0x10
+        SRC P1
+        JCN 1, other
+here:   WRR
+other:  FIM P2, 0x40
+        SRC P2
+        RDM
+        JMS first
+        JUN 0x2F0
+first:  JMS second
+        BBL 0
+second: JMS third
+        BBL 0
+third:  JCN 1, last
+        BBL 0
+last:   JMS fourth
+        BBL 0
+fourth: RDR
+        JCN 1, back
+        DB 0xFE
+back:   BBL 0
+END
+    echo "press WALK" > "$folder/none.props"
+    verdict "$(outcome ./mcs4 prove "$folder/wrong.toml" "$folder/wrong.asm" "$folder/none.props" > "$folder/out"; of_every_program < "$folder/out"; sed -n 's/^      expect //p; /^status/p' "$folder/out")" \
+        "not no code outside the instruction table # broken, 2 steps
+not no fourth nested call # broken, 1 step
+not no BBL without a call # broken, 1 step
+not no RAM that is absent # broken, 1 step
+not no ROM that is absent # broken, 2 steps
+not no RDR of a port without inputs # broken, 1 step
+not no WRR to a port without outputs # broken, 0 steps
+not @fourth
+not pc 0x01F
+not pc 0x009
+not pc 0x2F0
+not @fourth
+not @here
+status 1" "mistakes"
     # Provers that are wrong: a way that is none, words that are none, and one that does not end.
     prover_that() {
         printf '#!/bin/sh\ncat > /dev/null\n%s\n' "$1" > "$folder/prover"
         chmod +x "$folder/prover"
     }
     prover_that 'echo may fail 0 0'
-    verdict "$(outcome env MCS4_PROVE="$folder/prover" ./mcs4 prove examples/die.txt examples/die.txt "$folder/faces.props" | sed -n 's/.*# //p; /^status/p')" \
+    verdict "$(outcome env MCS4_PROVE="$folder/prover" ./mcs4 prove examples/die.txt examples/die.txt "$folder/faces.props" | remarks)" \
         "TODO not decided: the bench does not confirm the counterexample that was found
 status 3" "a way that is none"
     prover_that 'echo no 90; exit 3'
-    verdict "$(outcome env MCS4_PROVE="$folder/prover" ./mcs4 prove examples/die.txt examples/die.txt "$folder/faces.props" | sed -n 's/.*# //p; /^status/p')" \
+    verdict "$(outcome env MCS4_PROVE="$folder/prover" ./mcs4 prove examples/die.txt examples/die.txt "$folder/faces.props" | remarks)" \
         "TODO not decided: there is no memory for more states
 status 3" "no memory"
     prover_that 'echo no 25; exit 3'

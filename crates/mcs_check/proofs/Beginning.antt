@@ -1,13 +1,11 @@
 -- The machine that a check begins with.
 use Rattle.std.proofs.Common.{◌≡◌, ℕ, List, true, replicate, refl, sym, ap, subst}
 use Rattle.mcs_model.specs.Boards.{key_count}
-use Rattle.mcs_model.specs.Running.{Machine}
 use Rattle.mcs_model.specs.Validity.{IsValidBus, IsValidRegs}
-use Rattle.mcs_drive.specs.Driven.{Holds}
-use Rattle.mcs_drive.specs.Asking.{plain}
+use Rattle.mcs_drive.specs.Tracked.{Tracked, plain, Holds}
 use Rattle.mcs_search.specs.Rules.{Closure}
 use Rattle.mcs_check.specs.declared.cells.Cell.{Cell}
-use Rattle.mcs_check.specs.declared.conditions.Comparison.{Comparison}
+use Rattle.mcs_check.specs.declared.conditions.Condition.{Condition}
 use Rattle.mcs_check.specs.Cells.{key_of}
 use Rattle.mcs_check.specs.Conditions.{keeps_to}
 use Rattle.mcs_check.specs.Held.{held}
@@ -18,17 +16,17 @@ use Rattle.mcs_check.proofs.Ignoring.{conditions-ignore}
 use Rattle.mcs_check.proofs.Steps.{on-itself}
 
 -- its key stands for it
-pub held-key : (layout : List Cell) (nevers : List (List Comparison)) (key : List ℕ) (s m : Machine) → m ≡ held s → IsValidRegs m.0 → IsValidBus m.1 → keeps_to nevers m ≡ true → key ≡ key_of layout m → IsKeyOf (setting_of m layout nevers) key m
+pub held-key : (layout : List Cell) (nevers : List (List Condition)) (key : List ℕ) (s m : Tracked) → m ≡ held s → IsValidRegs m.0 → IsValidBus m.1 → keeps_to nevers m ≡ true → key ≡ key_of layout m → IsKeyOf (setting_of m layout nevers) key m
 held-key layout nevers key s m e registers bus well cells = record {
   on = on-itself m registers bus
-      (subst (λ (x : Machine). x.1.keys ≡ replicate (key_count x.1.board) 1) (sym e) refl)
-      (subst (λ (x : Machine). x.1.test ≡ 0) (sym e) refl);
+      (subst (λ (x : Tracked). x.1.keys ≡ replicate (key_count x.1.board) 1) (sym e) refl)
+      (subst (λ (x : Tracked). x.1.test ≡ 0) (sym e) refl);
   well = well;
   cells = cells;
 }
 
 -- what was found of it holds of the machine whose keys were put down
-pub held-holds : (layout : List Cell) (nevers : List (List Comparison)) (key : List ℕ) (n : ℕ) (s m : Machine) → m ≡ held s → IsKeyOf (setting_of m layout nevers) key m → Closure (rules_of (setting_of m layout nevers)) key n → Holds (keeps_to nevers) s
+pub held-holds : (layout : List Cell) (nevers : List (List Condition)) (key : List ℕ) (n : ℕ) (s m : Tracked) → m ≡ held s → IsKeyOf (setting_of m layout nevers) key m → Closure (rules_of (setting_of m layout nevers)) key n → Holds (keeps_to nevers) s
 held-holds layout nevers key n s m e is closure =
     alike-holds (keeps_to nevers) m s (conditions-ignore nevers) (ap plain e)
     (walker-holds (setting_of m layout nevers) key n m (conditions-ignore nevers) closure is)

@@ -12,7 +12,7 @@ use Rattle.mcs_model.specs.Boards.{board_fault_of, chain_bits, chain_count, chai
 use Rattle.mcs_model.proofs.ListLemmas.{none_at}
 use Rattle.mcs_model.proofs.SoundBoards.{sound}
 use Rattle.mcs_model.specs.Bus.{BusState, chips_of, ram_index, ram_port_index, status_index}
-use Rattle.mcs_model.specs.Running.{Machine}
+use Rattle.mcs_drive.specs.Tracked.{Tracked}
 use Rattle.mcs_check.specs.declared.cells.Cell.{Cell}
 use Rattle.mcs_check.specs.declared.cells.CellList.{CellList}
 use Rattle.mcs_check.specs.declared.cells.CellList.TheVariants.{Characters, StatusCharacters, RamPorts, RomPorts, BankSrcs, Registers, Counters, Chain}
@@ -21,12 +21,12 @@ use Rattle.mcs_check.specs.Keys.{IsOn}
 use Rattle.mcs_check.specs.Agreed.{AgreesInChips}
 use Rattle.mcs_check.proofs.Agreeing.{agreeing-same}
 
-cell-same : (s t : Machine) (layout : List Cell) (c : Cell) → Contains layout c → key_of layout s ≡ key_of layout t → value_at s c ≡ value_at t c
+cell-same : (s t : Tracked) (layout : List Cell) (c : Cell) → Contains layout c → key_of layout s ≡ key_of layout t → value_at s c ≡ value_at t c
 cell-same s t layout c h e =
     ap (value_at s) (sym h.2) ∙ sym (get_or-map (value_at s) layout h.0 c 0 h.1) ∙ ap (λ (xs : List ℕ). get_or xs h.0 0) e ∙ get_or-map (value_at t) layout h.0 c 0 h.1 ∙ ap (value_at t) h.2
 
 -- each number of a list that is there
-number-same : (s t : Machine) (layout : List Cell) → IsComplete s.1.board layout → key_of layout s ≡ key_of layout t → (list : CellList) (i : ℕ) → i < count_of list → is_there s.1.board list i ≡ true → slice_index (list_of s list) i ≡ slice_index (list_of t list) i
+number-same : (s t : Tracked) (layout : List Cell) → IsComplete s.1.board layout → key_of layout s ≡ key_of layout t → (list : CellList) (i : ℕ) → i < count_of list → is_there s.1.board list i ≡ true → slice_index (list_of s list) i ≡ slice_index (list_of t list) i
 number-same s t layout whole e list i few there =
     let at : i % count_of list ≡ i = mod-eq_of_lt few in
     ap (slice_index (list_of s list)) (sym at) ∙ cell-same s t layout (record { list = list; index = i }) (whole list i few there) e ∙ ap (slice_index (list_of t list)) at
@@ -111,11 +111,11 @@ port-there b bank chip small there =
 
 -- ---- the machine
 
-pub same-machine : (b : BoardParts) (rom : List ℕ) (layout : List Cell) (s t : Machine) → IsComplete b layout → IsOn b rom s → IsOn b rom t → key_of layout s ≡ key_of layout t → s ≡ t
+pub same-machine : (b : BoardParts) (rom : List ℕ) (layout : List Cell) (s t : Tracked) → IsComplete b layout → IsOn b rom s → IsOn b rom t → key_of layout s ≡ key_of layout t → s ≡ t
 same-machine b rom layout s t complete on-s on-t e =
     let whole : IsComplete s.1.board layout = subst (λ (d : BoardParts). IsComplete d layout) (sym on-s.board) complete in
     let n : (list : CellList) (i : ℕ) → i < count_of list → is_there s.1.board list i ≡ true → slice_index (list_of s list) i ≡ slice_index (list_of t list) i = number-same s t layout whole e in
-    let k : (i : ℕ) → i < 13 → slice_index (counters_of s.0 s.1.rom_src) i ≡ slice_index (counters_of t.0 t.1.rom_src) i = λ i h. n Counters i h refl in
+    let k : (i : ℕ) → i < 14 → slice_index (counters_of s.0 s.1.rom_src s.2) i ≡ slice_index (counters_of t.0 t.1.rom_src t.2) i = λ i h. n Counters i h refl in
     let board : s.1.board ≡ t.1.board = on-s.board ∙ sym on-t.board in
     let banks : length s.1.board.banks ≡ 8 = on-s.bus.board.sized.banks in
     let v = on-s.bus.in_range in
@@ -146,4 +146,5 @@ same-machine b rom layout s t complete on-s on-t e =
       keys = on-s.keys ∙ sym on-t.keys;
       test = on-s.test ∙ sym on-t.test;
     } in
-    ap (λ (x : Regs). (x, s.1)) registers ∙ ap (λ (m : BusState). (t.0, m)) (agreeing-same s.1 t.1 on-s.bus on-t.bus agrees)
+    ap (λ (x : Regs). (x, s.1, s.2)) registers ∙ ap (λ (m : BusState). (t.0, m, s.2)) (agreeing-same s.1 t.1 on-s.bus on-t.bus agrees)
+    ∙ ap (λ (n : ℕ). (t.0, t.1, n)) (k 13 (omega arith))

@@ -4,9 +4,8 @@ use Rattle.mcs_model.specs.Boards.{board_fault_of, key_count}
 use Rattle.mcs_model.specs.Validity.{IsValidBus, IsValidRegs}
 use Rattle.mcs_model.specs.declared.board.BoardParts.{BoardParts}
 use Rattle.mcs_model.specs.Bus.{BusState}
-use Rattle.mcs_model.specs.Running.{Machine}
 use Rattle.mcs_drive.specs.Driven.{Levels, FitBoard}
-use Rattle.mcs_drive.specs.Asking.{answer}
+use Rattle.mcs_drive.specs.Tracked.{Tracked, answer}
 use Rattle.mcs_drive.specs.Leading.{Ignores, LeadsTo}
 use Rattle.mcs_check.specs.Cells.{IsComplete, key_of}
 use Rattle.mcs_check.specs.Keys.{Setting, IsOn, IsKeyOf, Keeps, test_of}
@@ -18,16 +17,16 @@ use Rattle.mcs_check.proofs.Packed.{same-machine}
 use Rattle.mcs_check.proofs.ValuesRead.{answer-lt, reaches-leads}
 
 -- the machine of a key
-the-machine : (g : Setting) (key : List ℕ) (m a : Machine) → IsComplete g.board g.layout → IsOn g.board g.rom m → key ≡ key_of g.layout m → IsKeyOf g key a → m ≡ a
+the-machine : (g : Setting) (key : List ℕ) (m a : Tracked) → IsComplete g.board g.layout → IsOn g.board g.rom m → key ≡ key_of g.layout m → IsKeyOf g key a → m ≡ a
 the-machine g key m a complete on is h = same-machine g.board g.rom g.layout m a complete on h.on (sym is ∙ h.cells)
 
-leads-from : (g : Setting) (next : List ℕ) (value : ℕ) (m x n : Machine) → Ignores (test_of g) → board_fault_of m.1.board ≡ None → HasRead value m x → Reaches (test_of g) x n → IsKeyOf g next n →
-    (b : Machine) × IsKeyOf g next b × ((l : Levels) → FitBoard m.1.board l → answer l m ≡ value → LeadsTo (test_of g) m b l)
+leads-from : (g : Setting) (next : List ℕ) (value : ℕ) (m x n : Tracked) → Ignores (test_of g) → board_fault_of m.1.board ≡ None → HasRead value m x → Reaches (test_of g) x n → IsKeyOf g next n →
+    (b : Tracked) × IsKeyOf g next b × ((l : Levels) → FitBoard m.1.board l → answer l m ≡ value → LeadsTo (test_of g) m b l)
 leads-from g next value m x n ignores sound read reaches is = (n, is, λ l fit e. reaches-leads (test_of g) m x n l ignores sound (read l fit e) reaches)
 
-pub walked-leads : (g : Setting) (key next : List ℕ) (value : ℕ) (m x n : Machine) → Ignores (test_of g) → IsComplete g.board g.layout → IsOn g.board g.rom m → key ≡ key_of g.layout m → HasRead value m x → Reaches (test_of g) x n → IsKeyOf g next n → Leads g key value next
+pub walked-leads : (g : Setting) (key next : List ℕ) (value : ℕ) (m x n : Tracked) → Ignores (test_of g) → IsComplete g.board g.layout → IsOn g.board g.rom m → key ≡ key_of g.layout m → HasRead value m x → Reaches (test_of g) x n → IsKeyOf g next n → Leads g key value next
 walked-leads g key next value m x n ignores complete on is read reaches to = λ a h.
-    subst (λ (a : Machine). (b : Machine) × IsKeyOf g next b × ((l : Levels) → FitBoard a.1.board l → answer l a ≡ value → LeadsTo (test_of g) a b l))
+    subst (λ (a : Tracked). (b : Tracked) × IsKeyOf g next b × ((l : Levels) → FitBoard a.1.board l → answer l a ≡ value → LeadsTo (test_of g) a b l))
     (the-machine g key m a complete on is h)
     (leads-from g next value m x n ignores on.bus.board.valid read reaches to)
 
@@ -35,22 +34,22 @@ walked-leads g key next value m x n ignores complete on is read reaches to = λ 
 pub covers-all : (g : Setting) (key values : List ℕ) → ((value : ℕ) → value < 16 → Contains values value) → Covers g key values
 covers-all g key values each = λ a h l fit. each (answer l a) (answer-lt l a fit)
 
-pub covers-read : (g : Setting) (key values : List ℕ) (m : Machine) → IsComplete g.board g.layout → IsOn g.board g.rom m → key ≡ key_of g.layout m → ((value : ℕ) → value < 16 → CannotRead value m ⊎ Contains values value) → Covers g key values
+pub covers-read : (g : Setting) (key values : List ℕ) (m : Tracked) → IsComplete g.board g.layout → IsOn g.board g.rom m → key ≡ key_of g.layout m → ((value : ℕ) → value < 16 → CannotRead value m ⊎ Contains values value) → Covers g key values
 covers-read g key values m complete on is each = λ a h l fit.
-    elim (subst (λ (b : Machine). CannotRead (answer l a) b ⊎ Contains values (answer l a)) (the-machine g key m a complete on is h) (each (answer l a) (answer-lt l a fit))) [
+    elim (subst (λ (b : Tracked). CannotRead (answer l a) b ⊎ Contains values (answer l a)) (the-machine g key m a complete on is h) (each (answer l a) (answer-lt l a fit))) [
       | inl cannot ↦ absurd (cannot l fit refl)
       | inr there ↦ there
     ]
 
 -- the machine of a rig, in its setting
-pub on-itself : (m : Machine) → IsValidRegs m.0 → IsValidBus m.1 → m.1.keys ≡ replicate (key_count m.1.board) 1 → m.1.test ≡ 0 → IsOn m.1.board m.1.rom m
+pub on-itself : (m : Tracked) → IsValidRegs m.0 → IsValidBus m.1 → m.1.keys ≡ replicate (key_count m.1.board) 1 → m.1.test ≡ 0 → IsOn m.1.board m.1.rom m
 on-itself m registers bus keys test = record { registers = registers; bus = bus; board = refl; rom = refl; keys = keys; test = test }
 
 -- after what keeps board, ROM, keys and TEST, it is still in that setting
-pub on-kept : (m n : Machine) → IsValidRegs n.0 → IsValidBus n.1 → m.1.keys ≡ replicate (key_count m.1.board) 1 → m.1.test ≡ 0 → Keeps m.1 n.1 → IsOn m.1.board m.1.rom n
+pub on-kept : (m n : Tracked) → IsValidRegs n.0 → IsValidBus n.1 → m.1.keys ≡ replicate (key_count m.1.board) 1 → m.1.test ≡ 0 → Keeps m.1 n.1 → IsOn m.1.board m.1.rom n
 on-kept m n registers bus keys test k = record { registers = registers; bus = bus; board = k.board; rom = k.rom; keys = k.keys ∙ keys; test = k.test ∙ test }
 
-pub reaches-well : (p : Machine → Bool) (s t : Machine) → Reaches p s t → p t ≡ true
+pub reaches-well : (p : Tracked → Bool) (s t : Tracked) → Reaches p s t → p t ≡ true
 reaches-well p s t r = ap p r.at ∙ r.well r.cycles (omega arith)
 
 -- all keys are down still

@@ -1,5 +1,5 @@
 -- What is read decides: one run for each value shows what all levels do.
-use Rattle.std.proofs.Common.{◌≡◌, ◌<◌, ◌≤◌, ◌+◌, ◌%◌, ℕ, suc, Bool, true, false, not, ◌&&◌, cond, replicate, Option, Some, None, unwrap_or, refl, sym, ap, ◌∙◌, arith, eqb}
+use Rattle.std.proofs.Common.{◌≡◌, ◌<◌, ◌≤◌, ◌%◌, ℕ, suc, Bool, true, false, not, ◌&&◌, cond, replicate, Option, Some, None, unwrap_or, refl, sym, ap, ◌∙◌, arith, eqb}
 use Rattle.mcs_model.specs.declared.regs.Regs.{Regs}
 use Rattle.mcs_model.specs.declared.op.Op.{Op}
 use Rattle.mcs_model.specs.declared.op.Op.TheVariants.{Jcn, Rdr}
@@ -7,47 +7,47 @@ use Rattle.mcs_model.specs.Boards.{board_fault_of, key_count}
 use Rattle.mcs_model.specs.Bus.{BusState, fetch_of}
 use Rattle.mcs_model.specs.Levels.{port_of}
 use Rattle.mcs_model.specs.Effect.{cycle_of, effect, instruction_at}
-use Rattle.mcs_model.specs.Running.{Machine, after_cycles}
-use Rattle.mcs_drive.specs.Driven.{Levels, FitBoard, under, cycled}
-use Rattle.mcs_drive.specs.Asking.{asks, is_asking, plain, answer, answer_to}
+use Rattle.mcs_model.specs.Running.{Machine}
+use Rattle.mcs_drive.specs.Driven.{Levels, FitBoard, under as under_machine}
+use Rattle.mcs_drive.specs.Asking.{asks, answer_to, plain as plain_machine}
+use Rattle.mcs_drive.specs.Tracked.{Tracked, machine_in, open_after, under, plain, cycled, after_cycles, is_asking, answer}
 use Rattle.mcs_drive.specs.Leading.{Ignores, LeadsTo}
-use Rattle.mcs_drive.proofs.Commuting.{at_levels, cycle-rest}
-use Rattle.mcs_drive.proofs.Answering.{answers-decide}
+use Rattle.mcs_drive.proofs.Commuting.{at_levels}
+use Rattle.mcs_drive.proofs.Tracking.{with_calls, cycle-rest, answers-decide}
 use Rattle.mcs_drive.proofs.Stations.{cycle-board}
 use Rattle.mcs_check.specs.Stations.{Begins, CannotRead, LooksAtTest, HasRead, Reaches, has_no_more, port_unpressed}
 use Rattle.mcs_check.proofs.Pulling.{port-lt, port-no-less, port-no-more}
-use Rattle.mcs_drive.proofs.Alike.{run-alike}
-use Rattle.mcs_model.proofs.RunLemmas.{cycled-add}
+use Rattle.mcs_drive.proofs.Alike.{behind, run-alike}
 
 -- ---- one cycle
 
-pub nothing-read : (value : ℕ) (s : Machine) → board_fault_of s.1.board ≡ None → is_asking s ≡ false → HasRead value s (cycled s)
+pub nothing-read : (value : ℕ) (s : Tracked) → board_fault_of s.1.board ≡ None → is_asking s ≡ false → HasRead value s (cycled s)
 nothing-read value s v quiet = λ l fit e. ap plain (cycle-rest l s v quiet)
 
 test-answer : (m : Levels) (o : Option Op) (b : BusState) (c w : ℕ) → o ≡ Some (Jcn c w) → eqb (c % 2) 1 ≡ true → answer_to o m b ≡ m.test
 test-answer m o b c w is odd = rw (is, odd) refl
 
 -- TEST was set to the value, and may be set to any level then
-pub test-read : (value : ℕ) (s t : Machine) → board_fault_of s.1.board ≡ None → Begins LooksAtTest s → plain t ≡ plain (cycled (s.0, record s.1 { test = value })) → HasRead value s t
+pub test-read : (value : ℕ) (s t : Tracked) → board_fault_of s.1.board ≡ None → Begins LooksAtTest s → plain t ≡ plain (cycled (s.0, record s.1 { test = value }, s.2)) → HasRead value s t
 test-read value s t v begins e = λ l fit same.
     let m : Levels = record { keys = s.1.keys; test = value } in
     let is : instruction_at s.0 s.1 ≡ Some (Jcn begins.is.condition begins.is.word) = begins.next ∙ ap Some begins.is.is in
     answers-decide l m s v (same ∙ sym (test-answer m (instruction_at s.0 s.1) s.1 begins.is.condition begins.is.word is begins.is.odd)) ∙ sym e
 
 -- a machine with this accumulator
-abbrev pub with_accumulator : ℕ → Machine → Machine
-with_accumulator n s = (record s.0 { acc = n }, s.1)
+abbrev pub with_accumulator : ℕ → Tracked → Tracked
+with_accumulator n s = (record s.0 { acc = n }, s.1, s.2)
 
 port-when : (l : Levels) (s : Machine) (b : Bool) (o : Option Op) → b ≡ false → o ≡ Some Rdr →
-    plain (unwrap_or (cond b (Some (record s.0 { owed = 0 }, at_levels l s.1)) (elim o as (λ _. Option (Regs × BusState)) [ Some op ↦ Some (effect op s.0 (at_levels l s.1)) | None ↦ None ])) (under l s))
-    ≡ plain (with_accumulator (answer_to o l s.1) (unwrap_or (cond b (Some (record s.0 { owed = 0 }, s.1)) (elim o as (λ _. Option (Regs × BusState)) [ Some op ↦ Some (effect op s.0 s.1) | None ↦ None ])) s))
+    plain_machine (unwrap_or (cond b (Some (record s.0 { owed = 0 }, at_levels l s.1)) (elim o as (λ _. Option (Regs × BusState)) [ Some op ↦ Some (effect op s.0 (at_levels l s.1)) | None ↦ None ])) (under_machine l s))
+    ≡ plain_machine (machine_in (with_accumulator (answer_to o l s.1) (with_calls 0 (unwrap_or (cond b (Some (record s.0 { owed = 0 }, s.1)) (elim o as (λ _. Option (Regs × BusState)) [ Some op ↦ Some (effect op s.0 s.1) | None ↦ None ])) s))))
 port-when l s b o free is = rw (free, is) refl
 
 -- the accumulator was set to the value afterwards
-pub port-read : (value : ℕ) (s : Machine) → Begins (λ op. op ≡ Rdr) s → HasRead value s (with_accumulator value (cycled s))
+pub port-read : (value : ℕ) (s : Tracked) → Begins (λ op. op ≡ Rdr) s → HasRead value s (with_accumulator value (cycled s))
 unfolding cycle_of fetch_of
 port-read value s begins = λ l fit same.
-    port-when l s (eqb s.0.owed 1) (instruction_at s.0 s.1) begins.free (begins.next ∙ ap Some begins.is)
+    ap (with_calls (open_after s.0 s.1 s.2)) (port-when l (machine_in s) (eqb s.0.owed 1) (instruction_at s.0 s.1) begins.free (begins.next ∙ ap Some begins.is))
     ∙ ap (λ n. plain (with_accumulator n (cycled s))) same
 
 -- ---- values that cannot be read
@@ -61,10 +61,10 @@ quiet-asks : (b : Bool) (o : Option Op) → (not b && asks o) ≡ false → b �
 quiet-asks false o e h = e
 quiet-asks true o e h = absurd (cc)
 
-pub nothing-cannot : (value : ℕ) (s : Machine) → is_asking s ≡ false → eqb s.0.owed 1 ≡ false → (value ≡ 0 → ⊥) → CannotRead value s
+pub nothing-cannot : (value : ℕ) (s : Tracked) → is_asking s ≡ false → eqb s.0.owed 1 ≡ false → (value ≡ 0 → ⊥) → CannotRead value s
 nothing-cannot value s quiet free other = λ l fit e. other (sym e ∙ rest-answer (instruction_at s.0 s.1) l s.1 (quiet-asks (eqb s.0.owed 1) (instruction_at s.0 s.1) quiet free))
 
-pub test-cannot : (value : ℕ) (s : Machine) → Begins LooksAtTest s → 2 ≤ value → CannotRead value s
+pub test-cannot : (value : ℕ) (s : Tracked) → Begins LooksAtTest s → 2 ≤ value → CannotRead value s
 test-cannot value s begins large = λ l fit e.
     let is : instruction_at s.0 s.1 ≡ Some (Jcn begins.is.condition begins.is.word) = begins.next ∙ ap Some begins.is.is in
     let level = test-answer l (instruction_at s.0 s.1) s.1 begins.is.condition begins.is.word is begins.is.odd in
@@ -74,7 +74,7 @@ test-cannot value s begins large = λ l fit e.
 port-answer : (l : Levels) (o : Option Op) (m : BusState) → o ≡ Some Rdr → answer_to o l m ≡ port_of (at_levels l m)
 port-answer l o m is = rw is refl
 
-pub port-cannot : (value : ℕ) (s : Machine) → Begins (λ op. op ≡ Rdr) s → s.1.keys ≡ replicate (key_count s.1.board) 1 → (has_no_more (port_unpressed s.1) value && has_no_more value (port_of s.1)) ≡ false → CannotRead value s
+pub port-cannot : (value : ℕ) (s : Tracked) → Begins (λ op. op ≡ Rdr) s → s.1.keys ≡ replicate (key_count s.1.board) 1 → (has_no_more (port_unpressed s.1) value && has_no_more value (port_of s.1)) ≡ false → CannotRead value s
 port-cannot value s begins all outside = λ l fit e.
     let is : instruction_at s.0 s.1 ≡ Some Rdr = begins.next ∙ ap Some begins.is in
     let read : port_of (at_levels l s.1) ≡ value = sym (port-answer l (instruction_at s.0 s.1) s.1 is) ∙ e in
@@ -93,23 +93,19 @@ answer-lt-when (Some Rdr) l m h = port-lt (at_levels l m)
 answer-lt-when (Some (Jcn c w)) l m h = test-lt (eqb (c % 2) 1) l.test h
 answer-lt-when _ l m h = omega arith
 
-pub answer-lt : (l : Levels) (s : Machine) → FitBoard s.1.board l → answer l s < 16
+pub answer-lt : (l : Levels) (s : Tracked) → FitBoard s.1.board l → answer l s < 16
 answer-lt l s fit = answer-lt-when (instruction_at s.0 s.1) l s.1 fit.test
 
 -- ---- a run
 
-asking-plain : (s : Machine) → is_asking (plain s) ≡ is_asking s
+asking-plain : (s : Tracked) → is_asking (plain s) ≡ is_asking s
 unfolding fetch_of
 asking-plain s = refl
 
--- one cycle, and then the others
-behind : (i : ℕ) (s : Machine) → after_cycles (suc i) s ≡ after_cycles i (cycled s)
-behind i s = (let e : suc i ≡ 1 + i = omega arith in ap (λ k. after_cycles k s) e) ∙ cycled-add 1 i s
-
-pub reaches-leads : (p : Machine → Bool) (a x b : Machine) (l : Levels) → Ignores p → board_fault_of a.1.board ≡ None → plain (cycled (under l a)) ≡ plain x → Reaches p x b → LeadsTo p a b l
+pub reaches-leads : (p : Tracked → Bool) (a x b : Tracked) (l : Levels) → Ignores p → board_fault_of a.1.board ≡ None → plain (cycled (under l a)) ≡ plain x → Reaches p x b → LeadsTo p a b l
 reaches-leads p a x b l ignores v first reaches =
     let s = cycled (under l a) in
-    let board : x.1.board ≡ a.1.board = sym (ap (λ (m : Machine). m.1.board) first) ∙ cycle-board (under l a) in
+    let board : x.1.board ≡ a.1.board = sym (ap (λ (m : Tracked). m.1.board) first) ∙ cycle-board (under l a) in
     let sound : board_fault_of x.1.board ≡ None = ap board_fault_of board ∙ v in
     let alike : (i : ℕ) → i ≤ reaches.cycles → plain (after_cycles (suc i) (under l a)) ≡ plain (after_cycles i x) = λ i h.
     ap plain (behind i (under l a)) ∙ sym (run-alike i x s sound (sym first) (λ j k. reaches.quiet j (omega arith))) in

@@ -5,29 +5,29 @@ use Rattle.std.specs.List.{Contains}
 use Rattle.mcs_model.specs.declared.board.BoardParts.{BoardParts}
 use Rattle.mcs_model.specs.declared.regs.Regs.{Regs}
 use Rattle.mcs_model.specs.Boards.{chain_bits, masks_on}
-use Rattle.mcs_model.specs.Running.{Machine}
+use Rattle.mcs_drive.specs.Tracked.{Tracked}
 use Rattle.mcs_check.specs.declared.cells.Cell.{Cell}
 use Rattle.mcs_check.specs.declared.cells.CellList.{CellList}
 use Rattle.mcs_check.specs.declared.cells.CellList.TheVariants.{Characters, StatusCharacters, RamPorts, RomPorts, BankSrcs, Registers, Counters, Chain}
 
--- the registers but for the index registers, and the SRC byte that the ROMs keep; an address in two
--- bytes, the upper one first
-abbrev pub counters_of : Regs → ℕ → List ℕ
-counters_of s src =
+-- the registers but for the index registers, the SRC byte that the ROMs keep, and how many calls are
+-- open; an address in two bytes, the upper one first
+abbrev pub counters_of : Regs → ℕ → ℕ → List ℕ
+counters_of s src calls =
     s.acc ∷ s.cy ∷ s.dcl ∷ s.owed ∷ s.pc / 256 ∷ s.pc % 256
     ∷ slice_index s.ret 0 / 256 ∷ slice_index s.ret 0 % 256
     ∷ slice_index s.ret 1 / 256 ∷ slice_index s.ret 1 % 256
-    ∷ slice_index s.ret 2 / 256 ∷ slice_index s.ret 2 % 256 ∷ src ∷ []
+    ∷ slice_index s.ret 2 / 256 ∷ slice_index s.ret 2 % 256 ∷ src ∷ calls ∷ []
 
 -- the numbers of a list of cells
-abbrev pub list_of : Machine → CellList → List ℕ
+abbrev pub list_of : Tracked → CellList → List ℕ
 list_of t Characters = t.1.ram
 list_of t StatusCharacters = t.1.status
 list_of t RamPorts = t.1.ram_ports
 list_of t RomPorts = t.1.rom_ports
 list_of t BankSrcs = t.1.ram_src
 list_of t Registers = t.0.r
-list_of t Counters = counters_of t.0 t.1.rom_src
+list_of t Counters = counters_of t.0 t.1.rom_src t.2
 list_of t (Chain n) = slice_index_or t.1.chains n []
 
 -- how many cells a list has at most
@@ -38,7 +38,7 @@ count_of RamPorts = 32
 count_of RomPorts = 16
 count_of BankSrcs = 8
 count_of Registers = 16
-count_of Counters = 13
+count_of Counters = 14
 count_of (Chain n) = 256
 
 -- whether a board has the chip of cell i of a list; every board has the processor
@@ -53,11 +53,11 @@ is_there b Counters i = true
 is_there b (Chain n) i = nat_lt i (chain_bits b n)
 
 -- what a cell holds
-abbrev pub value_at : Machine → Cell → ℕ
+abbrev pub value_at : Tracked → Cell → ℕ
 value_at t c = slice_index (list_of t c.list) (c.index % count_of c.list)
 
 -- the key of a machine: what the cells of a layout hold
-abbrev pub key_of : List Cell → Machine → List ℕ
+abbrev pub key_of : List Cell → Tracked → List ℕ
 key_of layout t = map (value_at t) layout
 
 -- a layout has each cell of another one

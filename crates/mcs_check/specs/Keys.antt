@@ -3,10 +3,10 @@ use Rattle.std.specs.Prelude.{◌≡◌, ℕ, List, Bool, true, replicate}
 use Rattle.mcs_model.specs.declared.board.BoardParts.{BoardParts}
 use Rattle.mcs_model.specs.Boards.{key_count}
 use Rattle.mcs_model.specs.Bus.{BusState}
-use Rattle.mcs_model.specs.Running.{Machine}
 use Rattle.mcs_model.specs.Validity.{IsValidBus, IsValidRegs}
+use Rattle.mcs_drive.specs.Tracked.{Tracked}
 use Rattle.mcs_check.specs.declared.cells.Cell.{Cell}
-use Rattle.mcs_check.specs.declared.conditions.Comparison.{Comparison}
+use Rattle.mcs_check.specs.declared.conditions.Condition.{Condition}
 use Rattle.mcs_check.specs.Cells.{IsComplete, key_of}
 use Rattle.mcs_check.specs.Conditions.{keeps_to}
 
@@ -16,18 +16,18 @@ pub record Setting : Type 0 where
   pub board : BoardParts
   pub rom : List ℕ
   pub layout : List Cell
-  pub nevers : List (List Comparison)
+  pub nevers : List (List Condition)
 
 -- that of a machine
-abbrev pub setting_of : Machine → List Cell → List (List Comparison) → Setting
+abbrev pub setting_of : Tracked → List Cell → List (List Condition) → Setting
 setting_of s layout nevers = record { board = s.1.board; rom = s.1.rom; layout = layout; nevers = nevers }
 
 -- the property: no condition is met
-abbrev pub test_of : Setting → Machine → Bool
+abbrev pub test_of : Setting → Tracked → Bool
 test_of g = keeps_to g.nevers
 
 -- a machine on this board and with these ROM bytes, all of whose keys are down, and TEST at 0
-pub record IsOn (b : BoardParts) (bytes : List ℕ) (a : Machine) : Type 0 where
+pub record IsOn (b : BoardParts) (bytes : List ℕ) (a : Tracked) : Type 0 where
   pub registers : IsValidRegs a.0
   pub bus : IsValidBus a.1
   pub board : a.1.board ≡ b
@@ -36,7 +36,7 @@ pub record IsOn (b : BoardParts) (bytes : List ℕ) (a : Machine) : Type 0 where
   pub test : a.1.test ≡ 0
 
 -- a key stands for a machine: the property holds there, and the key has what its cells hold
-pub record IsKeyOf (g : Setting) (key : List ℕ) (a : Machine) : Type 0 where
+pub record IsKeyOf (g : Setting) (key : List ℕ) (a : Tracked) : Type 0 where
   pub on : IsOn g.board g.rom a
   pub well : test_of g a ≡ true
   pub cells : key ≡ key_of g.layout a
@@ -52,5 +52,5 @@ pub record Keeps (s t : BusState) : Type 0 where
 -- decides all else
 abbrev pub KeysDecide : Type 0
 KeysDecide =
-    (b : BoardParts) (rom : List ℕ) (layout : List Cell) (s t : Machine) → IsComplete b layout →
+    (b : BoardParts) (rom : List ℕ) (layout : List Cell) (s t : Tracked) → IsComplete b layout →
     IsOn b rom s → IsOn b rom t → key_of layout s ≡ key_of layout t → s ≡ t

@@ -1,6 +1,7 @@
 pub mod Simulated
 pub mod Agreed
 pub mod Cells
+pub mod Mistaken
 pub mod Conditions
 pub mod Keys
 pub mod Stations

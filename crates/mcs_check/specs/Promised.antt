@@ -1,12 +1,11 @@
 -- What the outcome of a search promises.
 use Rattle.std.specs.Prelude.{Bool}
-use Rattle.mcs_model.specs.Running.{Machine}
-use Rattle.mcs_drive.specs.Driven.{Holds}
+use Rattle.mcs_drive.specs.Tracked.{Tracked, Holds}
 use Rattle.mcs_check.specs.declared.checking.Outcome.{Outcome}
 use Rattle.mcs_check.specs.declared.checking.Outcome.TheVariants as outcome
 
 -- if it says that a property holds, the property holds at each moment, whatever keys and TEST do
-abbrev pub IsProved : (Machine → Bool) → Machine → Outcome → Type 0
+abbrev pub IsProved : (Tracked → Bool) → Tracked → Outcome → Type 0
 IsProved p s (outcome.Holds n) = Holds p s
 IsProved p s (outcome.MayFail values) = Unit {0}
 IsProved p s outcome.TooMany = Unit {0}

@@ -1,9 +1,8 @@
 -- The rules of the search. (Our own choice.)
 use Rattle.std.specs.Prelude.{ℕ, List}
 use Rattle.std.specs.List.{Contains}
-use Rattle.mcs_model.specs.Running.{Machine}
 use Rattle.mcs_drive.specs.Driven.{Levels, FitBoard}
-use Rattle.mcs_drive.specs.Asking.{answer}
+use Rattle.mcs_drive.specs.Tracked.{Tracked, answer}
 use Rattle.mcs_search.specs.Rules.{Rules}
 use Rattle.mcs_check.specs.Keys.{Setting, IsKeyOf}
 use Rattle.mcs_check.specs.Walking.{IsState, Leads}
@@ -11,7 +10,7 @@ use Rattle.mcs_check.specs.Walking.{IsState, Leads}
 -- these values are all that can be read
 abbrev pub Covers : Setting → List ℕ → List ℕ → Type 0
 Covers g key values =
-    (a : Machine) → IsKeyOf g key a → (l : Levels) → FitBoard a.1.board l → Contains values (answer l a)
+    (a : Tracked) → IsKeyOf g key a → (l : Levels) → FitBoard a.1.board l → Contains values (answer l a)
 
 -- That the property fails on a way says nothing here: it is seen when the way is replayed on a bench.
 abbrev pub rules_of : Setting → Rules

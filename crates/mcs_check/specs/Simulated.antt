@@ -2,26 +2,25 @@
 use Rattle.std.specs.Prelude.{◌≡◌, ℕ, List, Bool, true, false, None}
 use Rattle.std.specs.List.{Contains}
 use Rattle.mcs_model.specs.Boards.{board_fault_of}
-use Rattle.mcs_model.specs.Running.{Machine, after_cycles}
-use Rattle.mcs_drive.specs.Driven.{Levels, FitBoard, under}
-use Rattle.mcs_drive.specs.Asking.{answer}
+use Rattle.mcs_drive.specs.Driven.{Levels, FitBoard}
+use Rattle.mcs_drive.specs.Tracked.{Tracked, under, after_cycles, answer}
 use Rattle.mcs_drive.specs.Leading.{LeadsTo}
 use Rattle.mcs_search.specs.Rules.{Rules}
 
 -- a machine that a key may stand for: on a sound board, with p
-pub record IsStation (p : Machine → Bool) (a : Machine) : Type 0 where
+pub record IsStation (p : Tracked → Bool) (a : Tracked) : Type 0 where
   pub sound : board_fault_of a.1.board ≡ None
   pub well : p a ≡ true
 
 -- the rules of a search whose keys stand for machines. A choice is the value that is read; it leads to
 -- a key if, at all levels at which this value is read, the machine leads to one of that key, p all the
 -- way
-abbrev pub machine_rules : (Machine → Bool) → (List ℕ → Type 0) → (List ℕ → Machine → Type 0) → Rules
+abbrev pub machine_rules : (Tracked → Bool) → (List ℕ → Type 0) → (List ℕ → Tracked → Type 0) → Rules
 machine_rules p is_state is_key_of = record {
   is_state = is_state;
-  covers = λ key choices. (a : Machine) → is_key_of key a → (l : Levels) → FitBoard a.1.board l → Contains choices (answer l a);
-  leads = λ key c next. (a : Machine) → is_key_of key a →
-      (b : Machine) × is_key_of next b × ((l : Levels) → FitBoard a.1.board l → answer l a ≡ c → LeadsTo p a b l);
-  fails = λ key c. (a : Machine) → is_key_of key a →
+  covers = λ key choices. (a : Tracked) → is_key_of key a → (l : Levels) → FitBoard a.1.board l → Contains choices (answer l a);
+  leads = λ key c next. (a : Tracked) → is_key_of key a →
+      (b : Tracked) × is_key_of next b × ((l : Levels) → FitBoard a.1.board l → answer l a ≡ c → LeadsTo p a b l);
+  fails = λ key c. (a : Tracked) → is_key_of key a →
       (l : Levels) × FitBoard a.1.board l × ((k : ℕ) × (p (after_cycles k (under l a)) ≡ false));
 }

@@ -7,9 +7,9 @@ use Rattle.mcs_model.specs.declared.op.Op.TheVariants.{Jcn, Rdr}
 use Rattle.mcs_model.specs.Boards.{masks_on}
 use Rattle.mcs_model.specs.Bus.{BusState}
 use Rattle.mcs_model.specs.Effect.{instruction_at}
-use Rattle.mcs_model.specs.Running.{Machine, after_cycles}
-use Rattle.mcs_drive.specs.Driven.{Levels, FitBoard, under, cycled}
-use Rattle.mcs_drive.specs.Asking.{asks, is_asking, plain, answer}
+use Rattle.mcs_drive.specs.Driven.{Levels, FitBoard}
+use Rattle.mcs_drive.specs.Asking.{asks}
+use Rattle.mcs_drive.specs.Tracked.{Tracked, under, plain, cycled, after_cycles, is_asking, answer}
 use Rattle.mcs_check.specs.declared.reading.Source.{Source}
 use Rattle.mcs_check.specs.declared.reading.Source.TheVariants.{Nothing, Port, Test}
 
@@ -27,20 +27,20 @@ OpReads op Port = op ≡ Rdr
 OpReads op Test = LooksAtTest op
 
 -- the next cycle begins an instruction of which a fact holds
-pub record Begins (fact : Op → Type 0) (s : Machine) : Type 0 where
+pub record Begins (fact : Op → Type 0) (s : Tracked) : Type 0 where
   pub free : (s.0.owed == 1) ≡ false
   pub op : Op
   pub next : instruction_at s.0 s.1 ≡ Some op
   pub is : fact op
 
 -- what the next cycle reads
-abbrev pub Reads : Machine → Source → Type 0
+abbrev pub Reads : Tracked → Source → Type 0
 Reads s Nothing = is_asking s ≡ false
 Reads s Port = Begins (λ op. op ≡ Rdr) s
 Reads s Test = Begins LooksAtTest s
 
 -- at no levels is this value read
-abbrev pub CannotRead : ℕ → Machine → Type 0
+abbrev pub CannotRead : ℕ → Tracked → Type 0
 CannotRead value s = (l : Levels) → FitBoard s.1.board l → answer l s ≡ value → ⊥
 
 -- whether each bit of a nibble is one of another nibble
@@ -55,12 +55,12 @@ port_unpressed m =
     elim (masks_on m.board (m.rom_src / 16)) [ Some mask ↦ read_lines (λ k. 0) mask | None ↦ 0 ]
 
 -- one cycle led from s to t, whatever the levels at which this value is read, and but for levels
-abbrev pub HasRead : ℕ → Machine → Machine → Type 0
+abbrev pub HasRead : ℕ → Tracked → Tracked → Type 0
 HasRead value s t =
     (l : Levels) → FitBoard s.1.board l → answer l s ≡ value → plain (cycled (under l s)) ≡ plain t
 
 -- a run from s to t, in which no cycle reads of the outside and the property holds at each moment
-pub record Reaches (p : Machine → Bool) (s t : Machine) : Type 0 where
+pub record Reaches (p : Tracked → Bool) (s t : Tracked) : Type 0 where
   pub cycles : ℕ
   pub quiet : (i : ℕ) → i < cycles → is_asking (after_cycles i s) ≡ false
   pub well : (i : ℕ) → i ≤ cycles → p (after_cycles i s) ≡ true

@@ -1,17 +1,16 @@
 -- What a step of the search shows: its keys stand for machines of one board.
 use Rattle.std.specs.Prelude.{◌≡◌, ℕ, List}
-use Rattle.mcs_model.specs.Running.{Machine}
 use Rattle.mcs_drive.specs.Driven.{Levels, FitBoard}
-use Rattle.mcs_drive.specs.Asking.{answer}
+use Rattle.mcs_drive.specs.Tracked.{Tracked, answer}
 use Rattle.mcs_drive.specs.Leading.{LeadsTo}
 use Rattle.mcs_check.specs.Keys.{Setting, IsKeyOf, test_of}
 
 -- a key stands for some machine
 abbrev pub IsState : Setting → List ℕ → Type 0
-IsState g key = (a : Machine) × IsKeyOf g key a
+IsState g key = (a : Tracked) × IsKeyOf g key a
 
 -- where this value is read, the machine of a key leads to that of the next one, the property all the way
 abbrev pub Leads : Setting → List ℕ → ℕ → List ℕ → Type 0
 Leads g key value next =
-    (a : Machine) → IsKeyOf g key a → (b : Machine) × IsKeyOf g next b
+    (a : Tracked) → IsKeyOf g key a → (b : Tracked) × IsKeyOf g next b
     × ((l : Levels) → FitBoard a.1.board l → answer l a ≡ value → LeadsTo (test_of g) a b l)

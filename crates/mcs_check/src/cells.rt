@@ -21,7 +21,7 @@ pub enum CellList {
     BankSrcs,
     /// The index registers.
     Registers,
-    /// The other registers, addresses in two bytes, and the SRC byte that the ROMs keep.
+    /// The other registers, addresses in two bytes, the SRC byte that the ROMs keep, and how many calls are open.
     Counters,
     /// The bits of a shift-register chain.
     Chain(u8),
@@ -55,7 +55,7 @@ impl CellList {
             CellList::RomPorts => 16,
             CellList::BankSrcs => 8,
             CellList::Registers => 16,
-            CellList::Counters => 13,
+            CellList::Counters => 14,
             CellList::Chain(_) => 256,
         }
     }

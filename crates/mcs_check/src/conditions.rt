@@ -1,8 +1,9 @@
 //! What is never to be.
 ghost use Rattle.std.specs.Prelude.{◌≡◌};
-ghost use Rattle.mcs_check.specs.Conditions.{are_met, is_inside, is_met, keeps_to, part_of};
+ghost use Rattle.mcs_check.specs.Conditions.{are_met, compares, is_inside, is_met, keeps_to, part_of};
 
 use crate::cells::Cell;
+use crate::common_mistakes::Mistakes;
 use crate::replica::Replica;
 use mcs_nibble::Nibble;
 use std::marker::Model;
@@ -57,8 +58,8 @@ fn is_inside(replica: &Replica, comparison: &Comparison) -> bool
 }
 
 /// Returns whether a comparison is met.
-fn is_met(replica: &Replica, comparison: &Comparison) -> bool
-    ensures { result ≡ is_met replica.now comparison.now }
+fn compares(replica: &Replica, comparison: &Comparison) -> bool
+    ensures { result ≡ compares replica.now comparison.now }
 {
     let is_inside = is_inside(replica, comparison);
     if comparison.inside {
@@ -68,46 +69,71 @@ fn is_met(replica: &Replica, comparison: &Comparison) -> bool
     }
 }
 
-/// Returns whether all comparisons are met.
-fn are_met(replica: &Replica, comparisons: &[Comparison]) -> bool
-    ensures { result ≡ are_met replica.now comparisons.now }
+/// A condition of a machine at some moment.
+#[derive(Clone, Copy, Debug)]
+pub enum Condition {
+    /// A comparison is met.
+    Compare(Comparison),
+    /// The next cycle makes one of these mistakes.
+    Mistaken(Mistakes),
+}
+
+impl Default for Condition {
+    fn default() -> Condition {
+        Condition::Mistaken(Mistakes::NONE)
+    }
+}
+
+/// Returns whether a condition is met.
+fn is_met(replica: &Replica, condition: &Condition) -> bool
+    ensures { result ≡ is_met replica.now condition.now }
 {
-    for i in 0..comparisons.len() {
-        if !is_met(replica, &comparisons[i]) {
+    match condition {
+        Condition::Compare(comparison) => compares(replica, comparison),
+        Condition::Mistaken(asked) => replica.is_mistaken(asked),
+    }
+}
+
+/// Returns whether all conditions are met.
+fn are_met(replica: &Replica, conditions: &[Condition]) -> bool
+    ensures { result ≡ are_met replica.now conditions.now }
+{
+    for i in 0..conditions.len() {
+        if !is_met(replica, &conditions[i]) {
             return false;
         }
     }
     true
 }
 
-/// Comparisons that are never to be met all at once. Contracts see their list.
+/// Conditions that are never to be met all at once. Contracts see their list.
 #[derive(Drop)]
 pub struct Never {
-    comparisons: Vec<Comparison>,
+    conditions: Vec<Condition>,
 }
 
 impl Model for Never {
     ghost use Rattle.std.specs.Prelude.{List};
-    ghost use Rattle.mcs_check.specs.declared.conditions.Comparison.{Comparison};
+    ghost use Rattle.mcs_check.specs.declared.conditions.Condition.{Condition};
 
-    ghost Value = { List Comparison };
+    ghost Value = { List Condition };
 
-    ghost view = { λ n. n.comparisons.items };
+    ghost view = { λ n. n.conditions.items };
 }
 
 impl Never {
-    /// Makes one of comparisons.
-    pub fn of(comparisons: Vec<Comparison>) -> Never
-        ensures { result ≡ comparisons.items }
+    /// Makes one of conditions.
+    pub fn of(conditions: Vec<Condition>) -> Never
+        ensures { result ≡ conditions.items }
     {
-        Never { comparisons }
+        Never { conditions }
     }
 
-    /// Returns whether all comparisons are met.
+    /// Returns whether all conditions are met.
     fn is_met(&self, replica: &Replica) -> bool
         ensures { result ≡ are_met replica.now self.now }
     {
-        are_met(replica, &self.comparisons)
+        are_met(replica, &self.conditions)
     }
 }
 

@@ -1,11 +1,13 @@
 //! From a search to what holds of a machine for all inputs.
 //!
 //! A key stands for one machine of a board: `Replica` loads it and saves it, and runs from where a cycle reads an input to
-//! where the next one does. Contracts see a replica as the machine of `mcs_model`.
+//! where the next one does. Contracts see a replica as the machine of `mcs_model`
+//! and the calls that are open in it.
 #![tactic(auto)]
 
 mod cells;
 mod checking;
+mod common_mistakes;
 mod conditions;
 mod holding;
 mod laws;
@@ -18,7 +20,8 @@ mod walking;
 
 pub use cells::{Cell, CellList, layout_of};
 pub use checking::{Outcome, check_all};
-pub use conditions::{Comparison, Never, Part, keeps_to};
+pub use common_mistakes::Mistakes;
+pub use conditions::{Comparison, Condition, Never, Part, keeps_to};
 pub use laws::agreeing_same;
 pub use packing::keys_decide;
 pub use reading::Source;

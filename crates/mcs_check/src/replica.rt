@@ -12,24 +12,26 @@ use mcs_model::board::Board;
 use mcs_nibble::{Addr, Bit, Nibble};
 use std::marker::Model;
 
-/// A processor on a rig. Contracts see it as a machine.
+/// A processor on a rig, with the count of its open calls. Contracts see all three.
 #[derive(Drop)]
 pub struct Replica {
     pub(crate) cpu: Cpu,
     pub(crate) rig: BenchRig,
+    pub(crate) calls: u8,
 }
 
 impl Model for Replica {
-    ghost use Rattle.mcs_model.specs.Running.{Machine};
+    ghost use Rattle.mcs_drive.specs.Tracked.{Tracked};
 
-    ghost Value = { Machine };
+    ghost Value = { Tracked };
 
-    ghost view = { λ r. (r.cpu, r.rig) };
+    ghost view = { λ r. (r.cpu, r.rig, r.calls) };
 }
 
-/// Returns the registers of a processor but for the index registers, and the SRC byte that the ROMs of a rig keep.
-fn counters(cpu: &Cpu, rig: &BenchRig) -> [u8; 13]
-    ensures { result ≡ list_of (cpu.now, rig.now) Counters }
+/// Returns the registers of a processor but for the index registers, the SRC byte that the ROMs of a rig keep, and the count
+/// of open calls.
+fn counters(cpu: &Cpu, rig: &BenchRig, calls: u8) -> [u8; 14]
+    ensures { result ≡ list_of (cpu.now, rig.now, calls) Counters }
 {
     let regs = cpu.regs();
     let [first, second, third] = regs.ret;
@@ -47,6 +49,7 @@ fn counters(cpu: &Cpu, rig: &BenchRig) -> [u8; 13]
         (third.get() / 256) as u8,
         (third.get() % 256) as u8,
         rig.rom_src(),
+        calls,
     ]
 }
 
@@ -107,11 +110,11 @@ fn registers_are_valid(cpu: &Cpu)
 }
 
 impl Replica {
-    /// Makes one of a processor and a rig.
+    /// Makes one of a processor and a rig, in which no call is open.
     pub fn of(cpu: Cpu, rig: BenchRig) -> Replica
-        ensures { result ≡ (cpu, rig) }
+        ensures { result ≡ (cpu, rig, 0) }
     {
-        Replica { cpu, rig }
+        Replica { cpu, rig, calls: 0 }
     }
 
     /// Returns the board.
@@ -136,7 +139,7 @@ impl Replica {
             CellList::RomPorts => self.rig.rom_latch(i as u8).get(),
             CellList::BankSrcs => self.rig.ram_src(i as u8),
             CellList::Registers => self.cpu.regs().r[usize::from(i)].get(),
-            CellList::Counters => counters(&self.cpu, &self.rig)[usize::from(i)],
+            CellList::Counters => counters(&self.cpu, &self.rig, self.calls)[usize::from(i)],
             CellList::Chain(n) => self.rig.chain_bit(n, i as u8).get(),
         }
     }
@@ -170,6 +173,8 @@ impl Replica {
             CellList::Counters => {
                 if i == 12 {
                     self.rig.set_rom_src(n);
+                } else if i == 13 {
+                    self.calls = n;
                 } else {
                     set_counter(&mut self.cpu, i, n);
                 }

@@ -1,10 +1,10 @@
 //! The run of a machine from where a cycle reads of the outside to where the next one does.
-ghost use Rattle.std.specs.Prelude.{◌≡◌, ◌<◌, ◌==◌, ◌||◌, ◌&&◌, false, length, IsTrue, replicate};
+ghost use Rattle.std.specs.Prelude.{◌≡◌, ◌<◌, ◌==◌, ◌||◌, ◌&&◌, false, length, Some, IsTrue, replicate};
 ghost use Rattle.mcs_model.specs.Boards.{key_count};
 ghost use Rattle.mcs_model.specs.Levels.{port_of};
 ghost use Rattle.mcs_model.specs.declared.op.Op.TheVariants.{Rdr};
-ghost use Rattle.mcs_drive.specs.Asking.{is_asking};
-ghost use Rattle.mcs_drive.specs.Driven.{cycled};
+ghost use Rattle.mcs_drive.specs.Asking.{asks};
+ghost use Rattle.mcs_drive.specs.Tracked.{calls_after, cycled, is_asking, open_after};
 ghost use Rattle.mcs_check.specs.Conditions.{keeps_to};
 ghost use Rattle.mcs_check.specs.Keys.{Keeps};
 ghost use Rattle.mcs_check.specs.Stations.{Begins, LooksAtTest, Reads, CannotRead, HasRead, Reaches, has_no_more, port_unpressed};
@@ -13,6 +13,7 @@ use crate::cells::Cell;
 use crate::conditions::{Never, keeps_to};
 use crate::reading::{Source, source_of};
 use crate::replica::Replica;
+use mcs_model::op::Op;
 use mcs_nibble::{Addr, Bit, Nibble};
 use mcs_rom4001::read_port_of;
 
@@ -24,6 +25,42 @@ fn has_no_more(n: Nibble, most: Nibble) -> bool
         && n.bit(1).get() <= most.bit(1).get()
         && n.bit(2).get() <= most.bit(2).get()
         && n.bit(3).get() <= most.bit(3).get()
+}
+
+/// Returns how many calls are open after an instruction, of so many before.
+fn calls_after_op(op: &Op, calls: u8) -> u8
+    ensures { result ≡ calls_after (Some op.now) calls }
+{
+    match op {
+        Op::Jms(_, _) => {
+            if calls < 3 {
+                calls + 1
+            } else {
+                calls
+            }
+        }
+        Op::Bbl(_) => calls.saturating_sub(1),
+        _ => calls,
+    }
+}
+
+/// What is known of the next cycle before it is run.
+#[derive(Clone, Copy)]
+struct Ahead {
+    /// Whether it may read of the outside.
+    may_read: bool,
+    /// How many calls are open after it.
+    calls: u8,
+}
+
+/// Returns whether an instruction may read of the outside.
+fn may_read(op: Op) -> bool
+    ensures { result ≡ false → asks (Some op) ≡ false }
+{
+    match source_of(op) {
+        Source::Nothing => false,
+        Source::Port | Source::Test => true,
+    }
 }
 
 impl Replica {
@@ -46,21 +83,40 @@ impl Replica {
         self.cpu.regs().pc
     }
 
-    /// Returns whether the next cycle may read of the outside.
-    fn is_reading(&self) -> bool
-        ensures { result ≡ false → is_asking self.now ≡ false }
+    /// Returns what is known of the next cycle.
+    fn ahead(&self) -> Ahead
+        ensures quiet { result.may_read ≡ false → is_asking self.now ≡ false }
+        ensures calls { result.calls ≡ open_after self.now.0 self.now.1 self.now.2 }
     {
-        match self.source() {
-            Source::Nothing => false,
-            Source::Port | Source::Test => true,
+        let registers = self.cpu.regs();
+        if registers.owed == 1 {
+            return Ahead {
+                may_read: false,
+                calls: self.calls,
+            };
+        }
+        match mcs_board::instruction(&self.cpu, &self.rig, registers.pc) {
+            Some(op) => {
+                let calls = calls_after_op(&op, self.calls);
+                Ahead {
+                    may_read: may_read(op),
+                    calls,
+                }
+            }
+            None => Ahead {
+                may_read: false,
+                calls: self.calls,
+            },
         }
     }
 
-    /// Runs one cycle.
-    fn cycle(&mut self)
+    /// Runs one cycle, after which so many calls are open.
+    fn cycle(&mut self, calls: u8)
+        requires { calls ≡ open_after self.old.0 self.old.1 self.old.2 }
         ensures { self.new ≡ cycled self.old }
     {
         let _cycle = mcs_board::cycle(&mut self.cpu, &mut self.rig);
+        self.calls = calls;
     }
 
     /// Returns whether the next cycle may answer this value though it reads nothing.
@@ -112,7 +168,8 @@ impl Replica {
         ensures read { HasRead value self.old self.new }
         ensures keeps { Keeps self.old.1 self.new.1 }
     {
-        self.cycle();
+        let ahead = self.ahead();
+        self.cycle(ahead.calls);
         self.cpu.set_acc(Nibble::low_of(value));
     }
 
@@ -126,7 +183,8 @@ impl Replica {
         self.show_state_is_valid();
         let level = self.rig.test_level();
         self.rig.set_test(Bit::low_of(value));
-        self.cycle();
+        let ahead = self.ahead();
+        self.cycle(ahead.calls);
         self.rig.set_test(level);
     }
 
@@ -137,7 +195,8 @@ impl Replica {
         ensures keeps { Keeps self.old.1 self.new.1 }
     {
         self.show_state_is_valid();
-        self.cycle();
+        let ahead = self.ahead();
+        self.cycle(ahead.calls);
     }
 
     /// Runs the next cycle, which reads this value. Returns whether it can.
@@ -193,14 +252,15 @@ impl Replica {
             if !keeps_to(self, nevers) {
                 return false;
             }
-            if self.is_reading() {
+            let ahead = self.ahead();
+            if ahead.may_read {
                 return true;
             }
             // A loop that reads nothing: no more is seen in it.
             if self.is_again(layout, key, at) {
                 return true;
             }
-            self.cycle();
+            self.cycle(ahead.calls);
         }
         keeps_to(self, nevers)
     }

@@ -4,7 +4,7 @@ ghost use Rattle.std.specs.List.{Contains};
 ghost use Rattle.mcs_model.specs.Boards.{key_count};
 ghost use Rattle.mcs_check.specs.Cells.{IsComplete};
 ghost use Rattle.mcs_check.specs.Keys.{Keeps, setting_of};
-ghost use Rattle.mcs_check.specs.declared.conditions.Comparison.{Comparison};
+ghost use Rattle.mcs_check.specs.declared.conditions.Condition.{Condition};
 ghost use Rattle.mcs_check.specs.Searched.{Covers};
 ghost use Rattle.mcs_check.specs.Stations.{CannotRead};
 ghost use Rattle.mcs_check.specs.Walking.{IsState, Leads};
@@ -52,7 +52,7 @@ pub(crate) fn list_values(
     requires test { replica.old.1.test ≡ 0 }
     requires complete { IsComplete replica.old.1.board layout.now }
     ensures keeps { Keeps replica.old.1 replica.new.1 }
-    ensures covers { OnOk result ((nevers : List (List Comparison)) →
+    ensures covers { OnOk result ((nevers : List (List Condition)) →
         Covers (setting_of replica.old layout.now nevers) key.now into.new.items) }
 {
     into.clear();

@@ -1,29 +1,26 @@
--- Machines that are alike but for levels stay so until one asks.
-use Rattle.std.proofs.Common.{◌≡◌, ◌<◌, ◌≤◌, ◌+◌, ℕ, zero, suc, Bool, false, None, refl, sym, ap, ◌∙◌, arith}
+-- Trackeds that are alike but for levels stay so until one asks.
+use Rattle.std.proofs.Common.{◌≡◌, ◌<◌, ◌≤◌, ℕ, zero, suc, Bool, false, None, refl, sym, ap, ◌∙◌, arith}
 use Rattle.mcs_model.specs.Boards.{board_fault_of}
 use Rattle.mcs_model.specs.Bus.{fetch_of}
-use Rattle.mcs_model.specs.Running.{Machine, after_cycles}
-use Rattle.mcs_model.proofs.RunLemmas.{cycled-add}
-use Rattle.mcs_drive.specs.Driven.{Levels, under, cycled}
-use Rattle.mcs_drive.specs.Asking.{is_asking, plain, answer}
+use Rattle.mcs_drive.specs.Driven.{Levels}
+use Rattle.mcs_drive.specs.Tracked.{Tracked, under, plain, cycled, after_cycles, is_asking, answer}
 use Rattle.mcs_drive.specs.Leading.{Ignores, LeadsTo}
-use Rattle.mcs_drive.proofs.Commuting.{cycle-rest}
-use Rattle.mcs_drive.proofs.Answering.{answers-decide}
+use Rattle.mcs_drive.proofs.Tracking.{cycle-rest, answers-decide}
 use Rattle.mcs_drive.proofs.Stations.{cycle-board, cycles-board}
 
-levels_of : Machine → Levels
+levels_of : Tracked → Levels
 levels_of s = record { keys = s.1.keys; test = s.1.test }
 
-asking-plain : (s : Machine) → is_asking (plain s) ≡ is_asking s
+asking-plain : (s : Tracked) → is_asking (plain s) ≡ is_asking s
 unfolding fetch_of
 asking-plain s = refl
 
 -- a cycle that does not ask, and levels away
-cycle-plain : (s : Machine) → board_fault_of s.1.board ≡ None → is_asking s ≡ false → plain (cycled s) ≡ plain (cycled (plain s))
+cycle-plain : (s : Tracked) → board_fault_of s.1.board ≡ None → is_asking s ≡ false → plain (cycled s) ≡ plain (cycled (plain s))
 unfolding levels_of
 cycle-plain s v quiet = ap plain (cycle-rest (levels_of s) (plain s) v (asking-plain s ∙ quiet))
 
-pub run-alike : (n : ℕ) (s t : Machine) → board_fault_of s.1.board ≡ None → plain s ≡ plain t → ((i : ℕ) → i < n → is_asking (after_cycles i s) ≡ false) → plain (after_cycles n s) ≡ plain (after_cycles n t)
+pub run-alike : (n : ℕ) (s t : Tracked) → board_fault_of s.1.board ≡ None → plain s ≡ plain t → ((i : ℕ) → i < n → is_asking (after_cycles i s) ≡ false) → plain (after_cycles n s) ≡ plain (after_cycles n t)
 run-alike zero s t v e quiet = e
 run-alike (suc n) s t v e quiet =
     let x = after_cycles n s in
@@ -31,15 +28,16 @@ run-alike (suc n) s t v e quiet =
     let ago = run-alike n s t v e (λ i h. quiet i (omega arith)) in
     let still = quiet n (omega arith) in
     let sound = ap board_fault_of (cycles-board n s) ∙ v in
-    let board : y.1.board ≡ x.1.board = ap (λ (m : Machine). m.1.board) (sym ago) in
+    let board : y.1.board ≡ x.1.board = ap (λ (m : Tracked). m.1.board) (sym ago) in
     let quiet-y : is_asking y ≡ false = sym (asking-plain y) ∙ ap is_asking (sym ago) ∙ asking-plain x ∙ still in
-    cycle-plain x sound still ∙ ap (λ (m : Machine). plain (cycled m)) ago ∙ sym (cycle-plain y (ap board_fault_of board ∙ sound) quiet-y)
+    cycle-plain x sound still ∙ ap (λ (m : Tracked). plain (cycled m)) ago ∙ sym (cycle-plain y (ap board_fault_of board ∙ sound) quiet-y)
 
 -- one cycle, and then the others
-behind : (i : ℕ) (s : Machine) → after_cycles (suc i) s ≡ after_cycles i (cycled s)
-behind i s = (let e : suc i ≡ 1 + i = omega arith in ap (λ k. after_cycles k s) e) ∙ cycled-add 1 i s
+pub behind : (i : ℕ) (s : Tracked) → after_cycles (suc i) s ≡ after_cycles i (cycled s)
+behind zero s = refl
+behind (suc i) s = ap cycled (behind i s)
 
-pub answers-lead : (p : Machine → Bool) (a b : Machine) (l m : Levels) → Ignores p → board_fault_of a.1.board ≡ None → answer l a ≡ answer m a → LeadsTo p a b m → LeadsTo p a b l
+pub answers-lead : (p : Tracked → Bool) (a b : Tracked) (l m : Levels) → Ignores p → board_fault_of a.1.board ≡ None → answer l a ≡ answer m a → LeadsTo p a b m → LeadsTo p a b l
 answers-lead p a b l m ignores v same to =
     let s = cycled (under m a) in
     let t = cycled (under l a) in

@@ -2,5 +2,6 @@ pub mod Outputs
 pub mod Commuting
 pub mod Answering
 pub mod Choosing
+pub mod Tracking
 pub mod Stations
 pub mod Alike

@@ -11,11 +11,11 @@ use Rattle.mcs_model.specs.Boards.{board_fault_of, masks_on}
 use Rattle.mcs_model.specs.Bus.{BusState, after_src, chips_of, src_of, has_chip, with_ram, after_ram, with_status, after_status}
 use Rattle.mcs_model.specs.Levels.{clock_levels, chains_clocked, with_rom_ports_at, after_ram_port, after_rom_port}
 use Rattle.mcs_model.specs.Effect.{bus_after, cycle_of, effect, instruction_at}
-use Rattle.mcs_model.specs.Running.{Machine, after_cycles}
-use Rattle.mcs_drive.specs.Driven.{Levels, FitBoard, under, cycled, driven, Holds}
-use Rattle.mcs_drive.specs.Asking.{is_asking, plain}
+use Rattle.mcs_model.specs.Running.{Machine}
+use Rattle.mcs_drive.specs.Driven.{Levels, FitBoard}
+use Rattle.mcs_drive.specs.Tracked.{Tracked, machine_in, under, plain, cycled, after_cycles, is_asking, driven, Holds}
 use Rattle.mcs_drive.specs.Leading.{Ignores, LeadsTo}
-use Rattle.mcs_drive.proofs.Commuting.{cycle-rest}
+use Rattle.mcs_drive.proofs.Tracking.{cycle-rest}
 
 -- ---- the board stays
 
@@ -45,49 +45,49 @@ cycle-board-when s true o = refl
 cycle-board-when s false None = refl
 cycle-board-when s false (Some op) = bus-board op s.0 s.1
 
-pub cycle-board : (s : Machine) → (cycled s).1.board ≡ s.1.board
+pub cycle-board : (s : Tracked) → (cycled s).1.board ≡ s.1.board
 unfolding cycle_of
-cycle-board s = cycle-board-when s (eqb s.0.owed 1) (instruction_at s.0 s.1)
+cycle-board s = cycle-board-when (machine_in s) (eqb s.0.owed 1) (instruction_at s.0 s.1)
 
-pub cycles-board : (k : ℕ) (s : Machine) → (after_cycles k s).1.board ≡ s.1.board
+pub cycles-board : (k : ℕ) (s : Tracked) → (after_cycles k s).1.board ≡ s.1.board
 cycles-board zero s = refl
 cycles-board (suc k) s = cycle-board (after_cycles k s) ∙ cycles-board k s
 
 -- ---- driven runs
 
-driven-add : (f : ℕ → Levels) (n m : ℕ) (s : Machine) → driven f (n + m) s ≡ driven (λ i. f (n + i)) m (driven f n s)
+driven-add : (f : ℕ → Levels) (n m : ℕ) (s : Tracked) → driven f (n + m) s ≡ driven (λ i. f (n + i)) m (driven f n s)
 driven-add f n zero s = ap (λ k. driven f k s) (omega arith)
-driven-add f n (suc m) s = (let e : n + suc m ≡ suc (n + m) = omega arith in ap (λ k. driven f k s) e) ∙ ap (λ (t : Machine). cycled (under (f (n + m)) t)) (driven-add f n m s)
+driven-add f n (suc m) s = (let e : n + suc m ≡ suc (n + m) = omega arith in ap (λ k. driven f k s) e) ∙ ap (λ (t : Tracked). cycled (under (f (n + m)) t)) (driven-add f n m s)
 
-driven-alike : (f : ℕ → Levels) (k : ℕ) (s t : Machine) → plain s ≡ plain t → plain (driven f k s) ≡ plain (driven f k t)
+driven-alike : (f : ℕ → Levels) (k : ℕ) (s t : Tracked) → plain s ≡ plain t → plain (driven f k s) ≡ plain (driven f k t)
 driven-alike f zero s t e = e
-driven-alike f (suc k) s t e = ap (λ (m : Machine). plain (cycled (under (f k) m))) (driven-alike f k s t e)
+driven-alike f (suc k) s t e = ap (λ (m : Tracked). plain (cycled (under (f k) m))) (driven-alike f k s t e)
 
 -- a run of which only the first cycle may ask
-pub driven-quiet : (f : ℕ → Levels) (n : ℕ) (a : Machine) → board_fault_of a.1.board ≡ None → ((i : ℕ) → i < n → is_asking (after_cycles (suc i) (under (f 0) a)) ≡ false) → plain (driven f (suc n) a) ≡ plain (after_cycles (suc n) (under (f 0) a))
+pub driven-quiet : (f : ℕ → Levels) (n : ℕ) (a : Tracked) → board_fault_of a.1.board ≡ None → ((i : ℕ) → i < n → is_asking (after_cycles (suc i) (under (f 0) a)) ≡ false) → plain (driven f (suc n) a) ≡ plain (after_cycles (suc n) (under (f 0) a))
 driven-quiet f zero a v quiet = refl
 driven-quiet f (suc n) a v quiet =
     let b = under (f 0) a in
     let l = f (suc n) in
     let ago = driven-quiet f n a v (λ i h. quiet i (omega arith)) in
     let sound = ap board_fault_of (cycles-board (suc n) b) ∙ v in
-    ap (λ (m : Machine). plain (cycled (under l m))) ago
+    ap (λ (m : Tracked). plain (cycled (under l m))) ago
     ∙ ap plain (cycle-rest l (after_cycles (suc n) b) sound (quiet n (omega arith)))
 
 -- ---- stations
 
 -- at these levels, a leads to one of R
-abbrev pub Leads : (Machine → Bool) → (Machine → Type 0) → Machine → Levels → Type 0
-Leads p R a l = (to : Machine) × R to × LeadsTo p a to l
+abbrev pub Leads : (Tracked → Bool) → (Tracked → Type 0) → Tracked → Levels → Type 0
+Leads p R a l = (to : Tracked) × R to × LeadsTo p a to l
 
 -- each of R has p, and leads to one of R at all levels
-pub record Closed (p : Machine → Bool) (R : Machine → Type 0) : Type 0 where
+pub record Closed (p : Tracked → Bool) (R : Tracked → Type 0) : Type 0 where
   pub ignores : Ignores p
-  pub sound : (a : Machine) → R a → board_fault_of a.1.board ≡ None
-  pub well : (a : Machine) → R a → p a ≡ true
-  pub leads : (a : Machine) (l : Levels) → R a → FitBoard a.1.board l → Leads p R a l
+  pub sound : (a : Tracked) → R a → board_fault_of a.1.board ≡ None
+  pub well : (a : Tracked) → R a → p a ≡ true
+  pub leads : (a : Tracked) (l : Levels) → R a → FitBoard a.1.board l → Leads p R a l
 
-stations-holds : (p : Machine → Bool) (R : Machine → Type 0) → Closed p R → (fuel k : ℕ) → k < fuel → (f : ℕ → Levels) (a : Machine) → R a → ((i : ℕ) → FitBoard a.1.board (f i)) → p (driven f k a) ≡ true
+stations-holds : (p : Tracked → Bool) (R : Tracked → Type 0) → Closed p R → (fuel k : ℕ) → k < fuel → (f : ℕ → Levels) (a : Tracked) → R a → ((i : ℕ) → FitBoard a.1.board (f i)) → p (driven f k a) ≡ true
 stations-holds p R c zero k h f a is fit = absurd (omega arith)
 stations-holds p R c (suc fuel) zero h f a is fit = c.well a is
 stations-holds p R c (suc fuel) (suc k) h f a is fit =
@@ -103,7 +103,7 @@ stations-holds p R c (suc fuel) (suc k) h f a is fit =
           let g : ℕ → Levels = λ i. f (n + i) in
           let split : suc k ≡ n + rest = omega arith in
           let came : plain (driven f n a) ≡ plain to = driven-quiet f leads.more a v leads.quiet ∙ leads.same in
-          let board : a.1.board ≡ to.1.board = sym (cycles-board n b) ∙ ap (λ (m : Machine). m.1.board) leads.same in
+          let board : a.1.board ≡ to.1.board = sym (cycles-board n b) ∙ ap (λ (m : Tracked). m.1.board) leads.same in
           ap (λ j. p (driven f j a)) split ∙ ap p (driven-add f n rest a)
           ∙ c.ignores (driven g rest (driven f n a)) ∙ ap p (driven-alike g rest (driven f n a) to came) ∙ sym (c.ignores (driven g rest to))
           ∙ stations-holds p R c fuel rest (omega arith) g to to-is (λ i. subst (λ (d : BoardParts). FitBoard d (g i)) board (fit (n + i)))
@@ -114,5 +114,5 @@ stations-holds p R c (suc fuel) (suc k) h f a is fit =
     ]
 
 -- whatever the outside does, p holds at every moment from one of R on
-pub closed-holds : (p : Machine → Bool) (R : Machine → Type 0) → Closed p R → (a : Machine) → R a → Holds p a
+pub closed-holds : (p : Tracked → Bool) (R : Tracked → Type 0) → Closed p R → (a : Tracked) → R a → Holds p a
 closed-holds p R c a is = λ f fit k. stations-holds p R c (suc k) k (omega arith) f a is fit

@@ -1,7 +1,7 @@
--- What it means that a property holds for all inputs. Before each cycle the environment puts the keys
--- and the TEST pin at any levels; then the machine does one cycle, by the instruction table. This file
--- and what it uses of mcs_model are all that a reader has to believe. (Our own choice.)
-use Rattle.std.specs.Prelude.{◌≡◌, ◌<◌, ℕ, zero, suc, List, Bool, true, unwrap_or}
+-- What all inputs can do. Before each cycle the environment puts the keys and the TEST pin at any
+-- levels; then the machine does one cycle, by the instruction table. This file, Tracked and what they
+-- use of mcs_model are all that a reader has to believe. (Our own choice.)
+use Rattle.std.specs.Prelude.{◌<◌, ℕ, zero, suc, List, unwrap_or}
 use Rattle.mcs_model.specs.declared.board.BoardParts.{BoardParts}
 use Rattle.mcs_model.specs.Boards.{key_count}
 use Rattle.mcs_model.specs.Effect.{cycle_of}
@@ -30,7 +30,3 @@ cycled s = unwrap_or (cycle_of s.0 s.1) s
 abbrev pub driven : (ℕ → Levels) → ℕ → Machine → Machine
 driven f zero s = s
 driven f (suc k) s = cycled (under (f k) (driven f k s))
-
--- the property p holds for all inputs at every moment: an invariant of all runs, AG p
-abbrev pub Holds : (Machine → Bool) → Machine → Type 0
-Holds p s = (f : ℕ → Levels) → ((k : ℕ) → FitBoard s.1.board (f k)) → (k : ℕ) → p (driven f k s) ≡ true

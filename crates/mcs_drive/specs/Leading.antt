@@ -1,17 +1,16 @@
 -- Runs from one reading of an input to the next.
 use Rattle.std.specs.Prelude.{◌≡◌, ◌<◌, ◌≤◌, ℕ, suc, Bool, true, false, None}
 use Rattle.mcs_model.specs.Boards.{board_fault_of}
-use Rattle.mcs_model.specs.Running.{Machine, after_cycles}
-use Rattle.mcs_drive.specs.Driven.{Levels, under}
-use Rattle.mcs_drive.specs.Asking.{is_asking, answer, plain}
+use Rattle.mcs_drive.specs.Driven.{Levels}
+use Rattle.mcs_drive.specs.Tracked.{Tracked, under, plain, after_cycles, is_asking, answer}
 
 -- a property that does not look at the inputs
-abbrev pub Ignores : (Machine → Bool) → Type 0
-Ignores p = (s : Machine) → p s ≡ p (plain s)
+abbrev pub Ignores : (Tracked → Bool) → Type 0
+Ignores p = (s : Tracked) → p s ≡ p (plain s)
 
 -- at these levels, a runs into b, up to levels: after the first cycle it reads no input before b, and
 -- p holds after each cycle
-pub record LeadsTo (p : Machine → Bool) (a b : Machine) (l : Levels) : Type 0 where
+pub record LeadsTo (p : Tracked → Bool) (a b : Tracked) (l : Levels) : Type 0 where
   pub more : ℕ
   pub quiet : (i : ℕ) → i < more → is_asking (after_cycles (suc i) (under l a)) ≡ false
   pub well : (i : ℕ) → i ≤ more → p (after_cycles (suc i) (under l a)) ≡ true
@@ -20,5 +19,5 @@ pub record LeadsTo (p : Machine → Bool) (a b : Machine) (l : Levels) : Type 0 
 -- one run shows it for all levels at which the same is read
 abbrev pub AnswersLead : Type 0
 AnswersLead =
-    (p : Machine → Bool) (a b : Machine) (l m : Levels) → Ignores p → board_fault_of a.1.board ≡ None →
+    (p : Tracked → Bool) (a b : Tracked) (l m : Levels) → Ignores p → board_fault_of a.1.board ≡ None →
     answer l a ≡ answer m a → LeadsTo p a b m → LeadsTo p a b l

@@ -1,3 +1,4 @@
 pub mod Driven
 pub mod Asking
+pub mod Tracked
 pub mod Leading

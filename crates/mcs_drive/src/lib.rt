@@ -3,4 +3,6 @@
 
 mod laws;
 
-pub use laws::{answers_decide, answers_lead, choices_cover, levels_rest, pulled_at_most};
+pub use laws::{
+    answers_decide, answers_lead, choices_cover, levels_rest, pulled_at_most, tracks_machine,
+};

@@ -5,9 +5,9 @@ use Rattle.mcs_model.specs.declared.command.Command.TheVariants.{Wire, Load, Res
 use Rattle.mcs_model.specs.BenchState.{BenchState, new_bench_state}
 use Rattle.mcs_model.specs.Command.{after, machine_of, own_refusal}
 use Rattle.mcs_model.specs.Images.{by_address}
-use Rattle.mcs_model.specs.Running.{Machine}
 use Rattle.mcs_source.specs.Assembly.{assembly_of_text}
 use Rattle.mcs_wiring.specs.Wiring.{board_of_text}
+use Rattle.mcs_drive.specs.Tracked.{Tracked, without_calls}
 use Rattle.mcs_check.specs.declared.checking.Outcome.{Outcome}
 use Rattle.mcs_check.specs.Promised.{IsProved}
 
@@ -15,9 +15,10 @@ use Rattle.mcs_check.specs.Promised.{IsProved}
 abbrev pub wired : BoardParts → BenchState
 wired b = after new_bench_state (Wire b)
 
--- the machine of a bench after `wire`, `asm` and `reset`, with this board and this image
-abbrev pub machine_given : BoardParts → List (ℕ × ℕ) → Machine
-machine_given b image = machine_of (after (after (wired b) (Load image)) Reset)
+-- the machine of a bench after `wire`, `asm` and `reset`, with this board and this image; no call is
+-- open
+abbrev pub machine_given : BoardParts → List (ℕ × ℕ) → Tracked
+machine_given b image = without_calls (machine_of (after (after (wired b) (Load image)) Reset))
 
 -- `wire` accepts the board of a text, and `asm` then the program of another one
 pub record AreAccepted (board program : List ℕ) (b : BoardParts) (image : List (ℕ × ℕ)) : Type 0 where
@@ -28,7 +29,7 @@ pub record AreAccepted (board program : List ℕ) (b : BoardParts) (image : List
   pub fits : own_refusal (wired b) (Load image) ≡ None
 
 -- what an outcome promises of the machine of two texts
-pub record IsProvedOf (board program : List ℕ) (p : Machine → Bool) (outcome : Outcome) : Type 0 where
+pub record IsProvedOf (board program : List ℕ) (p : Tracked → Bool) (outcome : Outcome) : Type 0 where
   pub parts : BoardParts
   pub loaded : List (ℕ × ℕ)
   pub accepted : AreAccepted board program parts loaded

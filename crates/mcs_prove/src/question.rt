@@ -4,12 +4,13 @@
 //!     pause 1000000
 //!     wire                        the board's text, up to a line of a dot
 //!     asm                         the program's text, up to a line of a dot
-//!     never                       the comparisons that follow are never met all at once
+//!     never                       the conditions that follow are never met all at once
 //!     in ramport 0 line1 1 1
+//!     mistake code call           and the next cycle makes one of these mistakes
 //!     prove                       ends it: what is cut off before is no question
 use crate::fault::Refusal;
-use crate::words::comparison_of;
-use mcs_check::{Comparison, Never};
+use crate::words::{condition_of, is_mistake};
+use mcs_check::{Condition, Never};
 use mcs_model::numeral::number_within;
 use mcs_search::MOST;
 use std::alloc::{AllocError, Global};
@@ -45,7 +46,7 @@ enum Section {
 struct Reader {
     question: Question,
     section: Section,
-    comparisons: Option<Vec<Comparison>>,
+    conditions: Option<Vec<Condition>>,
 }
 
 /// Adds a line to a text.
@@ -68,23 +69,23 @@ impl Reader {
                 is_whole: false,
             },
             section: Section::Lines,
-            comparisons: None,
+            conditions: None,
         }
     }
 
-    /// Ends the comparisons that are never met all at once.
+    /// Ends the conditions that are never met all at once.
     fn end_never(&mut self) -> Result<(), AllocError> {
-        if let Some(comparisons) = mem::replace(&mut self.comparisons, None) {
-            self.question.nevers.push(Never::of(comparisons))?;
+        if let Some(conditions) = mem::replace(&mut self.conditions, None) {
+            self.question.nevers.push(Never::of(conditions))?;
         }
         Ok(())
     }
 
-    /// Adds a comparison. Returns whether these words are one, behind a line `never`.
-    fn add_comparison(&mut self, words: &[&str]) -> Result<bool, AllocError> {
-        match (comparison_of(words), &mut self.comparisons) {
-            (Some(comparison), Some(comparisons)) => {
-                comparisons.push(comparison)?;
+    /// Adds a condition. Returns whether these words are one, behind a line `never`.
+    fn add_condition(&mut self, words: &[&str]) -> Result<bool, AllocError> {
+        match (condition_of(words), &mut self.conditions) {
+            (Some(condition), Some(conditions)) => {
+                conditions.push(condition)?;
                 Ok(true)
             }
             _ => Ok(false),
@@ -135,7 +136,7 @@ impl Reader {
             ["asm"] => Ok(self.begin_program(alloc)),
             ["never"] => {
                 self.end_never()?;
-                self.comparisons = Some(Vec::new(alloc));
+                self.conditions = Some(Vec::new(alloc));
                 Ok(true)
             }
             ["prove"] => {
@@ -143,8 +144,9 @@ impl Reader {
                 self.question.is_whole = true;
                 Ok(true)
             }
+            _ if is_mistake(words) => self.add_condition(words),
             [name, number] => Ok(self.set_number(name, number)),
-            _ => self.add_comparison(words),
+            _ => self.add_condition(words),
         }
     }
 

@@ -1,5 +1,5 @@
-//! The words of a comparison: `in ramport 0 line1 1 1`, `out register 3 whole 0 9`.
-use mcs_check::{Cell, CellList, Comparison, Part};
+//! The words of a condition: `in ramport 0 line1 1 1`, `out register 3 whole 0 9`, `mistake code call`.
+use mcs_check::{Cell, CellList, Comparison, Condition, Mistakes, Part};
 use mcs_model::numeral::number_within;
 
 /// The largest index of a cell.
@@ -41,7 +41,7 @@ fn byte_of(word: &str) -> Option<u8> {
 }
 
 /// Returns the comparison of words.
-pub(crate) fn comparison_of(words: &[&str]) -> Option<Comparison> {
+fn comparison_of(words: &[&str]) -> Option<Comparison> {
     let [way, list, index, part, low, high] = words else {
         return None;
     };
@@ -62,4 +62,44 @@ pub(crate) fn comparison_of(words: &[&str]) -> Option<Comparison> {
         high: byte_of(high)?,
         inside,
     })
+}
+
+/// Returns whether words begin as mistakes do.
+pub(crate) fn is_mistake(words: &[&str]) -> bool {
+    words.len() > 1 && words[0] == "mistake"
+}
+
+/// Adds the mistake of a word. Returns whether the word is one.
+fn add_mistake(asked: &mut Mistakes, word: &str) -> bool {
+    match word {
+        "code" => asked.no_code = true,
+        "call" => asked.fourth_call = true,
+        "return" => asked.lone_return = true,
+        "ram" => asked.absent_ram = true,
+        "rom" => asked.absent_rom = true,
+        "rdr" => asked.no_inputs = true,
+        "wrr" => asked.no_outputs = true,
+        _ => return false,
+    }
+    true
+}
+
+/// Returns the mistakes of words, the first of which is no mistake.
+fn mistakes_of(words: &[&str]) -> Option<Mistakes> {
+    let mut asked = Mistakes::NONE;
+    for k in 1..words.len() {
+        if !add_mistake(&mut asked, words[k]) {
+            return None;
+        }
+    }
+    Some(asked)
+}
+
+/// Returns the condition of words.
+pub(crate) fn condition_of(words: &[&str]) -> Option<Condition> {
+    if is_mistake(words) {
+        Some(Condition::Mistaken(mistakes_of(words)?))
+    } else {
+        Some(Condition::Compare(comparison_of(words)?))
+    }
 }

@@ -49,13 +49,18 @@ fn put(rig: &mut BenchRig, from: u16, bytes: &[u8]) {
     }
 }
 
-/// Returns the die, before its first cycle.
-pub(crate) fn die(alloc: Global, rt: &impl Abort) -> Result<Replica, AllocError> {
+/// Returns the board of the die with a program, before its first cycle.
+pub(crate) fn machine(alloc: Global, rt: &impl Abort, program: &[u8]) -> Result<Replica, AllocError> {
     let board = one_key().expect(rt, "a board");
     let mut rig = BenchRig::new(alloc)?;
     assert!(rt; BenchRig::fits(&board));
     rig.wire(&board);
-    put(&mut rig, 0, &PROGRAM);
+    put(&mut rig, 0, program);
     put(&mut rig, FACES_AT, &FACES);
     Ok(Replica::of(Cpu::new(), rig))
+}
+
+/// Returns the die, before its first cycle.
+pub(crate) fn die(alloc: Global, rt: &impl Abort) -> Result<Replica, AllocError> {
+    machine(alloc, rt, &PROGRAM)
 }

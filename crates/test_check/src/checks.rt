@@ -1,15 +1,15 @@
 //! Outcomes of whole checks.
 use crate::boards::{FACES, die};
-use mcs_check::{Cell, CellList, Comparison, Never, Outcome, Part, check_all};
+use mcs_check::{Cell, CellList, Comparison, Condition, Never, Outcome, Part, check_all};
 use std::alloc::{AllocError, Global};
 use std::process::Abort;
 
 /// The states of the die: where it begins, and for each of six faces, where it was just shown and where its key was read as up. A
 /// second reading of the chips counts as many.
-const STATES: usize = 13;
+pub(crate) const STATES: usize = 13;
 
 /// Cycles without a reading that are enough for the die.
-const PAUSE: u32 = 1_000;
+pub(crate) const PAUSE: u32 = 1_000;
 
 /// The lamps: what the port latch of the RAM chip holds.
 const LAMPS: Cell = Cell {
@@ -18,34 +18,34 @@ const LAMPS: Cell = Cell {
 };
 
 /// Returns that the lamps show this, or do not.
-fn shown(n: u8, inside: bool) -> Comparison {
-    Comparison {
+fn shown(n: u8, inside: bool) -> Condition {
+    Condition::Compare(Comparison {
         cell: LAMPS,
         part: Part::Whole,
         low: n,
         high: n,
         inside,
-    }
+    })
 }
 
 /// Returns that the lamps show no face, nor are dark. That is never to be.
 pub(crate) fn no_face(alloc: Global) -> Result<Vec<Never>, AllocError> {
-    let mut comparisons = Vec::new(alloc);
-    comparisons.push(shown(0, false))?;
+    let mut conditions = Vec::new(alloc);
+    conditions.push(shown(0, false))?;
     for face in FACES {
-        comparisons.push(shown(face, false))?;
+        conditions.push(shown(face, false))?;
     }
     let mut nevers = Vec::new(alloc);
-    nevers.push(Never::of(comparisons))?;
+    nevers.push(Never::of(conditions))?;
     Ok(nevers)
 }
 
 /// Returns that the lamps show this. That is never to be.
 fn lamps_are(alloc: Global, n: u8) -> Result<Vec<Never>, AllocError> {
-    let mut comparisons = Vec::new(alloc);
-    comparisons.push(shown(n, true))?;
+    let mut conditions = Vec::new(alloc);
+    conditions.push(shown(n, true))?;
     let mut nevers = Vec::new(alloc);
-    nevers.push(Never::of(comparisons))?;
+    nevers.push(Never::of(conditions))?;
     Ok(nevers)
 }
 

@@ -7,4 +7,6 @@ mod boards;
 #[cfg(test)]
 mod checks;
 #[cfg(test)]
+mod mistakes;
+#[cfg(test)]
 mod refused;

@@ -138,12 +138,14 @@ const JUDGED = {
   },
   calls: (writer) => writer.expect(`not ${writer.counter(writer.counterNow)}`),
   returns: (writer) => writer.expect(`not ${writer.counter(writer.counterNow)}`),
+  mistake: (writer) => writer.expect(`not ${writer.counter(writer.counterNow)}`),
 };
 
 /** @type {Partial<Record<Property["form"], string>>} */
 const NOTES = {
   calls: say.FOURTH_CALL,
   returns: say.BBL_LEADS,
+  mistake: say.MADE_THERE,
   once: say.MORE_OFTEN,
 };
 

@@ -25,7 +25,7 @@ import * as say from "../../words/explore.js";
  *   see: (memory: number[], event: Event, moment: Moment) => number, mark: (memory: number[]) => string,
  *   applies: (memory: number[]) => boolean }} Property
  * @typedef {"never" | "always" | "never for" | "at" | "only after" | "every" | "after press" | "once" | "reach" | "reach at" | "model"
- *   | "code" | "calls" | "returns"} Form
+ *   | "code" | "calls" | "returns" | "mistake"} Form
  */
 
 const NOT = -1;

@@ -6,6 +6,7 @@ import { linesOfFind, testOf } from "../explore/find_test.js";
 import { Shortening } from "../explore/shortening.js";
 import { Watcher } from "../explore/watching.js";
 import { downAtFirst, isSound } from "../explore/walks.js";
+import { cyclesToMistake } from "./mistakes.js";
 import { allInputs, wayOf } from "./way.js";
 
 /**
@@ -76,12 +77,19 @@ class Replay {
    * @param {Subject} subject
    * @param {Campaign} campaign
    * @param {number} property
+   * @param {string} mistake the word of the mistake that the property excludes; "" if it is another property
    */
-  constructor(subject, campaign, property) {
+  constructor(subject, campaign, property, mistake) {
     this.subject = subject;
+    this.mistake = mistake;
     this.allowed = campaign;
     this.free = freeCampaign(campaign, property, allInputs(subject));
     this.down = downAtFirst(this.free);
+    const [{ form }] = this.free.properties;
+    /** Whether walks are not told what breaks the property. */
+    this.isUnseen = form === "mistake";
+    /** Whether what the property remembers begins at power-on. */
+    this.isCounted = form === "calls" || form === "returns";
   }
 
   /**
@@ -98,12 +106,17 @@ class Replay {
    * @returns {Find | null}
    */
   find(values) {
-    const { subject, free } = this;
+    const { subject, free, isCounted } = this;
     const { steps, time, file, rest } = wayOf(subject, free.inputs, values);
+    if (this.isUnseen) {
+      const cycles = cyclesToMistake(subject, file, this.mistake, rest);
+      return cycles < 0 ? null : { property: 0, steps, time: time + cycles };
+    }
     const watcher = new Watcher(subject, free, null);
     const waits = wholeRuns(Math.max(1, rest)).map((wait) => ({ wait, kind: /** @type {const} */ ("none"), input: -1 }));
-    const { broken } = watcher.watch(this.start(file), waits, [0]);
-    return broken && { property: 0, steps, time: time + broken.time };
+    const { broken } = isCounted ? watcher.watch(this.start(subject.file), [...steps.flatMap(cut), ...waits], [0])
+      : watcher.watch(this.start(file), waits, [0]);
+    return broken && { property: 0, steps, time: broken.time + (isCounted ? 0 : time) };
   }
 
   /**
@@ -113,7 +126,7 @@ class Replay {
    */
   async short(find, breathe) {
     const steps = spread(find.steps);
-    if (!steps) return find;
+    if (!steps || this.isUnseen) return find;
     const { subject, free } = this;
     return new Shortening(subject, free, this.start(subject.file), { ...find, steps }, PATIENCE, breathe).shorten();
   }
@@ -127,7 +140,7 @@ class Replay {
     const numbers = free.inputs.map(({ down }) => allowed.inputs.findIndex((input) => input.down === down));
     const own = steps.map((step) => ({ ...step, input: step.kind === "none" ? -1 : numbers[step.input] }));
     const rest = own.reduce((left, { wait }) => left - wait, time);
-    return time > allowed.begin && own.every(({ kind, input }) => kind === "none" || input >= 0)
+    return (time > allowed.begin || allowed.begin === 0) && own.every(({ kind, input }) => kind === "none" || input >= 0)
       && isSound(allowed, [...own, { wait: rest, kind: "none", input: -1 }]);
   }
 
@@ -164,9 +177,10 @@ class Replay {
  * @param {number} property its number
  * @param {number[]} values
  * @param {() => Promise<void>} breathe
+ * @param {string} [mistake] the word of the mistake that the property excludes
  */
-export async function counterexampleOf(subject, campaign, property, values, breathe) {
-  const replay = new Replay(subject, campaign, property);
+export async function counterexampleOf(subject, campaign, property, values, breathe, mistake = "") {
+  const replay = new Replay(subject, campaign, property, mistake);
   const find = replay.find(values);
   return find && replay.written(await replay.short(find, breathe));
 }

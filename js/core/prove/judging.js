@@ -79,11 +79,22 @@ export class Judging {
    * @returns {Promise<Verdict>}
    */
   async judge(property, nevers) {
-    const answer = await this.answerTo(property, nevers);
+    return this.verdictOf(property, await this.answerTo(property, nevers), this.campaign, "");
+  }
+
+  /**
+   * Returns what an answer says of a property.
+   * @param {Property} property
+   * @param {Answer} answer
+   * @param {Campaign} campaign that has the property
+   * @param {string} mistake the word of the mistake that the property excludes; "" if it is another property
+   * @returns {Promise<Verdict>}
+   */
+  async verdictOf(property, answer, campaign, mistake) {
     if (answer.kind === "holds") return { kind: "proved", states: answer.states };
     if (answer.kind !== "fails") return { kind: "open", words: this.calls.reason(answer.kind) };
-    const { subject, campaign, calls } = this;
-    const found = await counterexampleOf(subject, campaign, campaign.properties.indexOf(property), answer.values, calls.breathe);
+    const { subject, calls } = this;
+    const found = await counterexampleOf(subject, campaign, campaign.properties.indexOf(property), answer.values, calls.breathe, mistake);
     if (!found || !await calls.confirms(found, property.isGoal)) return { kind: "open", words: say.NOT_CONFIRMED };
     return found.isAllowed || property.isGoal ? { kind: "found", found } : { kind: "open", words: say.excluded(stepsOf(found.steps)) };
   }

@@ -64,11 +64,13 @@ export function askedOf(property, { from }, board) {
  * @param {{ board: string, program: string }} texts
  * @param {All[]} nevers
  * @param {number} most states
+ * @param {string[]} [mistakes] their words
  */
-export function questionOf({ board, program }, nevers, most) {
+export function questionOf({ board, program }, nevers, most, mistakes = []) {
   const limits = [["most", most], ["pause", PAUSE]].map((words) => words.join(" "));
   const texts = [`wire\n${sentText(board, "#")}.`, `asm\n${sentText(program, ";")}.`];
-  return `${[...limits, ...texts, ...nevers.flatMap((all) => ["never", ...all]), "prove"].join("\n")}\n`;
+  const made = mistakes.length > 0 ? [["never", ["mistake", ...mistakes].join(" ")]] : [];
+  return `${[...limits, ...texts, ...nevers.map((all) => ["never", ...all]), ...made, ["prove"]].flat().join("\n")}\n`;
 }
 
 /** @type {[RegExp, "more" | "lost" | "full"][]} */

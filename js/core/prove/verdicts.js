@@ -40,8 +40,10 @@ function linesOf(judged, at, file) {
   const lines = [`${isRight(judged) ? "" : "not "}ok ${at + 1} - ${described(property.text)} # ${remarkOf(judged)}`];
   if (verdict.kind !== "found") return lines;
   const { isTest, text, cycles, steps } = verdict.found;
-  lines.push("  ---", `  message: ${quoted(say.foundBy(stepsOf(steps), grouped(cycles), property.isGoal))}`,
-    `  at: ${quoted(`${file}:${property.line}`)}`, `  ${isTest ? "test" : "session"}: |`);
+  lines.push("  ---", `  message: ${quoted(say.foundBy(stepsOf(steps), grouped(cycles), property.isGoal))}`);
+  // What every program is asked stands in no line.
+  if (property.line > 0) lines.push(`  at: ${quoted(`${file}:${property.line}`)}`);
+  lines.push(`  ${isTest ? "test" : "session"}: |`);
   return [...lines, ...text.trimEnd().split("\n").map((line) => `    ${line}`), "  ..."];
 }
 

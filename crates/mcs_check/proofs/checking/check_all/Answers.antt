@@ -5,7 +5,7 @@ use Rattle.mcs_search.specs.Verdicts.{IsProved}
 use Rattle.mcs_check.specs.declared.cells.Cell.{Cell}
 use Rattle.mcs_check.specs.Cells.{key_of, value_at}
 use Rattle.mcs_check.specs.Conditions.{keeps_to}
-use Rattle.mcs_check.specs.declared.conditions.Comparison.{Comparison}
+use Rattle.mcs_check.specs.declared.conditions.Condition.{Condition}
 use Rattle.mcs_check.specs.Keys.{setting_of}
 use Rattle.mcs_check.specs.Searched.{rules_of}
 use Rattle.mcs_check.proofs.Beginning.{held-holds, held-key}
@@ -26,7 +26,7 @@ returns-in-Holds c =
     let rest = drop (length c.save.new.key) c.in_ok-key.key.items in
     let whole = subst (λ (n : ℕ). take n (c.save.new.key ++ rest) ≡ c.save.new.key) len (take-append_seam c.save.new.key rest) in
     let cells : key ≡ key_of layout m = c.deref-3.ensures.value ∙ (whole ∙ saved) in
-    let well : keeps_to nevers m ≡ true = ap (λ (n : List (List Comparison)). keeps_to n m) (sym c.deref-2.ensures.value) ∙ sym c.keeps_to.ensures ∙ c.if-not-keeps_to.false in
+    let well : keeps_to nevers m ≡ true = ap (λ (n : List (List Condition)). keeps_to n m) (sym c.deref-2.ensures.value) ∙ sym c.keeps_to.ensures ∙ c.if-not-keeps_to.false in
     let is = held-key layout nevers key c.args.replica m c.hold.ensures c.show_state_is_valid.ensures.registers c.show_state_is_valid.ensures.bus well cells in
     held-holds layout nevers key c.in-Holds.states c.args.replica m c.hold.ensures is
     (subst (IsProved (rules_of (setting_of m layout nevers)) key) c.in-Holds.is c.in_ok-states.ensures.proved)

@@ -6,7 +6,7 @@ use Rattle.mcs_check.proofs.conditions.are_met.Goals as goal
 pub loop-i-preserved : goal.loop-i-preserved
 loop-i-preserved c =
     let t = c.args.replica.now in
-    let cs = c.args.comparisons.now in
+    let cs = c.args.conditions.now in
     let i = c.loop-i.i in
     sym (ap (λ b. b && are_met t (drop (i + 1) cs)) (sym c.is_met.ensures ∙ c.if-not-is_met.false))
     ∙ sym (at_drop_more (are_met t) cs i _ (omega arith)) ∙ c.loop-i.invariant
@@ -14,10 +14,10 @@ loop-i-preserved c =
 pub returns-then-not-is_met : goal.returns-then-not-is_met
 returns-then-not-is_met c =
     let t = c.args.replica.now in
-    let cs = c.args.comparisons.now in
+    let cs = c.args.conditions.now in
     let i = c.loop-i.i in
     sym (ap (λ b. b && are_met t (drop (i + 1) cs)) (sym c.is_met.ensures ∙ c.if-not-is_met.true))
     ∙ sym (at_drop_more (are_met t) cs i _ (omega arith)) ∙ c.loop-i.invariant
 
 pub returns : goal.returns
-returns c = sym (at_drop_all (are_met c.args.replica.now) c.args.comparisons.now c.loop-i.i (let end = c.loop-i-test.false in omega arith)) ∙ c.loop-i.invariant
+returns c = sym (at_drop_all (are_met c.args.replica.now) c.args.conditions.now c.loop-i.i (let end = c.loop-i-test.false in omega arith)) ∙ c.loop-i.invariant

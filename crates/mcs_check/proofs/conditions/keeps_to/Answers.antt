@@ -1,6 +1,6 @@
 use Rattle.std.proofs.Common.{◌≡◌, ◌+◌, ◌∙◌, ◌&&◌, not, List, [], get_or, sym, ap, drop, arith}
 use Rattle.std.proofs.lemmas.List.{at_drop_more, at_drop_all, get_or_default}
-use Rattle.mcs_check.specs.declared.conditions.Comparison.{Comparison}
+use Rattle.mcs_check.specs.declared.conditions.Condition.{Condition}
 use Rattle.mcs_check.specs.Conditions.{are_met, keeps_to}
 use Rattle.mcs_check.proofs.conditions.keeps_to.Goals as goal
 
@@ -11,7 +11,7 @@ loop-i-preserved c =
     let i = c.loop-i.i in
     let element : c.index-nevers-i.result ≡ get_or cs i [] = c.index-nevers-i.is ∙ get_or_default cs i c.index-nevers-i.result [] c.loop-i-test.true in
     sym (ap (λ b. not b && keeps_to (drop (i + 1) cs) t) (ap (are_met t) (sym element) ∙ sym c.is_met.ensures ∙ c.if-is_met.false))
-    ∙ sym (at_drop_more (λ (xs : List (List Comparison)). keeps_to xs t) cs i [] (omega arith)) ∙ c.loop-i.invariant
+    ∙ sym (at_drop_more (λ (xs : List (List Condition)). keeps_to xs t) cs i [] (omega arith)) ∙ c.loop-i.invariant
 
 pub returns-then-is_met : goal.returns-then-is_met
 returns-then-is_met c =
@@ -20,7 +20,7 @@ returns-then-is_met c =
     let i = c.loop-i.i in
     let element : c.index-nevers-i.result ≡ get_or cs i [] = c.index-nevers-i.is ∙ get_or_default cs i c.index-nevers-i.result [] c.loop-i-test.true in
     sym (ap (λ b. not b && keeps_to (drop (i + 1) cs) t) (ap (are_met t) (sym element) ∙ sym c.is_met.ensures ∙ c.if-is_met.true))
-    ∙ sym (at_drop_more (λ (xs : List (List Comparison)). keeps_to xs t) cs i [] (omega arith)) ∙ c.loop-i.invariant
+    ∙ sym (at_drop_more (λ (xs : List (List Condition)). keeps_to xs t) cs i [] (omega arith)) ∙ c.loop-i.invariant
 
 pub returns : goal.returns
-returns c = sym (at_drop_all (λ (xs : List (List Comparison)). keeps_to xs c.args.replica.now) c.args.nevers.now c.loop-i.i (let end = c.loop-i-test.false in omega arith)) ∙ c.loop-i.invariant
+returns c = sym (at_drop_all (λ (xs : List (List Condition)). keeps_to xs c.args.replica.now) c.args.nevers.now c.loop-i.i (let end = c.loop-i-test.false in omega arith)) ∙ c.loop-i.invariant

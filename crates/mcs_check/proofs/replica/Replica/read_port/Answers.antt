@@ -1,7 +1,6 @@
 use Rattle.std.proofs.Common.{◌≡◌, ◌∙◌, ℕ, refl, sym, ap, subst, arith}
 use Rattle.mcs_model.specs.declared.regs.Regs.{Regs}
-use Rattle.mcs_model.specs.Running.{Machine}
-use Rattle.mcs_drive.specs.Driven.{cycled}
+use Rattle.mcs_drive.specs.Tracked.{Tracked, cycled}
 use Rattle.mcs_check.specs.Stations.{HasRead}
 use Rattle.mcs_check.proofs.Keeping.{cycle-keeps, keeps-same}
 use Rattle.mcs_check.proofs.ValuesRead.{port-read, with_accumulator}
@@ -10,14 +9,14 @@ use Rattle.mcs_check.proofs.replica.Replica.read_port.Goals as goal
 pub returns-clause-read : goal.returns-clause-read
 returns-clause-read c =
     let s = c.args.self.now in
-    let went : (c.self.inside.cpu, c.self.inside.rig) ≡ cycled s = c.self.view_is ∙ c.cycle.ensures in
+    let went : (c.self.inside.cpu, c.self.inside.rig, c.self.inside.calls) ≡ cycled s = c.self.view_is ∙ c.cycle.ensures in
     let value : c.low_of.result ≡ c.args.value = c.low_of.ensures ∙ (let small = c.requires.value in omega arith) in
     let set : c.set_acc.new.self ≡ record c.self.inside.cpu { acc = c.args.value } = c.set_acc.ensures ∙ ap (λ (n : ℕ). record c.self.inside.cpu { acc = n }) value in
-    subst (λ (t : Machine). HasRead c.args.value s t)
-    (sym (ap (λ (r : Regs). (r, c.self.inside.rig)) set ∙ ap (with_accumulator c.args.value) went))
+    subst (λ (t : Tracked). HasRead c.args.value s t)
+    (sym (ap (λ (r : Regs). (r, c.self.inside.rig, c.self.inside.calls)) set ∙ ap (with_accumulator c.args.value) went))
     (port-read c.args.value s c.requires.reads)
 
 pub returns-clause-keeps : goal.returns-clause-keeps
 returns-clause-keeps c =
     let s = c.args.self.now in
-    keeps-same s.1 s.1 c.self.inside.rig (cycled s).1 refl (ap (λ (m : Machine). m.1) (c.self.view_is ∙ c.cycle.ensures)) (cycle-keeps s)
+    keeps-same s.1 s.1 c.self.inside.rig (cycled s).1 refl (ap (λ (m : Tracked). m.1) (c.self.view_is ∙ c.cycle.ensures)) (cycle-keeps s)

@@ -1,8 +1,6 @@
 use Rattle.std.proofs.Common.{◌≡◌, ◌∙◌, ℕ, ap, arith}
 use Rattle.mcs_model.specs.Bus.{BusState}
-use Rattle.mcs_model.specs.Running.{Machine}
-use Rattle.mcs_drive.specs.Driven.{cycled}
-use Rattle.mcs_drive.specs.Asking.{plain}
+use Rattle.mcs_drive.specs.Tracked.{Tracked, plain, cycled}
 use Rattle.mcs_check.proofs.Keeping.{cycle-keeps}
 use Rattle.mcs_check.proofs.ValuesRead.{test-read}
 use Rattle.mcs_check.proofs.replica.Replica.read_test.Goals as goal
@@ -12,26 +10,26 @@ returns-clause-read c =
     let s = c.args.self.now in
     let value = c.args.value in
     let level : c.low_of.result ≡ value = c.low_of.ensures ∙ (let small = c.requires.value in omega arith) in
-    let set : (c.self.inside.cpu, c.set_test.new.self) ≡ (s.0, record s.1 { test = value }) =
-    ap (λ (r : BusState). (c.self.inside.cpu, r)) (c.set_test.ensures ∙ ap (λ (n : ℕ). record c.self.inside.rig { test = n }) level)
-    ∙ ap (λ (m : Machine). (m.0, record m.1 { test = value })) c.self.view_is in
-    let went : (c.self-2.inside.cpu, c.self-2.inside.rig) ≡ cycled (s.0, record s.1 { test = value }) = c.self-2.view_is ∙ c.cycle.ensures ∙ ap cycled set in
-    test-read value s (c.self-2.inside.cpu, c.set_test-2.new.self) c.show_state_is_valid.ensures.bus.board.valid c.requires.reads
-    (ap (λ (r : BusState). plain (c.self-2.inside.cpu, r)) c.set_test-2.ensures ∙ ap plain went)
+    let set : (c.self.inside.cpu, c.set_test.new.self, c.self.inside.calls) ≡ (s.0, record s.1 { test = value }, s.2) =
+    ap (λ (r : BusState). (c.self.inside.cpu, r, c.self.inside.calls)) (c.set_test.ensures ∙ ap (λ (n : ℕ). record c.self.inside.rig { test = n }) level)
+    ∙ ap (λ (m : Tracked). (m.0, record m.1 { test = value }, m.2)) c.self.view_is in
+    let went : (c.self-2.inside.cpu, c.self-2.inside.rig, c.self-2.inside.calls) ≡ cycled (s.0, record s.1 { test = value }, s.2) = c.self-2.view_is ∙ c.cycle.ensures ∙ ap cycled set in
+    test-read value s (c.self-2.inside.cpu, c.set_test-2.new.self, c.self-2.inside.calls) c.show_state_is_valid.ensures.bus.board.valid c.requires.reads
+    (ap (λ (r : BusState). plain (c.self-2.inside.cpu, r, c.self-2.inside.calls)) c.set_test-2.ensures ∙ ap plain went)
 
 pub returns-clause-keeps : goal.returns-clause-keeps
 returns-clause-keeps c =
     let s = c.args.self.now in
     let value = c.args.value in
     let level : c.low_of.result ≡ value = c.low_of.ensures ∙ (let small = c.requires.value in omega arith) in
-    let set : (c.self.inside.cpu, c.set_test.new.self) ≡ (s.0, record s.1 { test = value }) =
-    ap (λ (r : BusState). (c.self.inside.cpu, r)) (c.set_test.ensures ∙ ap (λ (n : ℕ). record c.self.inside.rig { test = n }) level)
-    ∙ ap (λ (m : Machine). (m.0, record m.1 { test = value })) c.self.view_is in
-    let went : (c.self-2.inside.cpu, c.self-2.inside.rig) ≡ cycled (s.0, record s.1 { test = value }) = c.self-2.view_is ∙ c.cycle.ensures ∙ ap cycled set in
-    let k = cycle-keeps (s.0, record s.1 { test = value }) in
+    let set : (c.self.inside.cpu, c.set_test.new.self, c.self.inside.calls) ≡ (s.0, record s.1 { test = value }, s.2) =
+    ap (λ (r : BusState). (c.self.inside.cpu, r, c.self.inside.calls)) (c.set_test.ensures ∙ ap (λ (n : ℕ). record c.self.inside.rig { test = n }) level)
+    ∙ ap (λ (m : Tracked). (m.0, record m.1 { test = value }, m.2)) c.self.view_is in
+    let went : (c.self-2.inside.cpu, c.self-2.inside.rig, c.self-2.inside.calls) ≡ cycled (s.0, record s.1 { test = value }, s.2) = c.self-2.view_is ∙ c.cycle.ensures ∙ ap cycled set in
+    let k = cycle-keeps (s.0, record s.1 { test = value }, s.2) in
     record {
-      board = ap (λ (b : BusState). b.board) c.set_test-2.ensures ∙ ap (λ (m : Machine). m.1.board) went ∙ k.board;
-      rom = ap (λ (b : BusState). b.rom) c.set_test-2.ensures ∙ ap (λ (m : Machine). m.1.rom) went ∙ k.rom;
-      keys = ap (λ (b : BusState). b.keys) c.set_test-2.ensures ∙ ap (λ (m : Machine). m.1.keys) went ∙ k.keys;
-      test = ap (λ (b : BusState). b.test) c.set_test-2.ensures ∙ c.test_level-level.ensures ∙ ap (λ (m : Machine). m.1.test) c.self.view_is;
+      board = ap (λ (b : BusState). b.board) c.set_test-2.ensures ∙ ap (λ (m : Tracked). m.1.board) went ∙ k.board;
+      rom = ap (λ (b : BusState). b.rom) c.set_test-2.ensures ∙ ap (λ (m : Tracked). m.1.rom) went ∙ k.rom;
+      keys = ap (λ (b : BusState). b.keys) c.set_test-2.ensures ∙ ap (λ (m : Tracked). m.1.keys) went ∙ k.keys;
+      test = ap (λ (b : BusState). b.test) c.set_test-2.ensures ∙ c.test_level-level.ensures ∙ ap (λ (m : Tracked). m.1.test) c.self.view_is;
     }

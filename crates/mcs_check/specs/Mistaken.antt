@@ -1,0 +1,105 @@
+-- Mistakes that no program should make: each is made in the cycle that begins an instruction.
+-- (MCS-4 Users Manual: the instruction table, the three return addresses, the ports of the 4001 and the
+-- 4002. That these are mistakes is our own choice: what each does is in Effect and Bus of mcs_model.)
+use Rattle.std.specs.Prelude.{◌+◌, ◌/◌, ◌%◌, ℕ, Bool, true, false, not, ◌&&◌, ◌||◌, ◌==◌, Some, None, is_none, nat_lt}
+use Rattle.mcs_model.specs.declared.board.BoardParts.{BoardParts}
+use Rattle.mcs_model.specs.declared.op.Op.{Op}
+use Rattle.mcs_model.specs.declared.op.Op.TheVariants.{Jcn, Fim, Fin, Jun, Jms, Isz, Bbl, Wrm, Wmp, Wrr, Wr0, Wr1, Wr2, Wr3, Sbm, Rdm, Rdr, Adm, Rd0, Rd1, Rd2, Rd3}
+use Rattle.mcs_model.specs.declared.regs.Regs.{Regs}
+use Rattle.mcs_model.specs.Boards.{input_on, masks_on}
+use Rattle.mcs_model.specs.Bus.{BusState, has_chip, src_of}
+use Rattle.mcs_model.specs.Command.{lacks_rom}
+use Rattle.mcs_model.specs.Effect.{instruction_at}
+use Rattle.mcs_model.specs.Numbers.{word_on_page}
+use Rattle.mcs_model.specs.Registers.{pair_of}
+use Rattle.mcs_drive.specs.Tracked.{Tracked}
+use Rattle.mcs_check.specs.declared.common_mistakes.Mistakes.{Mistakes}
+
+-- a fourth nested call: a JMS while three calls are open
+abbrev pub is_fourth_call : Op → ℕ → Bool
+is_fourth_call (Jms h b) calls = nat_lt 2 calls
+is_fourth_call _ calls = false
+
+-- a BBL while no call is open
+abbrev pub is_lone_return : Op → ℕ → Bool
+is_lone_return (Bbl d) calls = calls == 0
+is_lone_return _ calls = false
+
+-- an instruction that reads or writes a RAM chip: a character, a status character or the port
+abbrev pub uses_ram : Op → Bool
+uses_ram Wrm = true
+uses_ram Wmp = true
+uses_ram Wr0 = true
+uses_ram Wr1 = true
+uses_ram Wr2 = true
+uses_ram Wr3 = true
+uses_ram Sbm = true
+uses_ram Rdm = true
+uses_ram Adm = true
+uses_ram Rd0 = true
+uses_ram Rd1 = true
+uses_ram Rd2 = true
+uses_ram Rd3 = true
+uses_ram _ = false
+
+-- RAM that is absent: the board lacks the chip that the SRC byte of the designated bank selects
+abbrev pub lacks_ram : Regs → BusState → Bool
+lacks_ram s m = not (has_chip m s.dcl (src_of m s.dcl))
+
+-- the address of the last word that an instruction reads from ROM: that of its second word, or of the
+-- byte that FIN loads
+abbrev pub last_read : Op → Regs → ℕ
+last_read (Jcn c b) s = (s.pc + 1) % 4096
+last_read (Fim k b) s = (s.pc + 1) % 4096
+last_read (Fin k) s = word_on_page ((s.pc + 1) % 4096 / 256) (pair_of s 0)
+last_read (Jun h b) s = (s.pc + 1) % 4096
+last_read (Jms h b) s = (s.pc + 1) % 4096
+last_read (Isz r b) s = (s.pc + 1) % 4096
+last_read _ s = s.pc
+
+-- ROM that is absent: the board lacks the ROM of a word that the instruction reads
+abbrev pub lacks_word : Op → Regs → BoardParts → Bool
+lacks_word op s b = lacks_rom b s.pc || lacks_rom b (last_read op s)
+
+-- whether a ROM's port has an input line, and whether it has an output line; an absent ROM has neither
+abbrev pub has_input : BoardParts → ℕ → Bool
+has_input b chip = input_on b chip 0 || input_on b chip 1 || input_on b chip 2 || input_on b chip 3
+
+abbrev pub has_output : BoardParts → ℕ → Bool
+has_output b chip =
+    not (is_none (masks_on b chip))
+    && not (input_on b chip 0 && input_on b chip 1 && input_on b chip 2 && input_on b chip 3)
+
+-- an RDR, or a WRR
+abbrev pub is_rdr : Op → Bool
+is_rdr Rdr = true
+is_rdr _ = false
+
+abbrev pub is_wrr : Op → Bool
+is_wrr Wrr = true
+is_wrr _ = false
+
+-- whether an instruction makes one of these mistakes: with calls, with chips, with lines
+abbrev pub errs_in_calls : Mistakes → Op → Tracked → Bool
+errs_in_calls asked op s =
+    (asked.fourth_call && is_fourth_call op s.2) || (asked.lone_return && is_lone_return op s.2)
+
+abbrev pub errs_in_chips : Mistakes → Op → Tracked → Bool
+errs_in_chips asked op s =
+    (asked.absent_ram && uses_ram op && lacks_ram s.0 s.1)
+    || (asked.absent_rom && lacks_word op s.0 s.1.board)
+
+abbrev pub errs_in_lines : Mistakes → Op → Tracked → Bool
+errs_in_lines asked op s =
+    (asked.no_inputs && is_rdr op && not (has_input s.1.board (s.1.rom_src / 16)))
+    || (asked.no_outputs && is_wrr op && not (has_output s.1.board (s.1.rom_src / 16)))
+
+abbrev pub makes : Mistakes → Op → Tracked → Bool
+makes asked op s = errs_in_calls asked op s || errs_in_chips asked op s || errs_in_lines asked op s
+
+-- whether the next cycle makes one of these mistakes: it begins an instruction that does, or there is
+-- none to begin, since the code at the counter is outside the instruction table
+abbrev pub is_mistaken : Mistakes → Tracked → Bool
+is_mistaken asked s =
+    not (s.0.owed == 1)
+    && elim (instruction_at s.0 s.1) [ Some op ↦ makes asked op s | None ↦ asked.no_code ]

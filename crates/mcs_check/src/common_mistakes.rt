@@ -1,0 +1,204 @@
+//! Mistakes that no program should make.
+ghost use Rattle.std.specs.Prelude.{◌≡◌};
+ghost use Rattle.mcs_model.specs.Command.{lacks_rom};
+ghost use Rattle.mcs_check.specs.Mistaken.{errs_in_calls, errs_in_chips, errs_in_lines, has_input, has_output, is_fourth_call, is_lone_return, is_mistaken, is_rdr, is_wrr, lacks_ram, lacks_word, last_read, makes, uses_ram};
+
+use crate::replica::Replica;
+use mcs_model::board::Board;
+use mcs_model::op::Op;
+use mcs_model::regs::Regs;
+use mcs_nibble::{Addr, PairNo};
+
+/// Which mistakes are looked for.
+#[derive(Clone, Copy, Debug)]
+pub struct Mistakes {
+    /// A code outside the instruction table.
+    pub no_code: bool,
+    /// A fourth nested call.
+    pub fourth_call: bool,
+    /// BBL without a call.
+    pub lone_return: bool,
+    /// A RAM chip that is absent is read or written.
+    pub absent_ram: bool,
+    /// A word is read from a ROM that is absent.
+    pub absent_rom: bool,
+    /// RDR of a port without inputs.
+    pub no_inputs: bool,
+    /// WRR to a port without outputs.
+    pub no_outputs: bool,
+}
+
+impl Mistakes {
+    /// Looks for none.
+    pub const NONE: Mistakes = Mistakes {
+        no_code: false,
+        fourth_call: false,
+        lone_return: false,
+        absent_ram: false,
+        absent_rom: false,
+        no_inputs: false,
+        no_outputs: false,
+    };
+}
+
+/// Returns whether an instruction is a JMS while three calls are open.
+fn is_fourth_call(op: &Op, calls: u8) -> bool
+    ensures { result ≡ is_fourth_call op.now calls }
+{
+    match op {
+        Op::Jms(_, _) => calls > 2,
+        _ => false,
+    }
+}
+
+/// Returns whether an instruction is a BBL while no call is open.
+fn is_lone_return(op: &Op, calls: u8) -> bool
+    ensures { result ≡ is_lone_return op.now calls }
+{
+    match op {
+        Op::Bbl(_) => calls == 0,
+        _ => false,
+    }
+}
+
+/// Returns whether an instruction reads or writes a RAM chip.
+fn uses_ram(op: &Op) -> bool
+    ensures { result ≡ uses_ram op.now }
+{
+    match op {
+        Op::Wrm | Op::Wmp | Op::Wr0 | Op::Wr1 | Op::Wr2 | Op::Wr3 => true,
+        Op::Sbm | Op::Rdm | Op::Adm | Op::Rd0 | Op::Rd1 | Op::Rd2 | Op::Rd3 => true,
+        _ => false,
+    }
+}
+
+/// Returns the address of the last word that an instruction reads from ROM.
+fn last_read(op: &Op, regs: &Regs) -> Addr
+    ensures { result ≡ last_read op.now regs.now }
+{
+    let next = regs.pc.plus(1);
+    match op {
+        Op::Jcn(_, _) => next,
+        Op::Fim(_, _) => next,
+        Op::Fin(_) => Addr::on_page(next.page(), regs.pair(PairNo::ZERO)),
+        Op::Jun(_, _) => next,
+        Op::Jms(_, _) => next,
+        Op::Isz(_, _) => next,
+        _ => regs.pc,
+    }
+}
+
+/// Returns whether a board lacks the ROM of an address.
+fn lacks_rom(board: &Board, at: Addr) -> bool
+    ensures { result ≡ lacks_rom board.now at }
+{
+    board.mask(at.page().get()).is_none()
+}
+
+/// Returns whether a board lacks the ROM of a word that an instruction reads.
+fn lacks_word(op: &Op, regs: &Regs, board: &Board) -> bool
+    ensures { result ≡ lacks_word op.now regs.now board.now }
+{
+    lacks_rom(board, regs.pc) || lacks_rom(board, last_read(op, regs))
+}
+
+/// Returns whether a ROM's port has an input line.
+fn has_input(board: &Board, chip: u8) -> bool
+    ensures { result ≡ has_input board.now chip }
+{
+    board.is_input(chip, 0)
+        || board.is_input(chip, 1)
+        || board.is_input(chip, 2)
+        || board.is_input(chip, 3)
+}
+
+/// Returns whether a ROM's port has an output line.
+fn has_output(board: &Board, chip: u8) -> bool
+    ensures { result ≡ has_output board.now chip }
+{
+    !board.mask(chip).is_none()
+        && !(board.is_input(chip, 0)
+            && board.is_input(chip, 1)
+            && board.is_input(chip, 2)
+            && board.is_input(chip, 3))
+}
+
+/// Returns whether an instruction is an RDR.
+fn is_rdr(op: &Op) -> bool
+    ensures { result ≡ is_rdr op.now }
+{
+    match op {
+        Op::Rdr => true,
+        _ => false,
+    }
+}
+
+/// Returns whether an instruction is a WRR.
+fn is_wrr(op: &Op) -> bool
+    ensures { result ≡ is_wrr op.now }
+{
+    match op {
+        Op::Wrr => true,
+        _ => false,
+    }
+}
+
+impl Replica {
+    /// Returns whether the board lacks the RAM chip that is selected.
+    fn lacks_ram(&self) -> bool
+        ensures { result ≡ lacks_ram self.now.0 self.now.1 }
+    {
+        let bank = self.cpu.regs().dcl;
+        let has_chip = self.rig.ram_src(bank) / 64 < self.rig.board().bank_chips(bank);
+        !has_chip
+    }
+
+    /// Returns whether an instruction makes one of these mistakes with calls.
+    fn errs_in_calls(&self, asked: &Mistakes, op: &Op) -> bool
+        ensures { result ≡ errs_in_calls asked.now op.now self.now }
+    {
+        asked.fourth_call && is_fourth_call(op, self.calls)
+            || asked.lone_return && is_lone_return(op, self.calls)
+    }
+
+    /// Returns whether an instruction makes one of these mistakes with chips.
+    fn errs_in_chips(&self, asked: &Mistakes, op: &Op) -> bool
+        ensures { result ≡ errs_in_chips asked.now op.now self.now }
+    {
+        asked.absent_ram && uses_ram(op) && self.lacks_ram()
+            || asked.absent_rom && lacks_word(op, &self.cpu.regs(), self.rig.board())
+    }
+
+    /// Returns whether an instruction makes one of these mistakes with the lines of a port.
+    fn errs_in_lines(&self, asked: &Mistakes, op: &Op) -> bool
+        ensures { result ≡ errs_in_lines asked.now op.now self.now }
+    {
+        let board = self.rig.board();
+        let chip = self.rig.rom_src() / 16;
+        asked.no_inputs && is_rdr(op) && !has_input(board, chip)
+            || asked.no_outputs && is_wrr(op) && !has_output(board, chip)
+    }
+
+    /// Returns whether an instruction makes one of these mistakes.
+    fn makes(&self, asked: &Mistakes, op: &Op) -> bool
+        ensures { result ≡ makes asked.now op.now self.now }
+    {
+        self.errs_in_calls(asked, op)
+            || self.errs_in_chips(asked, op)
+            || self.errs_in_lines(asked, op)
+    }
+
+    /// Returns whether the next cycle makes one of these mistakes.
+    pub fn is_mistaken(&self, asked: &Mistakes) -> bool
+        ensures { result ≡ is_mistaken asked.now self.now }
+    {
+        let regs = self.cpu.regs();
+        if regs.owed == 1 {
+            return false;
+        }
+        match mcs_board::instruction(&self.cpu, &self.rig, regs.pc) {
+            Some(op) => self.makes(asked, &op),
+            None => asked.no_code,
+        }
+    }
+}
