@@ -110,6 +110,7 @@ function controller(answers, programText, found) {
     },
   });
   const made = new TextsController(editor("# b"), editor(programText), editor(""), editor(""), ask, notice, {
+    edited: () => {},
     session: () => shown.session, touch: () => {}, keep: async () => "", named: () => {}, source: async () => found,
     failed: (fault) => { throw fault; },
     isNoProgram: async (text) => text.includes("prose"), took: () => {},
