@@ -163,7 +163,7 @@ START, NOP
        DB
 source
 sed '12s/START, //' "$folder/bad.src" > "$folder/bad2.src"
-refuses 1 "import: $folder/bad.src:12: the name START is defined by line 11, too" ./mcs4 import "$folder/bad.src"
+refuses 1 "import: $folder/bad.src:12: the name START is also defined in line 11" ./mcs4 import "$folder/bad.src"
 refuses 1 "import: $folder/bad2.src:1: \`JMP\` is neither an instruction nor a directive that is supported
 import: $folder/bad2.src:2: the value of \`Y\` depends on itself
 import: $folder/bad2.src:3: the value of \`X\` depends on itself
@@ -204,7 +204,7 @@ verdict "$(cat "$folder/told")" "import: $folder/long.src:1: the line has more t
 status 1
         LDM 1           ; +1+1
 status 0
-import: $folder/deep.src:1: more than 50 brackets or signs, one in another
+import: $folder/deep.src:1: more than 50 brackets or signs inside each other
 status 1
         LDM 1
 status 0
