@@ -2,7 +2,7 @@
 // EXTENSION the unpacked one, FOLDER for a workspace. It goes the editor's own way, with a stand-in for its module: activate, open a text,
 // errors come, a test runs and is debugged, the front panel opens and prints, a task runs. `ok WORDS` or `fault: WORDS` for each thing.
 import { spawnSync } from "node:child_process";
-import { copyFileSync, existsSync, mkdirSync, readFileSync, writeFileSync } from "node:fs";
+import { copyFileSync, cpSync, existsSync, mkdirSync, readFileSync, writeFileSync } from "node:fs";
 import Module, { createRequire } from "node:module";
 import { join } from "node:path";
 import { Client } from "./dap_client.mjs";
@@ -191,8 +191,9 @@ async function tryTasks({ registered }, { contributes }) {
   const found = matchesOf(run(tasks[0]).stderr, contributes.problemMatchers);
   const line = readFileSync(join(folder, "lock", "wrong.asm"), "utf8").split("\n").findIndex((each) => each.includes("JMP enter")) + 1;
   verdict(found.map(([file, at]) => [file, Number(at)]), [[join(folder, "lock", "wrong.asm"), line]], "an error of a task, and where");
-  const proof = run(tasks[4]);
-  verdict([proof.status, proof.stderr.includes("shipped/mcs4-prove, is not started: this copy of the bench has no native program")], [1, true], `a proof needs its program: ${proof.stderr.trim()}`);
+  cpSync(new URL("../../examples/pictures", import.meta.url), join(folder, "pictures"), { recursive: true });
+  const proof = run(registered["tasks mcs4"].resolveTask({ definition: { type: "mcs4", command: "prove", folder: join(folder, "pictures") } }));
+  verdict([proof.status, /^ok 1 - never .* # proved for all inputs \(9 states\)$/m.test(proof.stdout)], [3, true], `a proof by the module: ${proof.stderr.trim()}`);
   const made = registered["tasks mcs4"].resolveTask({ definition: { type: "mcs4", command: "cover", folder: join(folder, "printer") } });
   verdict(made.given[2], "cover printer", "a task of tasks.json");
 }

@@ -10,7 +10,7 @@ import { NativeEngine } from "./native_engine.mjs";
 import { CommandError } from "./output.mjs";
 import { TOP } from "./top.mjs";
 import {
-  NO_PROGRAM_IN_COPY, inUse, needsProgram, noNamedProver, noProver, noProverHere, notForSystem, otherProgram, runsOnModule, sessionRefused,
+  NO_PROGRAM_IN_COPY, inUse, needsProgram, noNamedProver, noProver, notForSystem, otherProgram, runsOnModule, sessionRefused,
 } from "../words/commands.js";
 
 /**
@@ -61,14 +61,16 @@ export function programPath() {
   return program;
 }
 
-
-/** Returns the program that searches for `mcs4 prove`: MCS4_PROVE names it, or it was built here, or it is the shipped one. */
+/**
+ * Returns the program that searches for `mcs4 prove`: MCS4_PROVE names it, or it was built here, or it is the shipped one; "" where none is
+ * for this system.
+ */
 export function proverPath() {
   const { MCS4_PROVE: named } = process.env;
   if (named && !existsSync(named)) throw new CommandError(noNamedProver(named));
   if (named) return named;
   const { program, fault, isForOthers } = ask(FIND_PROVER) || noneHere();
-  if (program === "") throw new CommandError(isForOthers ? noProverHere(fault) : noProver(fault));
+  if (program === "" && !isForOthers) throw new CommandError(noProver(fault));
   return program;
 }
 

@@ -1,4 +1,5 @@
-// The search of `mcs4 prove`: questions to the program mcs4-prove, and counterexamples on the bench, which `mcs4 test` has to confirm.
+// The search of `mcs4 prove`: questions to the program mcs4-prove, or to the proved module where no such program is for this system; and
+// counterexamples on the bench, which `mcs4 test` has to confirm.
 import { writeFileSync } from "node:fs";
 import { join } from "node:path";
 import { Judging } from "../core/prove/judging.js";
@@ -12,7 +13,7 @@ import * as say from "../words/prove.js";
 import { interrupt, runCommand } from "./children.mjs";
 import { breathe, errorOfTexts, proverPath, startEngine } from "./native_program.mjs";
 import { CommandError } from "./output.mjs";
-import { temporaryFolder } from "./temporary.mjs";
+import { removeFolder, temporaryFolder } from "./temporary.mjs";
 
 /**
  * @typedef {import("./given_texts.mjs").GivenText} GivenText
@@ -29,6 +30,8 @@ class Proving {
     this.most = most;
     this.reasons = { more: say.moreStates(grouped(most)), lost: say.GAVE_UP, full: say.NO_MEMORY };
     this.program = proverPath();
+    /** @type {((question: string) => string) | null} */
+    this.module = null;
     // Before the engine's own end on this signal: the search has a group of its own, which Ctrl-C does not reach.
     process.on("SIGINT", interrupt);
   }
@@ -36,6 +39,7 @@ class Proving {
   /** Reads the texts; returns the judgement of their properties. */
   async begin() {
     const engine = await startEngine();
+    if (this.program === "") this.module = (await import("./module_prover.mjs")).moduleProver();
     const { board, program, properties } = this.texts;
     const { prepared, faults: wrong } = prepare(engine, { boardText: board.text, programText: program.text });
     if (!prepared) throw await errorOfTexts(engine, { board, program }, wrong);
@@ -51,6 +55,14 @@ class Proving {
   }
 
   /**
+   * Returns what the prover prints for a question, and what it reports of itself.
+   * @param {string} question
+   */
+  async search(question) {
+    return this.module ? { stdout: this.module(question), stderr: "", signal: null } : runCommand(this.program, [], question);
+  }
+
+  /**
    * Asks the prover; returns its answer.
    * @param {import("../core/prove/cells.js").All[]} nevers
    * @param {string[]} mistakes their words
@@ -58,7 +70,7 @@ class Proving {
   async ask(nevers, mistakes) {
     const { board, program } = this.texts;
     const question = questionOf({ board: board.text, program: program.text }, nevers, this.most, mistakes);
-    const { stdout, stderr, signal } = await runCommand(this.program, [], question);
+    const { stdout, stderr, signal } = await this.search(question);
     const answer = readAnswer(stdout);
     if (!answer) throw new CommandError(say.proverEnded([stdout.trim(), stderr.trim(), signal].filter(Boolean).join("; ")));
     return answer;
@@ -74,8 +86,12 @@ class Proving {
     const folder = temporaryFolder("prove");
     const names = ["board_text", "program_text", "found.test"].map((name) => join(folder, name));
     [this.texts.board.text, this.texts.program.text, text].forEach((each, at) => writeFileSync(names[at], each));
-    const { status } = await runCommand(process.execPath, [process.argv[1], "test", ...names]);
-    return status === (isGoal ? 0 : 1);
+    try {
+      const { status } = await runCommand(process.execPath, [process.argv[1], "test", ...names]);
+      return status === (isGoal ? 0 : 1);
+    } finally {
+      removeFolder(folder);
+    }
   }
 
   /**

@@ -655,9 +655,6 @@ export const noNamedProver = (name) => `MCS4_PROVE names ${name}, which is not t
 /** @type {(fault: string) => string} */
 export const noProver = (fault) => (
   `the program that searches, shipped/mcs4-prove, is not started: ${fault}; tools/build mcs4_prove proves and builds it`);
-/** @type {(fault: string) => string} */
-export const noProverHere = (fault) => (
-  `the program that searches, shipped/mcs4-prove, is not started: ${fault}. mcs4 explore tries keys here, but proves nothing`);
 export const NO_PROGRAM_IN_COPY = "this copy of the bench has no native program";
 /** @type {(platform: string, machine: string) => string} */
 export const notForSystem = (platform, machine) => `it is for Linux on x86-64, and this is ${platform} on ${machine}`;

@@ -101,6 +101,13 @@ done
 verdict_of_files "$folder/elsewhere.state" "$folder/mcs4.state" "the session of a project that the module has put together"
 verdict "$(diff -r "$folder/elsewhere.split" "$folder/mcs4.split")" "" "the texts of a project that the module has put together"
 
+# --- proofs, of which some are cut off
+
+for example in pictures three_lamps lock; do same_on_module /dev/null prove -C examples/$example --most 3000; done
+printf 'press A\nnever lamp open on\nreach lamp open on\n' > "$folder/opens.props"
+sed 's/^press A$/press 4\npress 7\npress 1\npress #/' "$folder/opens.props" > "$folder/found.props"
+same_on_module /dev/null prove $lock/board.toml $lock/lock.asm "$folder/found.props" --most 100000
+
 # --- what cannot be there
 
 keeps="only the native program keeps a session file, and it is not started: $why. Commands that keep none run here"
@@ -116,10 +123,3 @@ for words in "back $folder/session.mcs 1" "resume $calculator/quotient.txt $fold
 done
 verdict_of_files "$folder/session.mcs" "$folder/before.mcs" "a session that no command keeps there"
 verdict "$(ls "$folder/new.mcs" 2> /dev/null || echo none)" none "no session file is made there"
-refuses 1 "prove: the program that searches, shipped/mcs4-prove, is not started: $why. mcs4 explore tries keys here, but proves nothing" \
-    elsewhere prove -C $lock
-verdict "$(outcome elsewhere version)" "mcs4: the program in shipped/ is not started: $why
-program: none here; commands that keep no session file run on the proved module
-manual: $other/tree/docs/MANUAL.md
-page: $other/tree/page/fethsaim.html
-status 0" "mcs4 version there"

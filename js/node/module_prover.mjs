@@ -1,0 +1,22 @@
+// The search of `mcs4 prove` by the proved module, where no program that searches is for this system.
+import { startModule } from "./module_engine.mjs";
+
+const SIGNALS = /** @type {const} */ (["SIGHUP", "SIGINT", "SIGTERM"]);
+
+/**
+ * Returns a call that answers questions to the prover. A search is one call of the module, in which no handler of a signal can run, so a
+ * signal ends the process at once meanwhile.
+ * @returns {(question: string) => string}
+ */
+export function moduleProver() {
+  const engine = startModule("");
+  return (question) => {
+    const handlers = SIGNALS.flatMap((signal) => process.listeners(signal).map((handler) => ({ signal, handler })));
+    for (const { signal, handler } of handlers) process.off(signal, handler);
+    try {
+      return engine.prove(question);
+    } finally {
+      for (const { signal, handler } of handlers) process.on(signal, handler);
+    }
+  };
+}
