@@ -32,13 +32,7 @@ fn calls_after_op(op: &Op, calls: u8) -> u8
     ensures { result ≡ calls_after (Some op.now) calls }
 {
     match op {
-        Op::Jms(_, _) => {
-            if calls < 3 {
-                calls + 1
-            } else {
-                calls
-            }
-        }
+        Op::Jms(_, _) => { if calls < 3 { calls + 1 } else { calls } }
         Op::Bbl(_) => calls.saturating_sub(1),
         _ => calls,
     }

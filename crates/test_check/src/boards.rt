@@ -50,7 +50,11 @@ fn put(rig: &mut BenchRig, from: u16, bytes: &[u8]) {
 }
 
 /// Returns the board of the die with a program, before its first cycle.
-pub(crate) fn machine(alloc: Global, rt: &impl Abort, program: &[u8]) -> Result<Replica, AllocError> {
+pub(crate) fn machine(
+    alloc: Global,
+    rt: &impl Abort,
+    program: &[u8],
+) -> Result<Replica, AllocError> {
     let board = one_key().expect(rt, "a board");
     let mut rig = BenchRig::new(alloc)?;
     assert!(rt; BenchRig::fits(&board));
