@@ -5,10 +5,10 @@
 
 other=$folder/other
 mkdir -p "$other/tree/tools" "$other/tree/page" "$other/tree/shipped" "$other/bin"
-cp -R mcs4 js examples "$other/tree"
-cp -R tools/lib "$other/tree/tools"
+cp -RL mcs4 js examples "$other/tree"
+cp -RL tools/lib "$other/tree/tools"
 cp page/fethsaim.html "$other/tree/page"
-cp -R shipped/commands "$other/tree/shipped"
+cp -RL shipped/commands "$other/tree/shipped"
 printf '#!/bin/sh\ncase ${1-} in -s) echo Darwin ;; *) echo arm64 ;; esac\n' > "$other/bin/uname"
 chmod +x "$other/bin/uname"
 mkdir -m 700 "$other/cache"
@@ -16,7 +16,7 @@ why="it is for Linux on x86-64, and this is Darwin on arm64"
 
 # A command on the other machine: its words behind `mcs4`.
 elsewhere() {
-    env -u MCS4 PATH="$other/bin:$PATH" XDG_CACHE_HOME="$other/cache" "$other/tree/mcs4" "$@"
+    env -u MCS4 -u MCS4_PROVE PATH="$other/bin:$PATH" XDG_CACHE_HOME="$other/cache" "$other/tree/mcs4" "$@"
 }
 
 # Compares output, errors and status of a command on both, which run at a time; standard input is a file.
