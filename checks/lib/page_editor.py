@@ -135,7 +135,7 @@ def check_names(browser):
     comes(browser, "F12 leads to where a name is defined", caret, [0, 4, "loop"])
     browser.chord(SHIFT, F12)
     comes(browser, "its places are listed", "return [...document.querySelectorAll('#program-editor .places li')].map((each) => each.textContent).join('|')",
-          "loop stands at 3 places Close|line 1, where it is defined loop:\tNOP ; loop|line 2 FIM P0, loop|line 3 JUN loop")
+          "loop is at 3 places Close|line 1, where it is defined loop:\tNOP ; loop|line 2 FIM P0, loop|line 3 JUN loop")
     browser.click(f"{PROGRAM} .places li:nth-child(3) button")
     comes(browser, "one of them is shown", caret, [1, 13, "loop"])
     browser.keys([F2], 5, 5)

@@ -47,13 +47,13 @@ def prove_to_end(browser, what, states=1000000):
 
 
 def proved_by_tool(browser, folder, mcs4):
-    """What mcs4 prove says of the texts of the page."""
+    """What mcs4 prove says of the texts of the page, without the mistakes that it looks for unasked."""
     names = [("board", "board.toml"), ("program", "program.asm"), ("properties", "some.props")]
     for name, file in names:
         (folder / file).write_text(text_of(browser, name))
     asked = ["./mcs4", "prove", *(folder / file for _, file in names)]
     ran = subprocess.run(asked, cwd=TOP, env=dict(os.environ, MCS4=str(mcs4)), stdout=subprocess.PIPE, text=True, check=False)
-    return re.findall(r"^ok \d - (.*) # proved for all inputs \((.*)\)$", ran.stdout, re.M)
+    return re.findall(r"^ok \d+ - (?!no )(.*) # proved for all inputs \((.*)\)$", ran.stdout, re.M)
 
 
 def check_example(browser, folder, mcs4):
