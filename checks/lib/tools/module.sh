@@ -9,6 +9,8 @@ cp -RL mcs4 js examples "$other/tree"
 cp -RL tools/lib "$other/tree/tools"
 cp page/fethsaim.html "$other/tree/page"
 cp -RL shipped/commands "$other/tree/shipped"
+# What is installed is not writable, and neither are its copies.
+chmod -R u+w "$other/tree"
 printf '#!/bin/sh\ncase ${1-} in -s) echo Darwin ;; *) echo arm64 ;; esac\n' > "$other/bin/uname"
 chmod +x "$other/bin/uname"
 mkdir -m 700 "$other/cache"
