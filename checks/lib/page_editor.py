@@ -330,7 +330,7 @@ def check_board(browser):
         browser.keys([ENTER])
     comes(browser, "and a board of such parts has no fault", FAULTS.format(BOARD), "")
     put(browser, BOARD, "[[rom]]\nchip = 0\nport = 0000\n")
-    comes(browser, "what is no TOML", FAULTS.format(BOARD), 'line 3: a number does not begin with 0; a text is in quotes: "0000"')
+    comes(browser, "what is no TOML", FAULTS.format(BOARD), 'line 3: a number has no leading zero; a text is in quotes: "0000"')
     show_text(browser, "program")
 
 

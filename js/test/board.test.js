@@ -72,7 +72,7 @@ test("what is not TOML", () => {
   assert.deepEqual(told("[[rom\n"), ["1: 20 ] is missing: [[rom]]"]);
   assert.deepEqual(told('[[rom]]\nchip 0\nport = "0000\n'),
     ["2: 20 = is missing after chip", '3: 20 the closing " of the text is missing']);
-  assert.deepEqual(told("port = 0000\n"), ['1: 20 a number does not begin with 0; a text is in quotes: "0000"']);
+  assert.deepEqual(told("port = 0000\n"), ['1: 20 a number has no leading zero; a text is in quotes: "0000"']);
   assert.deepEqual(told("[[rom]]\nport = iiii\n"), ['2: 20 iiii is a text: write it in quotes: "iiii"']);
   assert.deepEqual(told('[[rom]]\nchip = 0\nchip = 1\nport = "0000"\n'), ["3: 20 chip is there already, in line 2"]);
 });

@@ -10,7 +10,7 @@ export const noBreakpoint = (word) => `there is no breakpoint ${word}; info brea
 export const isWatched = (place) => `${place} is watched.`;
 /** @type {(watched: string) => string} */
 export const oneIsWatched = (watched) => (
-  `${watched} is watched, and only one place that is not a RAM character can be: delete ${watched} comes first`);
+  `${watched} is watched, and only one place that is not a RAM character can be: delete ${watched} first`);
 /** @type {(place: string) => string} */
 export const watchedByContinue = (place) => `${place} is watched by continue.`;
 /** @type {(place: string) => string} */

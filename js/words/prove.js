@@ -32,7 +32,7 @@ export const NOT_CONFIRMED = "the bench does not confirm the counterexample that
 /** @type {(states: string) => string} */
 export const moreThan = (states) => `more than ${states} states; a larger number beside Prove allows more`;
 /** @type {(states: string) => string} */
-export const fullAfter = (states) => `there is no memory for so many states (more than ${states}); mcs4 prove, in a terminal, has more`;
+export const fullAfter = (states) => `there is no memory for more than ${states} states; mcs4 prove, in a terminal, has more`;
 
 // --- prove/verdicts.js ---
 /** @type {(words: string) => string} */

@@ -59,7 +59,7 @@ export const valueMissing = (key) => `the value of ${key} is missing`;
 /** @type {(text: string) => string} */
 export const noValue = (text) => `a value is needed here, not ${text}`;
 /** @type {(text: string) => string} */
-export const numberForm = (text) => `a number does not begin with 0; a text is in quotes: "${text}"`;
+export const numberForm = (text) => `a number has no leading zero; a text is in quotes: "${text}"`;
 /** @type {(text: string) => string} */
 export const textForm = (text) => `${text} is a text: write it in quotes: "${text}"`;
 /** @type {(most: number) => string} */
